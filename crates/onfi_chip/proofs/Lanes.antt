@@ -19,7 +19,7 @@ use Rattle.onfi_request.specs.declared.fault.Fault.{Fault}
 use Rattle.onfi_request.specs.declared.request.Request.{Request}
 use Rattle.onfi_request.specs.Range.{IsLengthFor}
 use Rattle.onfi_die.specs.declared.prepared.Prepared.{Prepared}
-use Rattle.onfi_die.specs.declared.prepared.Prepared.TheVariants.{Read, Program, Erase}
+use Rattle.onfi_die.specs.declared.prepared.Prepared.TheVariants.{Read, ReadSectors, Program, Erase}
 use Rattle.onfi_die.specs.declared.shape.Shape.{Shape}
 use Rattle.onfi_die.specs.Shapes.{Device, device_of, shape_of}
 use Rattle.onfi_die.specs.Blocks.{Blocks, fresh_blocks, happen}
@@ -213,6 +213,9 @@ pub same_request :
     (g : Geometry) (k : Kind) (p : Place) (bytes : List ℕ) (o : Prepared) → IsLengthFor g k (length bytes) → kind_of o ≡ k → (k ≡ kind.Program → data_of o ≡ bytes) →
     request_of p o ≡ record { kind = k; place = p; bytes = bytes }
 same_request g k p bytes (Read room) f e h =
+    let f' : length bytes ≡ 0 = subst (λ q. IsLengthFor g q (length bytes)) (sym e) f in
+    ap (λ q. record { kind = q; place = p; bytes = [] }) e ∙ ap (λ bs. record { kind = k; place = p; bytes = bs }) (no_bytes bytes f')
+same_request g k p bytes (ReadSectors first count room) f e h =
     let f' : length bytes ≡ 0 = subst (λ q. IsLengthFor g q (length bytes)) (sym e) f in
     ap (λ q. record { kind = q; place = p; bytes = [] }) e ∙ ap (λ bs. record { kind = k; place = p; bytes = bs }) (no_bytes bytes f')
 same_request g k p bytes (Program content) f e h =

@@ -7,7 +7,8 @@ use Rattle.onfi_addr.specs.declared.place.Place.{Place}
 use Rattle.onfi_addr.specs.Rows.{IsInRange}
 use Rattle.onfi_timing.specs.declared.kind.Kind.{Kind}
 use Rattle.onfi_timing.specs.declared.kind.Kind.TheVariants as kind
-use Rattle.onfi_timing.specs.Kinds.{spans_of}
+use Rattle.onfi_timing.specs.declared.operation.Operation.TheVariants as operation
+use Rattle.onfi_timing.specs.Kinds.{operation_of, spans_of}
 use Rattle.onfi_request.specs.declared.answer.Answer.{Answer}
 use Rattle.onfi_request.specs.declared.answer.Answer.TheVariants.{Read, Done, Failed}
 use Rattle.onfi_request.specs.declared.request.Request.{Request}
@@ -33,6 +34,7 @@ if_err (Err x) e p = p
 
 page_in : (g : Geometry) (k : Kind) (page : ℕ) → IsPageFor g k page → page < g.pages_per_block
 page_in g kind.Read page h = h
+page_in g (kind.ReadSectors first count) page h = h
 page_in g kind.Program page h = h
 page_in g kind.Erase page h = let some = g.some_page in omega (arith, h, some)
 
@@ -78,16 +80,20 @@ post_done old new now post left place p e n =
     (e ∙ ap (λ (q : Place). record (chip_of old.dies) { luns = slice_set old.dies.luns q.lun (after_post left (now + (spans_of old.dies.timing post.kind).post)) }) p)
     refl n
 
-pub is_read : (bytes : ℕ) (k : Kind) (answer : Answer) → k ≡ kind.Read → IsAnswerTo bytes k answer → ((content : List ℕ) → answer ≡ Read content → ⊥) → ⊥
-is_read bytes k answer e h n = read_only answer (subst (λ (q : Kind). IsAnswerTo bytes q answer) e h) n
-  where
-    read_only : (a : Answer) → IsAnswerTo bytes kind.Read a → ((content : List ℕ) → a ≡ Read content → ⊥) → ⊥
-    read_only (Read content) h n = n content refl
-    read_only Done h n = h
-    read_only Failed h n = h
+pub is_read : (bytes : ℕ) (k : Kind) (answer : Answer) → operation_of k ≡ operation.Read → IsAnswerTo bytes k answer → ((content : List ℕ) → answer ≡ Read content → ⊥) → ⊥
+is_read bytes k (Read content) e h n = n content refl
+is_read bytes kind.Read Done e h n = h
+is_read bytes kind.Read Failed e h n = h
+is_read bytes (kind.ReadSectors first count) Done e h n = h
+is_read bytes (kind.ReadSectors first count) Failed e h n = h
+is_read bytes kind.Program Done e h n = absurd cc
+is_read bytes kind.Program Failed e h n = absurd cc
+is_read bytes kind.Erase Done e h n = absurd cc
+is_read bytes kind.Erase Failed e h n = absurd cc
 
-pub is_status : (bytes : ℕ) (k : Kind) (answer : Answer) → k ≢ kind.Read → IsAnswerTo bytes k answer → IsStatus answer
+pub is_status : (bytes : ℕ) (k : Kind) (answer : Answer) → operation_of k ≢ operation.Read → IsAnswerTo bytes k answer → IsStatus answer
 is_status bytes kind.Read answer n h = absurd (n refl)
+is_status bytes (kind.ReadSectors first count) answer n h = absurd (n refl)
 is_status bytes kind.Program (Read content) n h = h
 is_status bytes kind.Program Done n h = tt
 is_status bytes kind.Program Failed n h = tt

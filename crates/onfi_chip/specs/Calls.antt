@@ -3,6 +3,7 @@ use Rattle.std.specs.Prelude.{◌≡◌, ℕ, ◌<◌, ◌≤◌, List, ◌∷�
 use Rattle.onfi_addr.specs.declared.geometry.Geometry.{Geometry}
 use Rattle.onfi_addr.specs.Rows.{IsInRange, row_of, plane_of_block}
 use Rattle.onfi_timing.specs.declared.kind.Kind.{Kind}
+use Rattle.onfi_timing.specs.Kinds.{operation_of}
 use Rattle.onfi_request.specs.declared.answer.Answer.{Answer}
 use Rattle.onfi_request.specs.declared.answer.Answer.TheVariants.{Read, Done, Failed}
 use Rattle.onfi_request.specs.declared.request.Request.{Request}
@@ -24,10 +25,10 @@ pub record IsCarried (geometry : Geometry) (row : ℕ) (kind : Kind) (bytes : Li
   pub bytes_are : r.bytes ≡ bytes
   pub fits : Fits geometry r
 
--- the request may join a group after these: one kind, one page, and a plane above theirs
+-- the request may join a group after these: one operation, one page, and a plane above theirs
 abbrev pub MayJoin : Geometry → Request → Request → Type 0
 MayJoin geometry r earlier =
-    (earlier.kind ≡ r.kind) × (earlier.place.page ≡ r.place.page) × (plane_of_block geometry earlier.place.block < plane_of_block geometry r.place.block)
+    (operation_of earlier.kind ≡ operation_of r.kind) × (earlier.place.page ≡ r.place.page) × (plane_of_block geometry earlier.place.block < plane_of_block geometry r.place.block)
 
 -- the LUN may take the request at this moment: it is idle, or the wait between the commands of its group is over
 abbrev pub MayTake : Geometry → ℕ → Request → Option Lun → Type 0

@@ -2,7 +2,8 @@
 use Rattle.std.specs.Prelude.{◌≡◌, ℕ, List, length}
 use Rattle.onfi_addr.specs.declared.geometry.Geometry.{Geometry}
 use Rattle.onfi_addr.specs.Rows.{row_of, page_bytes_of}
-use Rattle.onfi_timing.specs.declared.kind.Kind.TheVariants.{Read}
+use Rattle.onfi_timing.specs.declared.operation.Operation.TheVariants.{Read}
+use Rattle.onfi_timing.specs.Kinds.{operation_of}
 use Rattle.onfi_chip.specs.declared.fetch.Fetch.{Fetch}
 use Rattle.onfi_chip.specs.declared.post.Post.{Post}
 use Rattle.onfi_chip.specs.Chip.{Chip}
@@ -10,7 +11,7 @@ use Rattle.onfi_chip.specs.Calls.{IsNextPost}
 
 -- a read has room for all bytes of a page
 abbrev pub HasRoom : Geometry → Fetch → Type 0
-HasRoom geometry fetch = fetch.kind ≡ Read → length fetch.room.items ≡ page_bytes_of geometry
+HasRoom geometry fetch = operation_of fetch.kind ≡ Read → length fetch.room.items ≡ page_bytes_of geometry
 
 -- the post is the next call of the chip's group, and of that kind
 pub record IsNextFetch (geometry : Geometry) (chip : Chip) (now : ℕ) (fetch : Fetch) (post : Post) (left : List Post) : Type 0 where

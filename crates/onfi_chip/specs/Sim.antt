@@ -3,7 +3,8 @@ use Rattle.std.specs.Prelude.{◌≡◌, ◌≢◌, ℕ, ◌+◌, ◌<◌, nat_l
 use Rattle.std.specs.List.{AllByRecursion as Each}
 use Rattle.onfi_addr.specs.declared.geometry.Geometry.{Geometry}
 use Rattle.onfi_timing.specs.declared.timing.Timing.{Timing}
-use Rattle.onfi_timing.specs.declared.kind.Kind.TheVariants.{Read}
+use Rattle.onfi_timing.specs.declared.operation.Operation.TheVariants.{Read}
+use Rattle.onfi_timing.specs.Kinds.{operation_of}
 use Rattle.onfi_request.specs.declared.request.Request.{Request}
 use Rattle.onfi_die.specs.Shapes.{shape_of}
 use Rattle.onfi_die.specs.Prepared.{kind_of, HasRoom, IsAnswerTo}
@@ -76,7 +77,7 @@ added Last chip r ready = happened chip r ready
 
 -- the member's operation can be done without memory
 pub record IsReady (store : Stored) (member : Member) : Type 0 where
-  pub kept : kind_of member.operation ≢ Read → IsKept member.place.lun member.place.block store
+  pub kept : operation_of (kind_of member.operation) ≢ Read → IsKept member.place.lun member.place.block store
   pub page : member.place.page < store.device.shape.pages
   pub room : HasRoom store.device.shape.bytes member.operation
 

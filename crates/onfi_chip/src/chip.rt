@@ -1,6 +1,7 @@
 ghost use Rattle.std.specs.Prelude.{◌≡◌, ◌≢◌, List, length, false, IsBitSet, IsTrue, OnOk, IfOk, IfErr};
 ghost use Rattle.onfi_addr.specs.Rows.{page_bytes_of};
-ghost use Rattle.onfi_timing.specs.declared.kind.Kind.TheVariants as kind;
+ghost use Rattle.onfi_timing.specs.declared.operation.Operation.TheVariants as operation;
+ghost use Rattle.onfi_timing.specs.Kinds.{operation_of};
 ghost use Rattle.onfi_request.specs.declared.answer.Answer.TheVariants as answer;
 ghost use Rattle.onfi_request.specs.declared.request.Request.{Request as ARequest};
 ghost use Rattle.onfi_chip.specs.declared.fault.PostFault.TheVariants.{Bus, NotReady};
@@ -19,8 +20,8 @@ use std::alloc::Global;
 /// Each call asks that it is the next of its LUN's group and that the wait before it is over. A group's requests happen at
 /// its last command; its posts, one for each member, give their answers.
 ///
-/// Any kind may form a group here, whatever the device's page says of grouped reads, programs and erases. A driver for a
-/// device that forbids groups of a kind gives each member of that kind the closer `Last`, so that its groups have one
+/// Any operation may form a group here, whatever the device's page says of grouped reads, programs and erases. A driver for a
+/// device that forbids groups of an operation gives each member of it the closer `Last`, so that its groups have one
 /// member; it gets so where the rules of its problems allow no such group, as they do when they come from the page.
 pub trait Chip {
     /// Its geometry, timing and injected faults, its blocks and LUNs, how often a call's bus failed, and how often a status
@@ -52,7 +53,7 @@ pub trait Chip {
     /// # Errors
     /// `Bus`, only where the chip's count of failed buses rose.
     fn data_out(&mut self, now: u64, row: u64, out: &mut [u8]) -> Result<(), ChipFault>
-        requires next { (post : APost) × (left : List APost) × IsNextPost (state self.old) now row post left × (post.kind ≡ kind.Read) }
+        requires next { (post : APost) × (left : List APost) × IsNextPost (state self.old) now row post left × (operation_of post.kind ≡ operation.Read) }
         requires room { length out.old ≡ page_bytes_of (state self.old).geometry }
         ensures ok { OnOk result ((post : APost) (left : List APost) → IsNextPost (state self.old) now row post left
             → (post.answer ≡ answer.Read out.new) × HasDone (posted (state self.old) post left now) (state self.new)) }
@@ -65,7 +66,7 @@ pub trait Chip {
     /// `Bus`, only where the chip's count of failed buses rose. A byte whose RDY is 0 comes only where its count of statuses
     /// not ready rose.
     fn status(&mut self, now: u64, row: u64) -> Result<u8, ChipFault>
-        requires { (post : APost) × (left : List APost) × IsNextPost (state self.old) now row post left × (post.kind ≢ kind.Read) }
+        requires { (post : APost) × (left : List APost) × IsNextPost (state self.old) now row post left × (operation_of post.kind ≢ operation.Read) }
         ensures ready { IfOk result (λ byte. IsBitSet byte 6 → (post : APost) (left : List APost) → IsNextPost (state self.old) now row post left
             → TellsAnswer byte post.answer × HasDone (posted (state self.old) post left now) (state self.new)) }
         ensures not_ready { IfOk result (λ byte. ¬ IsBitSet byte 6 → IsLost NotReady (state self.old) (state self.new)) }

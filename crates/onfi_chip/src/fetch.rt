@@ -2,7 +2,7 @@ ghost use Rattle.std.specs.Prelude.{◌≡◌, IfOk};
 ghost use Rattle.onfi_chip.specs.Fetching.{HasRoom};
 
 use onfi_addr::{Geometry, Place};
-use onfi_timing::Kind;
+use onfi_timing::{Kind, Operation};
 use std::alloc::{AllocError, Global};
 
 /// What the post of a member fetches, with room for it: to read the post takes no memory.
@@ -28,9 +28,9 @@ impl Fetch {
         ensures place { IfOk result (λ fetch. fetch.place ≡ place) }
         ensures room { IfOk result (λ fetch. HasRoom geometry.now fetch) }
     {
-        let count = match kind {
-            Kind::Read => usize::from(geometry.page_bytes()),
-            Kind::Program | Kind::Erase => 0,
+        let count = match kind.operation() {
+            Operation::Read => usize::from(geometry.page_bytes()),
+            Operation::Program | Operation::Erase => 0,
         };
         let room = vec![in alloc; 0; count]?;
         Ok(Fetch { kind, place, room })

@@ -1,5 +1,6 @@
 ghost use Rattle.std.specs.Prelude.{◌≡◌, ◌≢◌, List, length, IfOk, IfErr};
 ghost use Rattle.onfi_addr.specs.Rows.{page_bytes_of, row_of};
+ghost use Rattle.onfi_timing.specs.Kinds.{operation_of};
 ghost use Rattle.onfi_chip.specs.declared.post.Post.{Post as APost};
 ghost use Rattle.onfi_chip.specs.Chip.{posted};
 ghost use Rattle.onfi_chip.specs.Calls.{HasDone, IsLost, IsNextPost};
@@ -11,7 +12,7 @@ use crate::fetch::Fetch;
 use crate::status::decode_status;
 use onfi_addr::Geometry;
 use onfi_request::{Answer, Bytes};
-use onfi_timing::Kind;
+use onfi_timing::Operation;
 
 /// Reads the post of the member that comes next, at `now`, in ns: the data output of a read, the status of a program or an
 /// erase. It takes no memory: a fetch is made with its room before the chip is called.
@@ -34,18 +35,18 @@ pub fn read_post<C: Chip>(
         → IsNextPost (C.state chip.old) now (row_of geometry.now fetch.place) post left
         → HasDone (posted (C.state chip.old) post left now) (C.state chip.new)) }
     ensures lost { IfErr result (λ fault. IsLost fault (C.state chip.old) (C.state chip.new)) }
-    ensures not_ready { IfErr result (λ fault. fault ≡ PostFault.NotReady → fetch.kind ≢ Kind.Read) }
+    ensures not_ready { IfErr result (λ fault. fault ≡ PostFault.NotReady → operation_of fetch.kind ≢ Operation.Read) }
 {
     let row = geometry.row(&fetch.place());
-    match fetch.kind() {
-        Kind::Read => read_data(chip, now, row, fetch.into_room()),
-        Kind::Program | Kind::Erase => read_status(chip, now, row),
+    match fetch.kind().operation() {
+        Operation::Read => read_data(chip, now, row, fetch.into_room()),
+        Operation::Program | Operation::Erase => read_status(chip, now, row),
     }
 }
 
 // The data output of a read into the room.
 fn read_data<C: Chip>(chip: &mut C, now: u64, row: u64, room: Vec<u8>) -> Result<Answer, PostFault>
-    requires next { (post : APost) × (left : List APost) × IsNextPost (C.state chip.old) now row post left × (post.kind ≡ Kind.Read) }
+    requires next { (post : APost) × (left : List APost) × IsNextPost (C.state chip.old) now row post left × (operation_of post.kind ≡ Operation.Read) }
     requires room { length room.items ≡ page_bytes_of (C.state chip.old).geometry }
     ensures answer { IfOk result (λ answer. (post : APost) (left : List APost) → IsNextPost (C.state chip.old) now row post left
         → answer ≡ post.answer) }
@@ -63,7 +64,7 @@ fn read_data<C: Chip>(chip: &mut C, now: u64, row: u64, room: Vec<u8>) -> Result
 
 // The status of a program or an erase.
 fn read_status<C: Chip>(chip: &mut C, now: u64, row: u64) -> Result<Answer, PostFault>
-    requires { (post : APost) × (left : List APost) × IsNextPost (C.state chip.old) now row post left × (post.kind ≢ Kind.Read) }
+    requires { (post : APost) × (left : List APost) × IsNextPost (C.state chip.old) now row post left × (operation_of post.kind ≢ Operation.Read) }
     ensures answer { IfOk result (λ answer. (post : APost) (left : List APost) → IsNextPost (C.state chip.old) now row post left
         → answer ≡ post.answer) }
     ensures done { IfOk result (λ _. (post : APost) (left : List APost) → IsNextPost (C.state chip.old) now row post left

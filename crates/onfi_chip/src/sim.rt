@@ -1,6 +1,7 @@
 ghost use Rattle.std.specs.Prelude.{◌≡◌, ◌≢◌, List, [], length, false, replicate, IfOk, OnOk, OnErr, IfErr, IsBitSet, IsTrue};
 ghost use Rattle.onfi_addr.specs.Rows.{page_bytes_of};
-ghost use Rattle.onfi_timing.specs.declared.kind.Kind.TheVariants as kind;
+ghost use Rattle.onfi_timing.specs.declared.operation.Operation.TheVariants as operation;
+ghost use Rattle.onfi_timing.specs.Kinds.{operation_of};
 ghost use Rattle.onfi_request.specs.declared.answer.Answer.TheVariants as answer;
 ghost use Rattle.onfi_request.specs.declared.request.Request.{Request as ARequest};
 ghost use Rattle.onfi_chip.specs.declared.fault.PostFault.TheVariants.{Bus, NotReady};
@@ -142,7 +143,7 @@ impl Chip for SimChip {
     }
 
     fn data_out(&mut self, now: u64, row: u64, out: &mut [u8]) -> Result<(), ChipFault>
-        requires next { (post : APost) × (left : List APost) × IsNextPost (chip_in self.old) now row post left × (post.kind ≡ kind.Read) }
+        requires next { (post : APost) × (left : List APost) × IsNextPost (chip_in self.old) now row post left × (operation_of post.kind ≡ operation.Read) }
         requires room { length out.old ≡ page_bytes_of (chip_in self.old).geometry }
         ensures ok { OnOk result ((post : APost) (left : List APost) → IsNextPost (chip_in self.old) now row post left
             → (post.answer ≡ answer.Read out.new) × HasDone (posted (chip_in self.old) post left now) (chip_in self.new)) }
@@ -169,7 +170,7 @@ impl Chip for SimChip {
     }
 
     fn status(&mut self, now: u64, row: u64) -> Result<u8, ChipFault>
-        requires { (post : APost) × (left : List APost) × IsNextPost (chip_in self.old) now row post left × (post.kind ≢ kind.Read) }
+        requires { (post : APost) × (left : List APost) × IsNextPost (chip_in self.old) now row post left × (operation_of post.kind ≢ operation.Read) }
         ensures ready { IfOk result (λ byte. IsBitSet byte 6 → (post : APost) (left : List APost) → IsNextPost (chip_in self.old) now row post left
             → TellsAnswer byte post.answer × HasDone (posted (chip_in self.old) post left now) (chip_in self.new)) }
         ensures not_ready { IfOk result (λ byte. ¬ IsBitSet byte 6 → IsLost NotReady (chip_in self.old) (chip_in self.new)) }

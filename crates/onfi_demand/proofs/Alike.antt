@@ -7,10 +7,10 @@ use Rattle.std.proofs.lemmas.Bool.{cases_lt}
 use Rattle.std.proofs.lemmas.List.{length-map}
 use Rattle.std.proofs.lemmas.Option.{slice_get-map}
 use Rattle.onfi_timing.specs.declared.timing.Timing.{Timing}
-use Rattle.onfi_timing.specs.Phases.{phase_length}
+use Rattle.onfi_timing.specs.Phases.{phase_length, wait_before}
 use Rattle.onfi_request.specs.declared.want.Want.{Want}
 use Rattle.onfi_group.specs.declared.rules.Rules.{Rules}
-use Rattle.onfi_group.specs.Group.{kind_of, group_spans, lun_of}
+use Rattle.onfi_group.specs.Group.{group_operation, group_spans, kind_of, lun_of}
 use Rattle.onfi_problem.specs.declared.lun_state.LunState.{LunState}
 use Rattle.onfi_problem.specs.declared.lun_state.LunState.TheVariants.{Free, Running}
 use Rattle.onfi_problem.specs.Problem.{Problem, IsProblem}
@@ -21,8 +21,8 @@ use Rattle.onfi_problem.proofs.Lists.{map_set}
 use Rattle.onfi_schedule.proofs.Exchange.{not_member}
 use Rattle.onfi_bound.specs.Bounds.{on_lun}
 use Rattle.onfi_bound.proofs.DieBound.{on_lun_other}
-use Rattle.onfi_demand.specs.Left.{LunLeft, Idle, Rest, left_on, SameLeft, has_left_at, has_left}
-use Rattle.onfi_demand.proofs.OneKind.{IsAlike, RunsAlike, same_lengths, runs_alike, group_alike}
+use Rattle.onfi_demand.specs.Left.{LunLeft, Idle, Rest, left_on, sectors_left, SameLeft, has_left_at, has_left}
+use Rattle.onfi_demand.proofs.Agreeing.{Agree, IsAlike, RunsAlike, agree_groups, agree_length, agree_wait, sectors_later, runs_alike, group_alike}
 
 abbrev pub Alike : List LunState → List LunState → Type 0
 Alike xs ys = map left_on xs ≡ map left_on ys
@@ -34,18 +34,19 @@ pub record AlikeRunning (xs : List LunState) (l : ℕ) (g : List Want) (n : ℕ)
   pub group : List Want
   pub ready : ℕ
   pub here : slice_get xs l ≡ Some (Running group n ready)
-  pub kind : kind_of group ≡ kind_of g
+  pub operation : group_operation group ≡ group_operation g
   pub size : length group ≡ length g
+  pub sectors : sectors_left group n ≡ sectors_left g n
 
 pub running_alike : (xs ys : List LunState) (l : ℕ) (g : List Want) (n r : ℕ) → Alike xs ys → slice_get ys l ≡ Some (Running g n r) → AlikeRunning xs l g n
 running_alike xs ys l g n r h at = go (slice_get xs l) refl (alike_at xs ys l h ∙ ap (option_map left_on) at)
   where
-    go : (o : Option LunState) → slice_get xs l ≡ o → option_map left_on o ≡ Some (Rest (kind_of g) (length g) n) → AlikeRunning xs l g n
+    go : (o : Option LunState) → slice_get xs l ≡ o → option_map left_on o ≡ Some (Rest (group_operation g) (length g) (sectors_left g n) n) → AlikeRunning xs l g n
     go None e k = cc
     go (Some (Free a)) e k = cc
     go (Some (Running g' n' r')) e k =
         let same : n' ≡ n = cc in
-        record { group = g'; ready = r'; here = subst (λ i. slice_get xs l ≡ Some (Running g' i r')) same e; kind = cc; size = cc }
+        record { group = g'; ready = r'; here = subst (λ i. slice_get xs l ≡ Some (Running g' i r')) same e; operation = cc; size = cc; sectors = subst (λ i. sectors_left g' i ≡ sectors_left g n) same cc }
 
 pub free_alike : (xs ys : List LunState) (l b : ℕ) → Alike xs ys → slice_get ys l ≡ Some (Free b) → (a : ℕ) × (slice_get xs l ≡ Some (Free a))
 free_alike xs ys l b h at = go (slice_get xs l) refl (alike_at xs ys l h ∙ ap (option_map left_on) at)
@@ -55,11 +56,31 @@ free_alike xs ys l b h at = go (slice_get xs l) refl (alike_at xs ys l h ∙ ap 
     go (Some (Free a)) e k = (a, e)
     go (Some (Running g' n' r')) e k = cc
 
+-- the same is left of two groups from phase n on
+pub record AreAlike (g g' : List Want) (n : ℕ) : Type 0 where
+  pub own : IsAlike g
+  pub other : IsAlike g'
+  pub operation : group_operation g ≡ group_operation g'
+  pub size : length g ≡ length g'
+  pub sectors : sectors_left g n ≡ sectors_left g' n
+
+pub alike_lengths : (timing : Timing) (g g' : List Want) (n : ℕ) → AreAlike g g' n → Agree (length g) n (group_spans timing g) (group_spans timing g')
+alike_lengths timing g g' n alike = agree_groups timing g g' n alike.own alike.other alike.operation alike.size alike.sectors
+
+-- a group and itself
+pub alike_self : (g : List Want) (n : ℕ) → IsAlike g → AreAlike g g n
+alike_self g n own = record { own = own; other = own; operation = refl; size = refl; sectors = refl }
+
 -- after a phase the LUN has the same left, whenever it ended
-pub after_alike : (timing : Timing) (g g' : List Want) (n c c' : ℕ) → kind_of g ≡ kind_of g' → length g ≡ length g' → left_on (lun_after timing g n c) ≡ left_on (lun_after timing g' n c')
-after_alike timing g g' n c c' kind size =
+pub after_alike : (timing : Timing) (g g' : List Want) (n c c' : ℕ) → AreAlike g g' n → left_on (lun_after timing g n c) ≡ left_on (lun_after timing g' n c')
+after_alike timing g g' n c c' alike =
+    let size = alike.size in
     elim (cases_lt (n + 1) (2 * length g)) [
-      | inl k ↦ (let k' : n + 1 < 2 * length g' = omega arith in rw (lun_after_running timing g n c k, lun_after_running timing g' n c' k') (cc))
+      | inl k ↦ (
+          let k' : n + 1 < 2 * length g' = omega arith in
+          let operation = alike.operation in
+          let sectors = sectors_later g g' n size alike.sectors in
+          rw (lun_after_running timing g n c k, lun_after_running timing g' n c' k') (cc))
       | inr k ↦ (let k' : 2 * length g' ≤ n + 1 = omega arith in rw (lun_after_free timing g n c k, lun_after_free timing g' n c' k') refl)
     ]
 
@@ -74,10 +95,14 @@ waits_behind timing g n c =
       | inr k ↦ rw (lun_after_free timing g n c k, lun_after_free timing g n 0 k) (omega arith)
     ]
 
-pub waits_alike : (timing : Timing) (g g' : List Want) (n : ℕ) → kind_of g ≡ kind_of g' → length g ≡ length g' → waits timing g n ≡ waits timing g' n
-waits_alike timing g g' n kind size =
+pub waits_alike : (timing : Timing) (g g' : List Want) (n : ℕ) → AreAlike g g' n → waits timing g n ≡ waits timing g' n
+waits_alike timing g g' n alike =
+    let size = alike.size in
     elim (cases_lt (n + 1) (2 * length g)) [
-      | inl k ↦ (let k' : n + 1 < 2 * length g' = omega arith in rw (lun_after_running timing g n 0 k, lun_after_running timing g' n 0 k') (rw (kind, size) refl))
+      | inl k ↦ (
+          let k' : n + 1 < 2 * length g' = omega arith in
+          let wait = agree_wait (length g) (group_spans timing g) (group_spans timing g') n (n + 1) (alike_lengths timing g g' n alike) ∙ ap (λ s. wait_before (group_spans timing g') s (n + 1)) size in
+          rw (lun_after_running timing g n 0 k, lun_after_running timing g' n 0 k') (omega arith))
       | inr k ↦ (let k' : 2 * length g' ≤ n + 1 = omega arith in rw (lun_after_free timing g n 0 k, lun_after_free timing g' n 0 k') refl)
     ]
 
@@ -109,44 +134,43 @@ module _ (timing : Timing) (rules : Rules) where
       let c = t + phase_length (group_spans timing g) (length g) n in
       with_times wants c (slice_set luns l (lun_after timing g n c))
 
-  is_behind : (wants : List Want) (b : ℕ) (luns : List LunState) (l : ℕ) (g g' : List Want) (n t : ℕ) (x : LunState) → slice_get luns l ≡ Some x → IsAlike g → IsAlike g' → kind_of g ≡ kind_of g' → length g ≡ length g' → IsBehind (behind wants luns l g n t) (with_times wants b luns) l (phase_length (group_spans timing g') (length g') n) (waits timing g' n) t
-  is_behind wants b luns l g g' n t x at own other kind size =
-      let lengths = same_lengths timing g g' own other kind size in
-      let long : phase_length (group_spans timing g) (length g) n ≡ phase_length (group_spans timing g') (length g') n = ap (λ z. phase_length z (length g) n) lengths ∙ ap (λ k. phase_length (group_spans timing g') k n) size in
+  is_behind : (wants : List Want) (b : ℕ) (luns : List LunState) (l : ℕ) (g g' : List Want) (n t : ℕ) (x : LunState) → slice_get luns l ≡ Some x → AreAlike g g' n → IsBehind (behind wants luns l g n t) (with_times wants b luns) l (phase_length (group_spans timing g') (length g') n) (waits timing g' n) t
+  is_behind wants b luns l g g' n t x at alike =
+      let long : phase_length (group_spans timing g) (length g) n ≡ phase_length (group_spans timing g') (length g') n = agree_length (length g) (group_spans timing g) (group_spans timing g') n (alike_lengths timing g g' n alike) ∙ ap (λ k. phase_length (group_spans timing g') k n) alike.size in
       let c = t + phase_length (group_spans timing g) (length g) n in
       let w = waits_behind timing g n c in
-      let s = waits_alike timing g g' n kind size in
+      let s = waits_alike timing g g' n alike in
       let there = get_set_same luns l x (lun_after timing g n c) at in
       record { bus = omega arith; own = rw there (omega arith); others = λ i d. get_set_other luns l i (lun_after timing g n c) d }
 
-  same_behind : (wants : List Want) (luns luns' : List LunState) (l : ℕ) (g g' : List Want) (n t u : ℕ) → Alike luns luns' → kind_of g ≡ kind_of g' → length g ≡ length g' → SameLeft (behind wants luns l g n t) (behind wants luns' l g' n u)
-  same_behind wants luns luns' l g g' n t u h kind size = record { timing = refl; rules = refl; wants = refl; luns = set_alike luns luns' l _ _ h (after_alike timing g g' n _ _ kind size) }
+  same_behind : (wants : List Want) (luns luns' : List LunState) (l : ℕ) (g g' : List Want) (n t u : ℕ) → Alike luns luns' → AreAlike g g' n → SameLeft (behind wants luns l g n t) (behind wants luns' l g' n u)
+  same_behind wants luns luns' l g g' n t u h alike = record { timing = refl; rules = refl; wants = refl; luns = set_alike luns luns' l _ _ h (after_alike timing g g' n _ _ alike) }
 
   both_times : (m : Move) (wants : List Want) (b b' : ℕ) (luns luns' : List LunState) → All RunsAlike luns → All RunsAlike luns' → Alike luns luns' → IsMove (with_times wants b' luns') m → BothMove (with_times wants b luns) (with_times wants b' luns') m
   both_times (Next l) wants b b' luns luns' own other h (g, n, r, at) =
       let k = running_alike luns luns' l g n r h at in
       let at' = k.here in
-      let kind = group_alike luns' l g n r other at in
-      let kind' = group_alike luns l k.group n k.ready own at' in
+      let alike : AreAlike k.group g n = record { own = group_alike luns l k.group n k.ready own at'; other = group_alike luns' l g n r other at; operation = k.operation; size = k.size; sectors = k.sectors } in
       record {
         is_move = (k.group, n, k.ready, at');
         long = phase_length (group_spans timing g) (length g) n;
         wait = waits timing g n;
-        here = λ t. rw at' (is_behind wants b luns l k.group g n t _ at' kind' kind k.kind k.size);
-        there = λ t. rw at (is_behind wants b' luns' l g g n t _ at kind kind refl refl);
-        left = λ t u. rw (at', at) (same_behind wants luns luns' l k.group g n t u h k.kind k.size);
+        here = λ t. rw at' (is_behind wants b luns l k.group g n t _ at' alike);
+        there = λ t. rw at (is_behind wants b' luns' l g g n t _ at (alike_self g n alike.other));
+        left = λ t u. rw (at', at) (same_behind wants luns luns' l k.group g n t u h alike);
       }
   both_times (Start ms) wants b b' luns luns' own other h (since, at, st) =
       let k = free_alike luns luns' (lun_of ms) since h at in
-      let one = λ (t : ℕ). is_behind (without ms wants) b luns (lun_of ms) ms ms 0 t (Free k.0) k.1 st.group.kind st.group.kind refl refl in
-      let two = λ (t : ℕ). is_behind (without ms wants) b' luns' (lun_of ms) ms ms 0 t (Free since) at st.group.kind st.group.kind refl refl in
+      let alike = alike_self ms 0 st.group.operation in
+      let one = λ (t : ℕ). is_behind (without ms wants) b luns (lun_of ms) ms ms 0 t (Free k.0) k.1 alike in
+      let two = λ (t : ℕ). is_behind (without ms wants) b' luns' (lun_of ms) ms ms 0 t (Free since) at alike in
       record {
         is_move = (k.0, k.1, record { group = st.group; first = st.first });
         long = phase_length (group_spans timing ms) (length ms) 0;
         wait = waits timing ms 0;
         here = λ t. record { bus = (one t).bus; own = (one t).own; others = (one t).others };
         there = λ t. record { bus = (two t).bus; own = (two t).own; others = (two t).others };
-        left = λ t u. same_behind (without ms wants) luns luns' (lun_of ms) ms ms 0 t u h refl refl;
+        left = λ t u. same_behind (without ms wants) luns luns' (lun_of ms) ms ms 0 t u h alike;
       }
 
 -- what is said of times of p is said of a problem with the same left
@@ -161,7 +185,7 @@ both_move p q m ip iq s = of_same (λ z. IsMove z m → BothMove p z m) p q s (b
 
 -- something is left to both or to neither
 abbrev has_rest : List Want → Option LunLeft → Bool
-has_rest wants (Some (Rest kind k n)) = true
+has_rest wants (Some (Rest operation k sectors n)) = true
 has_rest (w ∷ wants) _ = true
 has_rest [] _ = false
 

@@ -6,13 +6,15 @@ use Rattle.std.proofs.lemmas.List.{get_or-map, drop_more, drop_all}
 use Rattle.std.proofs.lemmas.List.Sums.{get_or-le-sum_by}
 use Rattle.std.proofs.lemmas.Bool.{cases_Bool, cases_lt, lt-ltb, le-ltb, eq-eqb, ne_eqb, leb-true, le-leb}
 use Rattle.onfi_timing.specs.declared.timing.Timing.{Timing}
-use Rattle.onfi_timing.specs.Kinds.{spans_of}
+use Rattle.onfi_timing.specs.Kinds.{operation_of, spans_of}
 use Rattle.onfi_timing.specs.Phases.{Lengths, phase_length, wait_before, posts_from}
+use Rattle.onfi_timing.specs.Sectors.{IsAlike}
 use Rattle.onfi_timing.proofs.Phases.{command_length, posts_past_command, posts_past_post, posts_past_all, posts_of_all}
+use Rattle.onfi_timing.proofs.Shared.{one_operation}
 use Rattle.onfi_request.specs.declared.want.Want.{Want}
 use Rattle.onfi_group.specs.declared.rules.Rules.{Rules}
 use Rattle.onfi_group.specs.Words.{Has, total}
-use Rattle.onfi_group.specs.Group.{kind_of, group_spans, lun_of, IsStartable}
+use Rattle.onfi_group.specs.Group.{group_operation, group_spans, kind_of, lun_of, IsStartable}
 use Rattle.onfi_group.proofs.PhaseLengths.{no_want, posts_length, member_post}
 use Rattle.onfi_problem.specs.declared.lun_state.LunState.{LunState}
 use Rattle.onfi_problem.specs.declared.lun_state.LunState.TheVariants.{Free, Running}
@@ -209,7 +211,7 @@ both_total f g [] = refl
 both_total f g (w ∷ ws) = let e = both_total f g ws in omega arith
 
 -- the phases of a group that begins when its members may, or later
-module _ (timing : Timing) (g : List Want) (kinds : All (λ m. m.kind ≡ kind_of g) g) (rest go go' r q : ℕ) where
+module _ (timing : Timing) (g : List Want) (operations : All (λ m. operation_of m.kind ≡ group_operation g) g) (rest go go' r q : ℕ) where
   abbrev spans : Lengths
   spans = group_spans timing g
 
@@ -229,9 +231,9 @@ module _ (timing : Timing) (g : List Want) (kinds : All (λ m. m.kind ≡ kind_o
   member i = get_or g i no_want
 
   -- a member has the command, gap and array of the group
-  like_group : (i : ℕ) → i < length g → (member i).kind ≡ kind_of g
+  like_group : (i : ℕ) → i < length g → IsAlike (spans_of timing (kind_of g)) (spans_of timing (member i).kind)
   unfolding member
-  like_group i h = all_at (λ m. m.kind ≡ kind_of g) g i no_want h kinds
+  like_group i h = one_operation timing (kind_of g) (member i).kind (sym (all_at (λ m. operation_of m.kind ≡ group_operation g) g i no_want h operations))
 
   one_command : (n : ℕ) → n < length g → commands_in n ≡ command_in (member n) + commands_in (n + 1)
   unfolding commands_in member
@@ -272,8 +274,8 @@ module _ (timing : Timing) (g : List Want) (kinds : All (λ m. m.kind ≡ kind_o
   command_within n from h le =
       let long = command_length spans (length g) n h in
       let same = like_group n h in
-      let cmd = ap (λ kind. (spans_of timing kind).cmd) same in
-      let array = ap (λ kind. (spans_of timing kind).array) same in
+      let cmd = same.cmd in
+      let array = same.array in
       let post = own_post n (n + 1) h (omega arith) in
       let tail = command_tail n h in
       one_more go go' r r q (command_left timing 0 (member n)) (group_phase spans (length g) rest n from) (omega arith) (omega arith) (λ s. omega arith)
@@ -283,8 +285,8 @@ module _ (timing : Timing) (g : List Want) (kinds : All (λ m. m.kind ≡ kind_o
   post_within n from h k le =
       let long = member_post timing g n no_want h k in
       let same = like_group (n - length g) (omega arith) in
-      let cmd = ap (λ kind. (spans_of timing kind).cmd) same in
-      let array = ap (λ kind. (spans_of timing kind).array) same in
+      let cmd = same.cmd in
+      let array = same.array in
       one_more go go' r r q (post_left timing 0 (get_or g (n - length g) no_want)) (group_phase spans (length g) rest n from) (omega arith) (omega arith) (λ s. omega arith)
 
   group_within : (count n from : ℕ) → n + count ≡ 2 * length g → go ≤ go' + from → (length g ≤ n → go + spans.cmd + spans.array ≤ go' + from) → commands_in n + posts_in (n - length g) ≤ within go' r q (group_left spans (length g) rest count n from)
@@ -341,7 +343,7 @@ start_within p ms go r q ip st =
     let old = wants_total p.timing go r q ws in
     let new = wants_total p.timing go r q left in
     let split = split_total (of_want p.timing go r q) ms ws rising wanted (startable_apart p ms ip st) in
-    let group = group_has p.timing ms st.group.kind rest go go r q (omega arith) st.group.some in
+    let group = group_has p.timing ms st.group.operation rest go go r q (omega arith) st.group.some in
     let wants = within_later 0 go go r q (wants_left p.timing 0 left) (wants_left p.timing (chain_from spans k 0) left) (later_wants 0 p.timing 0 (chain_from spans k 0) left (omega arith)) (omega arith) in
     let both = within_append go r q (group_left spans k rest (2 * k - 0) 0 0) (wants_left p.timing (chain_from spans k 0) left) in
     rw (on_lun_own ms p.wants lun) (omega arith)

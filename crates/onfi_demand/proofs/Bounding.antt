@@ -22,7 +22,7 @@ use Rattle.onfi_bound.proofs.DieBound.{die_bound}
 use Rattle.onfi_demand.specs.Left.{LunLeft, left_on, SameLeft, has_left_at, has_left}
 use Rattle.onfi_demand.specs.Demand.{Meets, Bounded, Holds, of_bus, of_one, of_luns, before_post, lead_at, lead_demand}
 use Rattle.onfi_demand.specs.Laws.{Asks, BusLaw, LeadLaw, TrailLaw, DieLaw, EndLaw}
-use Rattle.onfi_demand.proofs.OneKind.{runs_alike_at}
+use Rattle.onfi_demand.proofs.Agreeing.{runs_alike_at}
 use Rattle.onfi_demand.proofs.Alike.{alike_at, of_same, with_times, same_has, same_luns}
 use Rattle.onfi_demand.proofs.Sums.{same_commands, same_posts, trail_alike, post_alike, die_is, die_idle, work_at, work_alike}
 

@@ -21,9 +21,9 @@ use Rattle.onfi_bound.proofs.Steps.{waiting_yes, waiting_no, summed}
 use Rattle.onfi_demand.specs.Left.{Idle, left_on, has_left, has_left_at}
 use Rattle.onfi_demand.specs.Demand.{before_post, lead_at, lead_demand, of_bus}
 use Rattle.onfi_demand.specs.Kept.{IsKept}
-use Rattle.onfi_demand.specs.OneKind.{posts_rest}
+use Rattle.onfi_demand.specs.Remaining.{posts_rest}
 use Rattle.onfi_demand.specs.Work.{left_of, IsWork}
-use Rattle.onfi_demand.proofs.OneKind.{RunsAlike, runs_alike_at}
+use Rattle.onfi_demand.proofs.Agreeing.{RunsAlike, runs_alike_at}
 use Rattle.onfi_demand.proofs.Sums.{post_by}
 use Rattle.onfi_demand.specs.declared.demand.Demand.{Demand as Kept}
 use Rattle.onfi_demand.specs.declared.left.LunLeft.{LunLeft as KeptLeft}

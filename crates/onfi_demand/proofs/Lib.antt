@@ -1,4 +1,5 @@
-pub mod OneKind
+pub mod Agreeing
+pub mod Posts
 pub mod Alike
 pub mod Sooner
 pub mod Sums

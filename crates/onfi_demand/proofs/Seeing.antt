@@ -1,8 +1,8 @@
 -- What is seen of phases within a window, one by one.
-use Rattle.std.proofs.Common.{◌≡◌, ℕ, suc, ◌+◌, ◌*◌, ◌-◌, ◌^◌, ◌≤◌, ◌<◌, inl, inr, false, List, [], ◌∷◌, ◌++◌, length, get_or, Option, Some, None, sym, ap, ◌∙◌, subst, arith}
+use Rattle.std.proofs.Common.{◌≡◌, ℕ, suc, ◌+◌, ◌*◌, ◌-◌, ◌^◌, ◌≤◌, ◌<◌, inl, inr, false, List, [], ◌∷◌, ◌++◌, length, get_or, take, Option, Some, None, sym, ap, ◌∙◌, subst, arith}
 use Rattle.std.specs.Prelude.{max, slice_get}
 use Rattle.std.proofs.lemmas.Bool.{cases_Bool, cases_lt}
-use Rattle.onfi_timing.specs.declared.kind.Kind.{Kind}
+use Rattle.onfi_timing.specs.declared.operation.Operation.{Operation}
 use Rattle.onfi_timing.specs.declared.spans.Spans.{Spans}
 use Rattle.onfi_timing.specs.declared.timing.Timing.{Timing}
 use Rattle.onfi_timing.specs.Kinds.{spans_of}
@@ -21,8 +21,8 @@ use Rattle.onfi_demand.specs.Left.{has_left, has_left_at}
 use Rattle.onfi_demand.specs.Work.{left_of, IsWork}
 use Rattle.onfi_demand.specs.declared.left.LunLeft.TheVariants.{Rest as KeptRest}
 use Rattle.onfi_demand.specs.declared.left.LunWork.{LunWork}
-use Rattle.onfi_demand.specs.OneKind.{lengths_of}
-use Rattle.onfi_demand.proofs.OneKind.{runs_alike_at}
+use Rattle.onfi_demand.specs.Remaining.{lengths_left, posts_count}
+use Rattle.onfi_demand.proofs.Agreeing.{runs_alike_at}
 use Rattle.onfi_demand.proofs.Sums.{die_is, work_at}
 use Rattle.onfi_demand.proofs.Opened.{left_there}
 use Rattle.onfi_demand.proofs.WindowAsks.{rest_left, phases_by, idle_phases}
@@ -96,16 +96,17 @@ work_small p lun work limits there is = elim (cases_Bool (has_left p lun)) [
 ]
 
 -- .. and all that is left to it
-pub rest_sees : (p : Problem) (lun k n chain rest : ℕ) (kind : Kind) (timing : Timing) (spans : Spans) (work : LunWork) (look : Look) (ws : List Want) (before middle behind : Seen) → IsProblem p → IsWork p lun work → work.left ≡ KeptRest kind k n → timing ≡ p.timing → spans ≡ spans_of timing kind → chain ≡ chain_from (lengths_of spans k) k n → rest ≡ wants_work p.timing p.rules (on_lun lun p.wants) → ws ≡ work.wants.items → Sees look before (group_left (lengths_of spans k) k rest (2 * k - n) n 0) middle → Sees look middle (wants_left timing chain ws) behind → Sees look before (phases_left_on p lun) behind
-rest_sees p lun k n chain rest kind timing spans work look ws before middle behind ip w left t s c r e a b =
+pub rest_sees : (p : Problem) (lun k n chain rest : ℕ) (operation : Operation) (sectors : List ℕ) (timing : Timing) (lengths : Lengths) (work : LunWork) (look : Look) (ws : List Want) (before middle behind : Seen) → IsProblem p → IsWork p lun work → work.left ≡ KeptRest operation k n sectors → timing ≡ p.timing → lengths ≡ lengths_left timing operation k (take (posts_count k n) sectors) → chain ≡ chain_from lengths k n → rest ≡ wants_work p.timing p.rules (on_lun lun p.wants) → ws ≡ work.wants.items → Sees look before (group_left lengths k rest (2 * k - n) n 0) middle → Sees look middle (wants_left timing chain ws) behind → Sees look before (phases_left_on p lun) behind
+rest_sees p lun k n chain rest operation sectors timing lengths work look ws before middle behind ip w left t s c r e a b =
     let q = phases_by p.timing p.rules (on_lun lun p.wants) (slice_get p.luns lun) (left_of work.left) (runs_alike_at p lun ip) w.left ∙ ap (λ z. rest_left p.timing p.rules (on_lun lun p.wants) (left_of z)) left in
-    let s' : spans ≡ spans_of p.timing kind = s ∙ ap (λ z. spans_of z kind) t in
-    let a' = subst (λ (z : Spans). Sees look before (group_left (lengths_of z k) k rest (2 * k - n) n 0) middle) s' a in
-    let a'' = subst (λ z. Sees look before (group_left (lengths_of (spans_of p.timing kind) k) k z (2 * k - n) n 0) middle) r a' in
+    let known = lengths_left p.timing operation k (take (posts_count k n) sectors) in
+    let s' : lengths ≡ known = s ∙ ap (λ z. lengths_left z operation k (take (posts_count k n) sectors)) t in
+    let a' = subst (λ (z : Lengths). Sees look before (group_left z k rest (2 * k - n) n 0) middle) s' a in
+    let a'' = subst (λ z. Sees look before (group_left known k z (2 * k - n) n 0) middle) r a' in
     let b' = subst (λ z. Sees look middle (wants_left timing chain z) behind) (e ∙ w.wants) b in
     let b'' = subst (λ z. Sees look middle (wants_left z chain (on_lun lun p.wants)) behind) t b' in
-    let b''' = subst (λ z. Sees look middle (wants_left p.timing z (on_lun lun p.wants)) behind) (c ∙ ap (λ (z : Spans). chain_from (lengths_of z k) k n) s') b'' in
-    rw q (sees_append look before middle behind (group_left (lengths_of (spans_of p.timing kind) k) k (wants_work p.timing p.rules (on_lun lun p.wants)) (2 * k - n) n 0) (wants_left p.timing (chain_from (lengths_of (spans_of p.timing kind) k) k n) (on_lun lun p.wants)) a'' b''')
+    let b''' = subst (λ z. Sees look middle (wants_left p.timing z (on_lun lun p.wants)) behind) (c ∙ ap (λ (z : Lengths). chain_from z k n) s') b'' in
+    rw q (sees_append look before middle behind (group_left known k (wants_work p.timing p.rules (on_lun lun p.wants)) (2 * k - n) n 0) (wants_left p.timing (chain_from known k n) (on_lun lun p.wants)) a'' b''')
 
 -- the numbers of the window bound's demand
 pub window_kept : (p : Problem) (e time : ℕ) (w : Window) (sight : Sight) (luns : List ℕ) (d : Kept) → IsProblem p → IsSight p w sight → time ≡ e - (window p w.start w.tail + w.tail) → time < 2 ^ 64 → d.bus ≡ 0 → d.luns ≡ luns → ((l : ℕ) → l < 8 → get_or luns l 0 ≡ time - get_or sight.firsts l 0) → IsKept d (window_demand p w.start w.tail e)

@@ -4,20 +4,19 @@ use Rattle.std.specs.Prelude.{slice_get, max, IfSome}
 use Rattle.std.specs.Option.{option_map}
 use Rattle.std.proofs.lemmas.Bool.{cases_Bool}
 use Rattle.onfi_timing.specs.declared.timing.Timing.{Timing}
-use Rattle.onfi_timing.specs.Kinds.{spans_of}
 use Rattle.onfi_timing.specs.Phases.{Lengths}
 use Rattle.onfi_request.specs.declared.want.Want.{Want}
 use Rattle.onfi_group.specs.declared.rules.Rules.{Rules}
-use Rattle.onfi_group.specs.Group.{kind_of}
+use Rattle.onfi_group.specs.Group.{group_operation, group_spans}
 use Rattle.onfi_problem.specs.declared.lun_state.LunState.{LunState}
 use Rattle.onfi_problem.specs.declared.lun_state.LunState.TheVariants.{Free, Running}
 use Rattle.onfi_problem.specs.Problem.{Problem, IsProblem}
 use Rattle.onfi_problem.specs.Moves.{may_go}
 use Rattle.onfi_bound.specs.Bounds.{on_lun, wants_work}
-use Rattle.onfi_demand.specs.Left.{LunLeft, Idle, Rest, left_on, SameLeft, has_left_at, has_left}
+use Rattle.onfi_demand.specs.Left.{LunLeft, Idle, Rest, left_on, sectors_left, SameLeft, has_left_at, has_left}
 use Rattle.onfi_demand.specs.Window.{PhaseLeft, chain_from, group_left, wants_left, phases_left_at, phases_left_on, is_within, within, sum_of, window, needed, WindowAsksLaw}
-use Rattle.onfi_demand.specs.OneKind.{lengths_of}
-use Rattle.onfi_demand.proofs.OneKind.{RunsAlike, kind_lengths, runs_alike_at}
+use Rattle.onfi_demand.specs.Remaining.{lengths_left}
+use Rattle.onfi_demand.proofs.Agreeing.{Agree, RunsAlike, agree_chain, agree_group, agree_phases, runs_alike_at}
 use Rattle.onfi_demand.proofs.Alike.{alike_at, of_same, same_luns}
 use Rattle.onfi_demand.proofs.Between.{one_in, one_out, within_head, within_cons, sum_below, window_below}
 
@@ -26,14 +25,22 @@ from_lengths timing rules ws lengths k n = group_left lengths k (wants_work timi
 
 abbrev pub rest_left : Timing → Rules → List Want → LunLeft → List PhaseLeft
 rest_left timing rules ws Idle = wants_left timing 0 ws
-rest_left timing rules ws (Rest kind k n) = from_lengths timing rules ws (lengths_of (spans_of timing kind) k) k n
+rest_left timing rules ws (Rest operation k sectors n) = from_lengths timing rules ws (lengths_left timing operation k sectors) k n
+
+from_agree : (timing : Timing) (rules : Rules) (ws : List Want) (a b : Lengths) (k n : ℕ) → Agree k n a b → from_lengths timing rules ws a k n ≡ from_lengths timing rules ws b k n
+from_agree timing rules ws a b k n h =
+    let rest = wants_work timing rules ws in
+    let group = agree_phases k a b (2 * k - n) n rest 0 h in
+    let wants = ap (λ z. wants_left timing z ws) (agree_chain k a b n h) in
+    ap (λ ps. ps ++ wants_left timing (chain_from a k n) ws) group ∙ ap (λ ps. group_left b k rest (2 * k - n) n 0 ++ ps) wants
 
 pub phases_by : (timing : Timing) (rules : Rules) (ws : List Want) (o : Option LunState) (l : LunLeft) → IfSome o RunsAlike → option_map left_on o ≡ Some l → phases_left_at timing rules ws o ≡ rest_left timing rules ws l
 phases_by timing rules ws None l h e = cc
 phases_by timing rules ws (Some (Free a)) l h e = let k : Idle ≡ l = cc in ap (rest_left timing rules ws) k
 phases_by timing rules ws (Some (Running g n r)) l h e =
-    let k : Rest (kind_of g) (length g) n ≡ l = cc in
-    ap (λ z. from_lengths timing rules ws z (length g) n) (kind_lengths timing g h) ∙ ap (rest_left timing rules ws) k
+    let k : Rest (group_operation g) (length g) (sectors_left g n) n ≡ l = cc in
+    let known = lengths_left timing (group_operation g) (length g) (sectors_left g n) in
+    from_agree timing rules ws (group_spans timing g) known (length g) n (agree_group timing g n h) ∙ ap (rest_left timing rules ws) k
 
 phases_alike : (timing : Timing) (rules : Rules) (ws : List Want) (a b : Option LunState) → IfSome a RunsAlike → IfSome b RunsAlike → option_map left_on a ≡ option_map left_on b → phases_left_at timing rules ws a ≡ phases_left_at timing rules ws b
 phases_alike timing rules ws None None ha hb e = refl

@@ -20,8 +20,8 @@ use Rattle.onfi_bound.proofs.Counting.{within_luns}
 use Rattle.onfi_bound.proofs.Loading.{waits_at}
 use Rattle.onfi_bound.proofs.Parts.{placed}
 use Rattle.onfi_bound.proofs.Steps.{all_at, waiting_yes, waiting_no}
-use Rattle.onfi_demand.specs.Left.{Rest, left_on}
-use Rattle.onfi_demand.specs.Work.{left_of, IsShape}
+use Rattle.onfi_demand.specs.Left.{left_on}
+use Rattle.onfi_demand.specs.Work.{left_of, IsPadded, IsShape}
 use Rattle.onfi_demand.specs.declared.left.LunLeft.{LunLeft as KeptLeft}
 use Rattle.onfi_demand.specs.declared.left.LunLeft.TheVariants.{Idle as KeptIdle, Rest as KeptRest}
 
@@ -37,18 +37,18 @@ state_at p groups gs luns lun left e h g q =
     let s = map_found (state_of groups) luns lun no_lun x.0 (subst (λ z. slice_get z lun ≡ Some x.0) (sym e) x.1) in
     rw x.1 (ap Some (sym (q ∙ (ap (λ z. left_on (state_of z (get_or luns lun no_lun))) g ∙ ap left_on s))))
 
-pub shape_of : (p : Problem) (lun : ℕ) (left : KeptLeft) → InLimits p → option_map left_on (slice_get p.luns lun) ≡ Some (left_of left) → IsShape left
-shape_of p lun KeptIdle limits h = tt
-shape_of p lun (KeptRest kind k n) limits h = go (slice_get p.luns lun) refl h
+pub shape_of : (p : Problem) (lun : ℕ) (left : KeptLeft) → InLimits p → IsPadded left → option_map left_on (slice_get p.luns lun) ≡ Some (left_of left) → IsShape left
+shape_of p lun KeptIdle limits padded h = tt
+shape_of p lun (KeptRest operation k n sectors) limits padded h = go (slice_get p.luns lun) refl h
   where
-    go : (o : Option LunState) → slice_get p.luns lun ≡ o → option_map left_on o ≡ Some (Rest kind k n) → IsShape (KeptRest kind k n)
+    go : (o : Option LunState) → slice_get p.luns lun ≡ o → option_map left_on o ≡ Some (left_of (KeptRest operation k n sectors)) → IsShape (KeptRest operation k n sectors)
     go None e q = cc
     go (Some (Free a)) e q = cc
     go (Some (Running g n' r)) e q =
         let i = limits.problem.running lun g n' r e in
         let same_size : length g ≡ k = cc in
         let same_next : n' ≡ n = cc in
-        (omega arith, omega arith, omega arith, omega arith)
+        (omega arith, omega arith, omega arith, omega arith, padded)
 
 pub wants_yes : (lun : ℕ) (marks : List Bool) (ws : List Want) (i : ℕ) (d : Want) (before now : List Want) → i < length ws → get_or marks i false ≡ true → (get_or ws i d).lun ≡ lun → before ≡ on_lun lun (waiting_of marks (take i ws)) → now ≡ before ++ get_or ws i d ∷ [] → now ≡ on_lun lun (waiting_of marks (take (i + 1) ws))
 wants_yes lun marks ws i d before now h m at b n =

@@ -1,5 +1,5 @@
 pub mod Left
-pub mod OneKind
+pub mod Remaining
 pub mod Demand
 pub mod Laws
 pub mod Window

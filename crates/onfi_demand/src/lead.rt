@@ -1,23 +1,23 @@
 //! What the lead bound asks for.
 
-ghost use Rattle.std.specs.Prelude.{◌≡◌, ℕ, ◌+◌, ◌-◌, ◌*◌, ◌^◌, ◌≤◌, ◌<◌, IfSome, length, map, slice_get};
+ghost use Rattle.std.specs.Prelude.{◌≡◌, ℕ, ◌+◌, ◌-◌, ◌^◌, ◌≤◌, ◌<◌, IfSome, length, map, slice_get};
 ghost use Rattle.onfi_timing.specs.Kinds.{spans_of};
 ghost use Rattle.onfi_group.specs.Words.{total};
-ghost use Rattle.onfi_problem.specs.Left.{commands_left, waits_left, post_time, want_post, all_posts};
+ghost use Rattle.onfi_problem.specs.Left.{post_time, want_post, all_posts};
 ghost use Rattle.onfi_problem.specs.Position.{waiting_of};
 ghost use Rattle.onfi_problem.specs.Problem.{Problem as AnyProblem};
 ghost use Rattle.onfi_bound.specs.Bounds.{on_lun, least, least_with};
-ghost use Rattle.onfi_demand.specs.OneKind.{lengths_of, posts_rest};
+ghost use Rattle.onfi_demand.specs.Remaining.{posts_rest};
 ghost use Rattle.onfi_demand.specs.Demand.{lead_demand, lead_at};
 ghost use Rattle.onfi_demand.specs.Kept.{IsKept};
 ghost use Rattle.onfi_demand.specs.Work.{left_of, IsShape, IsWork};
 
 use crate::demand::Demand;
 use crate::left::{LunLeft, LunWork, left_on};
-use crate::lengths::posts_from;
+use crate::lengths::{GroupLengths, operation_spans, rest_to_post};
 use onfi_problem::Problem;
 use onfi_request::Want;
-use onfi_timing::{Spans, Timing};
+use onfi_timing::Timing;
 
 // The posts that are left of a running group, in ns.
 fn rest_posts(timing: &Timing, left: LunLeft) -> u64
@@ -28,10 +28,11 @@ fn rest_posts(timing: &Timing, left: LunLeft) -> u64
     match left {
         LunLeft::Idle => 0,
         LunLeft::Rest {
-            kind,
+            operation,
             members,
             next,
-        } => posts_from(&timing.spans(kind), members, next),
+            sectors,
+        } => GroupLengths::of(timing, operation, members, next, &sectors).posts_from(next),
     }
 }
 
@@ -74,20 +75,6 @@ fn all_posts(problem: &Problem) -> u64
     posts_of_luns(problem) + posts_of_wants(timing, problem.wants(), problem.waiting())
 }
 
-/// How long a running group takes to its first post, in ns.
-pub(crate) fn rest_to_post(spans: &Spans, members: u8, next: u8) -> u64
-    requires { members ≤ 4 }
-    ensures value { result ≡ commands_left members next * spans.now.cmd + waits_left (lengths_of spans.now members) members next }
-    ensures small { result ≤ 2 ^ 54 }
-{
-    if next < members {
-        let (members, next) = (members as u64, next as u64);
-        (members - next) * spans.cmd + ((members - 1 - next) * spans.gap + spans.array)
-    } else {
-        0
-    }
-}
-
 // The least command and array of wants, in ns.
 fn first_command(timing: &Timing, wants: &[Want]) -> Option<u64>
     ensures value { result ≡ least (map (λ w. (spans_of timing.now w.kind).cmd + (spans_of timing.now w.kind).array) wants.now) }
@@ -119,11 +106,12 @@ impl LunWork {
     {
         match self.left {
             LunLeft::Rest {
-                kind,
+                operation,
                 members,
                 next,
+                ..
             } => {
-                let rest = rest_to_post(&timing.spans(kind), members, next);
+                let rest = rest_to_post(&operation_spans(timing, operation), members, next);
                 left.saturating_sub(rest)
             }
             LunLeft::Idle => match first_command(timing, &self.wants) {

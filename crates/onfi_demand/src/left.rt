@@ -1,11 +1,12 @@
 //! What is left to a LUN, in numbers.
 
-ghost use Rattle.std.specs.Prelude.{◌≡◌, ◌≤◌, ◌<◌, true, false, [], length, slice_get, Some};
+ghost use Rattle.std.specs.Prelude.{◌≡◌, ◌-◌, ◌≤◌, ◌<◌, ◌++◌, true, false, [], length, replicate, slice_get, Some};
 ghost use Rattle.std.specs.Option.{option_map};
 ghost use Rattle.onfi_problem.specs.Position.{state_of, waiting_of};
 ghost use Rattle.onfi_bound.specs.Bounds.{on_lun};
-ghost use Rattle.onfi_demand.specs.Left.{left_on, has_left};
-ghost use Rattle.onfi_demand.specs.Work.{left_of, IsWork, IsShape};
+ghost use Rattle.onfi_demand.specs.Left.{left_on, has_left, sectors_left};
+ghost use Rattle.onfi_demand.specs.Remaining.{posts_count};
+ghost use Rattle.onfi_demand.specs.Work.{left_of, IsWork, IsShape, IsPadded};
 ghost use Rattle.onfi_problem.specs.Problem.{Problem as AnyProblem};
 ghost use Rattle.std.specs.Prelude.{ℕ};
 
@@ -13,15 +14,21 @@ use arrayvec::ArrayVec;
 use onfi_group::Group;
 use onfi_problem::{Lun, Problem};
 use onfi_request::Want;
-use onfi_timing::Kind;
+use onfi_timing::Operation;
 
 /// What is left of what a LUN does.
 #[derive(Clone, Copy, Debug, Default, PartialEq, Eq)]
 pub enum LunLeft {
     #[default]
     Idle,
-    /// A group of so many members of a kind, of which phase `next` comes next.
-    Rest { kind: Kind, members: u8, next: u8 },
+    /// A group of so many members of an operation, of which phase `next` comes next, and how many sectors the posts put out
+    /// that are left; 0 after those, and where a post is no read of some sectors.
+    Rest {
+        operation: Operation,
+        members: u8,
+        next: u8,
+        sectors: [u8; 4],
+    },
 }
 
 /// What is left to a LUN, and from when on it may go on, in ns.
@@ -70,17 +77,33 @@ pub fn left_on(problem: &Problem, lun: u8) -> LunLeft
 /// What is left of what a LUN does.
 fn left_of(groups: &[Group], lun: Lun) -> LunLeft
     requires place { 1 ≤ lun.next → lun.place < length groups.now }
-    ensures { left_of result ≡ left_on (state_of groups.now lun) }
+    ensures left { left_of result ≡ left_on (state_of groups.now lun) }
+    ensures padded { IsPadded result }
 {
     if lun.next == 0 {
         return LunLeft::Idle;
     }
     let group = &groups[lun.place as usize];
     LunLeft::Rest {
-        kind: group.kind(),
+        operation: group.operation(),
         members: group.len() as u8,
         next: lun.next,
+        sectors: sectors_left(group.members(), lun.next),
     }
+}
+
+// How many sectors the members put out whose posts are left, where phase `next` comes next; zeros after them.
+fn sectors_left(members: &[Want], next: u8) -> [u8; 4]
+    requires { length members.now ≤ 4 }
+    ensures left { result ≡ sectors_left members.now next ++ replicate (4 - posts_count (length members.now) next) 0 }
+    ensures long { length result ≡ 4 }
+{
+    let mut sectors = [0; 4];
+    let over = (next as usize).saturating_sub(members.len());
+    for at in over..members.len() {
+        sectors[at - over] = members[at].kind.sectors();
+    }
+    sectors
 }
 
 /// Whether a group runs on a LUN or a want waits for it.

@@ -14,5 +14,5 @@ mod look;
 pub use asked::Step;
 pub use demand::Demand;
 pub use left::{LunLeft, LunWork, has_left, left_on};
-pub use lengths::{phase_length, wait_before};
+pub use lengths::GroupLengths;
 pub use look::Window;

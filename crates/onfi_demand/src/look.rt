@@ -6,17 +6,16 @@ ghost use Rattle.onfi_bound.specs.Loads.{IsLoad};
 ghost use Rattle.onfi_demand.specs.Kept.{IsKept};
 ghost use Rattle.onfi_demand.specs.Look.{look_of, phase_at, nothing_seen, Sees, IsSight};
 ghost use Rattle.onfi_demand.specs.Window.{chain_from, group_left, wants_left, phases_left_on, window_demand, IsWindow};
-ghost use Rattle.onfi_demand.specs.OneKind.{lengths_of};
+ghost use Rattle.onfi_demand.specs.Remaining.{lengths_of};
 ghost use Rattle.onfi_demand.specs.Work.{IsWork};
 
 use crate::demand::Demand;
-use crate::lead::rest_to_post;
 use crate::left::{LunLeft, LunWork};
-use crate::lengths::{phase_length, posts_from, wait_before};
+use crate::lengths::GroupLengths;
 use onfi_bound::Load;
 use onfi_problem::Problem;
 use onfi_request::Want;
-use onfi_timing::{Spans, Timing};
+use onfi_timing::Timing;
 
 /// A window, in ns: phases that start at `start` or later, and end at least `tail` before the finish.
 #[derive(Clone, Copy, Debug, PartialEq, Eq)]
@@ -71,23 +70,22 @@ impl Look {
     }
 
     // The phases of a running group that are left, `chain` in all with their waits, and `rest` after the group.
-    fn see_group(&self, spans: &Spans, members: u8, next: u8, chain: u64, rest: u64) -> Seen
+    fn see_group(&self, lengths: &GroupLengths, next: u8, chain: u64, rest: u64) -> Seen
         requires go { self.now.go < 2 ^ 62 }
-        requires members { members ≤ 4 }
-        requires next { next ≤ 2 * members }
-        requires chain { chain ≡ chain_from (lengths_of spans.now members) members next }
+        requires next { next ≤ 2 * lengths.now.members }
+        requires chain { chain ≡ chain_from (lengths_of lengths.now) lengths.now.members next }
         requires small { chain < 2 ^ 60 }
         requires rest { rest < 2 ^ 62 }
-        ensures sees { Sees self.now nothing_seen (group_left (lengths_of spans.now members) members rest (2 * members - next) next 0) result }
+        ensures sees { Sees self.now nothing_seen (group_left (lengths_of lengths.now) lengths.now.members rest (2 * lengths.now.members - next) next 0) result }
         ensures small { result.length ≤ 2 ^ 54 }
     {
         let mut seen = Seen::none();
         let mut from = 0;
         let mut left = chain;
-        for phase in next..2 * members {
-            let length = phase_length(spans, members as usize, phase as usize);
+        for phase in next..2 * lengths.members {
+            let length = lengths.phase_length(phase as usize);
             seen = self.see(seen, from, length, left - length + rest);
-            let lasts = length + wait_before(spans, members as usize, phase as usize + 1);
+            let lasts = length + lengths.wait_before(phase as usize + 1);
             from += lasts;
             left -= lasts;
         }
@@ -113,15 +111,6 @@ impl Look {
     }
 }
 
-// What is left of a group from phase `next` on, with its waits, in ns.
-fn chain_left(spans: &Spans, members: u8, next: u8) -> u64
-    requires { members ≤ 4 }
-    ensures value { result ≡ chain_from (lengths_of spans.now members) members next }
-    ensures small { result ≤ 2 ^ 55 }
-{
-    rest_to_post(spans, members, next) + posts_from(spans, members, next)
-}
-
 impl LunWork {
     // What of all that is left to the LUN is within a window, where its wants take so long.
     fn see(&self, problem: &Problem, lun: u8, rest: u64, window: Window) -> Seen
@@ -141,13 +130,14 @@ impl LunWork {
         match self.left {
             LunLeft::Idle => look.see_wants(Seen::none(), timing, 0, &self.wants),
             LunLeft::Rest {
-                kind,
+                operation,
                 members,
                 next,
+                sectors,
             } => {
-                let spans = timing.spans(kind);
-                let chain = chain_left(&spans, members, next);
-                let seen = look.see_group(&spans, members, next, chain, rest);
+                let lengths = GroupLengths::of(timing, operation, members, next, &sectors);
+                let chain = lengths.chain_from(next);
+                let seen = look.see_group(&lengths, next, chain, rest);
                 look.see_wants(seen, timing, chain, &self.wants)
             }
         }

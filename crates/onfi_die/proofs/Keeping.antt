@@ -1,5 +1,5 @@
 -- Blocks that a map keeps, and what a change of one leaves.
-use Rattle.std.proofs.Common.{◌≡◌, ◌≢◌, ℕ, zero, suc, Bool, true, false, inl, inr, Option, None, Some, List, replicate, refl, sym, ap, subst, ◌∙◌, arith}
+use Rattle.std.proofs.Common.{◌≡◌, ◌≢◌, ℕ, zero, suc, Bool, true, false, inl, inr, Option, None, Some, List, length, replicate, refl, sym, ap, subst, ◌∙◌, arith}
 use Rattle.std.proofs.Math.Path.{fun_ext}
 use Rattle.std.specs.Prelude.{◌==◌, ◌&&◌, if◌then◌else◌, cond, IfSome, IsSome, slice_index_or}
 use Rattle.std.specs.Option.{is_some, option_map, unwrap_or}
@@ -7,7 +7,11 @@ use Rattle.std.specs.HashMap.{HashMap, UpdatesBy}
 use Rattle.std.specs.Map.{lookup}
 use Rattle.std.proofs.lemmas.Bool.{cases_Bool}
 use Rattle.std.proofs.lemmas.Bool.Decides.{nat_tests}
+use Rattle.onfi_addr.specs.declared.place.Place.{Place}
+use Rattle.onfi_timing.specs.declared.kind.Kind.{Kind}
 use Rattle.onfi_timing.specs.declared.kind.Kind.TheVariants as kind
+use Rattle.onfi_timing.specs.declared.operation.Operation.TheVariants as operation
+use Rattle.onfi_timing.specs.Kinds.{operation_of}
 use Rattle.onfi_request.specs.declared.answer.Answer.{Answer}
 use Rattle.onfi_request.specs.declared.answer.Answer.TheVariants as answer
 use Rattle.onfi_request.specs.declared.fault.Fault.{Fault}
@@ -15,12 +19,12 @@ use Rattle.onfi_request.specs.declared.request.Request.{Request}
 use Rattle.onfi_die.specs.declared.kept.Kept.{Kept}
 use Rattle.onfi_die.specs.declared.page.Page.TheVariants.{Erased}
 use Rattle.onfi_die.specs.declared.prepared.Prepared.{Prepared}
-use Rattle.onfi_die.specs.declared.prepared.Prepared.TheVariants.{Read, Program, Erase}
+use Rattle.onfi_die.specs.declared.prepared.Prepared.TheVariants.{Read, ReadSectors, Program, Erase}
 use Rattle.onfi_die.specs.declared.shape.Shape.{Shape}
 use Rattle.onfi_die.specs.Shapes.{Device}
 use Rattle.onfi_die.specs.Contents.{Contents, fresh, contents_after, answer_of}
 use Rattle.onfi_die.specs.Blocks.{Blocks, is_on, block_of, changed}
-use Rattle.onfi_die.specs.Prepared.{kind_of}
+use Rattle.onfi_die.specs.Prepared.{kind_of, IsAnswerTo}
 use Rattle.onfi_die.specs.Store.{Stored, Named, contents_of, is_same, kept_of, blocks_of, IsKept, HaveShape}
 use Rattle.onfi_die.proofs.Apart.{is_on_true}
 
@@ -58,22 +62,47 @@ put_changed device r old new c n e =
       | inr f ↦ rw f (ap (λ o. unwrap_or o (fresh device)) (n lun block) ∙ ap (λ (b : Bool). unwrap_or (if b then Some c else kept_of old lun block) (fresh device)) (same_on lun block r ∙ f))
     ]))
 
--- a read changes nothing
-pub read_changes_nothing : (device : Device) (r : Request) (blocks : Blocks) → r.kind ≡ kind.Read → changed device r blocks ≡ blocks
+-- a read leaves the contents
+read_leaves : (device : Device) (k : Kind) (p : Place) (bytes : List ℕ) (c : Contents) → operation_of k ≡ operation.Read →
+    contents_after device (record { kind = k; place = p; bytes = bytes }) c ≡ c
 unfolding contents_after
+read_leaves device kind.Read p bytes c e = refl
+read_leaves device (kind.ReadSectors first count) p bytes c e = refl
+read_leaves device kind.Program p bytes c e = absurd cc
+read_leaves device kind.Erase p bytes c e = absurd cc
+
+-- so a read changes nothing
+pub read_changes_nothing : (device : Device) (r : Request) (blocks : Blocks) → operation_of r.kind ≡ operation.Read → changed device r blocks ≡ blocks
 read_changes_nothing device r blocks k =
     fun_ext (λ lun. fun_ext (λ block.
-    elim (cases_Bool (is_on lun block r)) [ inl t ↦ rw (t, k) refl | inr f ↦ rw f refl ]))
+    elim (cases_Bool (is_on lun block r)) [
+      | inl t ↦ rw t (read_leaves device r.kind r.place r.bytes (blocks lun block) k)
+      | inr f ↦ rw f refl
+    ]))
 
 erased_at : (n i : ℕ) → slice_index_or (replicate n Erased) i Erased ≡ Erased
 erased_at zero i = refl
 erased_at (suc n) zero = refl
 erased_at (suc n) (suc i) = erased_at n i
 
--- and of a block that isn't kept it gives erased bytes
-pub read_of_none : (device : Device) (r : Request) → r.kind ≡ kind.Read → answer_of device r (fresh device) ≡ answer.Read (replicate device.shape.bytes 255)
+read_gives : (device : Device) (k : Kind) (p : Place) (bytes : List ℕ) → operation_of k ≡ operation.Read →
+    answer_of device (record { kind = k; place = p; bytes = bytes }) (fresh device) ≡ answer.Read (replicate device.shape.bytes 255)
 unfolding answer_of
-read_of_none device r k = let e = erased_at device.shape.pages r.place.page in rw (k, e) refl
+read_gives device kind.Read p bytes e = let f = erased_at device.shape.pages p.page in rw f refl
+read_gives device (kind.ReadSectors first count) p bytes e = let f = erased_at device.shape.pages p.page in rw f refl
+read_gives device kind.Program p bytes e = absurd cc
+read_gives device kind.Erase p bytes e = absurd cc
+
+-- and of a block that isn't kept it gives erased bytes
+pub read_of_none : (device : Device) (r : Request) → operation_of r.kind ≡ operation.Read → answer_of device r (fresh device) ≡ answer.Read (replicate device.shape.bytes 255)
+read_of_none device r k = read_gives device r.kind r.place r.bytes k
+
+-- whatever has the length of a page answers a read
+pub read_is_answer : (bytes : ℕ) (k : Kind) (content : List ℕ) → operation_of k ≡ operation.Read → length content ≡ bytes → IsAnswerTo bytes k (answer.Read content)
+read_is_answer bytes kind.Read content e l = l
+read_is_answer bytes (kind.ReadSectors first count) content e l = l
+read_is_answer bytes kind.Program content e l = absurd cc
+read_is_answer bytes kind.Erase content e l = absurd cc
 
 same_true : (a b : ℕ × ℕ) → is_same a b ≡ true → a ≡ b
 same_true (i, j) (k, l) h =
@@ -175,17 +204,18 @@ no_some (Some x) e h = cc
 pub not_kept : (s : Stored) (kept : List Named) (lun block : ℕ) (key : ℕ × ℕ) → s.kept ≡ kept → key ≡ (lun, block) → None ≡ lookup (is_same key) kept → kept_of s.kept lun block ≡ None
 not_kept s kept lun block key v k e = ap (λ es. kept_of es lun block) v ∙ ap (λ q. option_map contents_of (lookup (is_same q) kept)) (sym k) ∙ ap (option_map contents_of) (sym e)
 
-is_read : (o : Prepared) → (kind_of o ≢ kind.Read → ⊥) → kind_of o ≡ kind.Read
+is_read : (o : Prepared) → (operation_of (kind_of o) ≢ operation.Read → ⊥) → operation_of (kind_of o) ≡ operation.Read
 is_read (Read room) h = refl
+is_read (ReadSectors first count room) h = refl
 is_read (Program content) h = absurd (h (λ e. program_no_read e))
   where
-    program_no_read : kind.Program ≡ kind.Read → ⊥
+    program_no_read : operation.Program ≡ operation.Read → ⊥
     program_no_read e = cc
 is_read Erase h = absurd (h (λ e. erase_no_read e))
   where
-    erase_no_read : kind.Erase ≡ kind.Read → ⊥
+    erase_no_read : operation.Erase ≡ operation.Read → ⊥
     erase_no_read e = cc
 
 -- so only a read can be run on it
-pub read_if_none : (o : Prepared) (s : Stored) (kept : List Named) (lun block : ℕ) (key : ℕ × ℕ) → s.kept ≡ kept → key ≡ (lun, block) → None ≡ lookup (is_same key) kept → (kind_of o ≢ kind.Read → IsKept lun block s) → kind_of o ≡ kind.Read
+pub read_if_none : (o : Prepared) (s : Stored) (kept : List Named) (lun block : ℕ) (key : ℕ × ℕ) → s.kept ≡ kept → key ≡ (lun, block) → None ≡ lookup (is_same key) kept → (operation_of (kind_of o) ≢ operation.Read → IsKept lun block s) → operation_of (kind_of o) ≡ operation.Read
 read_if_none o s kept lun block key v k e h = is_read o (λ n. no_some _ (not_kept s kept lun block key v k e) (h n))

@@ -1,12 +1,12 @@
 -- A prepared operation does what its request does.
-use Rattle.std.proofs.Common.{◌≡◌, ℕ, Bool, List, refl, sym, ap, subst}
+use Rattle.std.proofs.Common.{◌≡◌, ℕ, Bool, List, [], refl, sym, ap, subst}
 use Rattle.std.proofs.Math.Path.{fun_ext}
 use Rattle.onfi_timing.specs.declared.kind.Kind.{Kind}
 use Rattle.onfi_timing.specs.declared.kind.Kind.TheVariants as kind
 use Rattle.onfi_request.specs.declared.request.Request.{Request}
 use Rattle.onfi_die.specs.declared.page.Page.{Page}
 use Rattle.onfi_die.specs.declared.prepared.Prepared.{Prepared}
-use Rattle.onfi_die.specs.declared.prepared.Prepared.TheVariants.{Read, Program, Erase}
+use Rattle.onfi_die.specs.declared.prepared.Prepared.TheVariants.{Read, ReadSectors, Program, Erase}
 use Rattle.onfi_die.specs.declared.shape.Shape.{Shape}
 use Rattle.onfi_die.specs.Shapes.{Device}
 use Rattle.onfi_die.specs.Block.{Did, did}
@@ -17,6 +17,8 @@ use Rattle.onfi_die.specs.Requests.{request_of}
 
 same_did : (shape : Shape) (o : Prepared) (k : Kind) (bytes : List ℕ) (page : ℕ) (fault : Bool) (pages : List Page) → kind_of o ≡ k → (k ≡ kind.Program → data_of o ≡ bytes) → did shape (kind_of o) page (data_of o) fault pages ≡ did shape k page bytes fault pages
 same_did shape (Read room) k bytes page fault pages e h = subst (λ q. did shape kind.Read page (data_of (Read room)) fault pages ≡ did shape q page bytes fault pages) e refl
+same_did shape (ReadSectors first count room) k bytes page fault pages e h =
+    subst (λ q. did shape (kind.ReadSectors first count) page [] fault pages ≡ did shape q page bytes fault pages) e refl
 same_did shape (Program content) k bytes page fault pages e h =
     subst (λ q. did shape kind.Program page content fault pages ≡ did shape q page bytes fault pages) e (ap (λ bs. did shape kind.Program page bs fault pages) (h (sym e)))
 same_did shape Erase k bytes page fault pages e h = subst (λ q. did shape kind.Erase page (data_of Erase) fault pages ≡ did shape q page bytes fault pages) e refl

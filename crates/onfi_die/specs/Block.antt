@@ -2,7 +2,7 @@
 use Rattle.std.specs.Prelude.{ℕ, ◌+◌, ◌&&◌, ◌||◌, Bool, true, false, if◌then◌else◌, List, length, replicate, drop, slice_set, slice_index_or}
 use Rattle.std.specs.List.{list_all}
 use Rattle.onfi_timing.specs.declared.kind.Kind.{Kind}
-use Rattle.onfi_timing.specs.declared.kind.Kind.TheVariants.{Read, Program, Erase}
+use Rattle.onfi_timing.specs.declared.kind.Kind.TheVariants.{Read, Program, Erase, ReadSectors}
 use Rattle.onfi_request.specs.declared.answer.Answer.{Answer}
 use Rattle.onfi_request.specs.declared.answer.Answer.TheVariants.{Read as Gave, Done, Failed}
 use Rattle.onfi_die.specs.declared.page.Page.{Page}
@@ -38,6 +38,7 @@ programmed any_order page content pages =
 -- a kind, a page, bytes and a fault bit give a new list of pages and an answer
 abbrev pub did : Shape → Kind → ℕ → List ℕ → Bool → List Page → Did
 did shape Read page content fault pages = record { pages = pages; answer = Gave (shown shape.bytes (slice_index_or pages page Erased)) }
+did shape (ReadSectors first count) page content fault pages = record { pages = pages; answer = Gave (shown shape.bytes (slice_index_or pages page Erased)) }
 did shape Program page content true pages = record { pages = slice_set pages page Torn; answer = Failed }
 did shape Program page content false pages = programmed shape.any_order page content pages
 did shape Erase page content true pages = record { pages = replicate (length pages) Torn; answer = Failed }

@@ -2,7 +2,7 @@
 use Rattle.std.specs.Prelude.{ℕ, ◌+◌, ◌==◌, ◌&&◌, Bool, List, [], ◌∷◌, replicate}
 use Rattle.std.specs.List.{list_any}
 use Rattle.onfi_timing.specs.declared.kind.Kind.{Kind}
-use Rattle.onfi_timing.specs.declared.kind.Kind.TheVariants.{Read, Program, Erase}
+use Rattle.onfi_timing.specs.declared.kind.Kind.TheVariants.{Read, Program, Erase, ReadSectors}
 use Rattle.onfi_request.specs.declared.answer.Answer.{Answer}
 use Rattle.onfi_request.specs.declared.fault.Fault.{Fault}
 use Rattle.onfi_request.specs.declared.request.Request.{Request}
@@ -23,6 +23,7 @@ fresh device = record { pages = replicate device.shape.pages Erased; changes = 0
 -- programs and erases count, failed ones too; reads don't
 abbrev pub counted : Kind → ℕ → ℕ
 counted Read changes = changes
+counted (ReadSectors first count) changes = changes
 counted Program changes = changes + 1
 counted Erase changes = changes + 1
 

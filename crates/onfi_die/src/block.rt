@@ -87,7 +87,9 @@ impl Block {
         ensures form { IsAnswerTo self.old.shape.bytes (kind_of operation) result }
     {
         match operation {
-            Prepared::Read(room) => Answer::Read(self.read(page, room)),
+            Prepared::Read(room) | Prepared::ReadSectors { room, .. } => {
+                Answer::Read(self.read(page, room))
+            }
             Prepared::Program(bytes) => self.program(page, bytes, fault),
             Prepared::Erase => self.erase(fault),
         }

@@ -1,5 +1,6 @@
 ghost use Rattle.std.specs.Prelude.{◌≡◌, ℕ, ◌+◌, length, replicate, if◌then◌else◌, IfOk};
-ghost use Rattle.onfi_timing.specs.declared.kind.Kind.TheVariants as kind;
+ghost use Rattle.onfi_timing.specs.declared.operation.Operation.TheVariants as operation;
+ghost use Rattle.onfi_timing.specs.Kinds.{operation_of};
 ghost use Rattle.onfi_request.specs.declared.answer.Answer.TheVariants as answer;
 ghost use Rattle.onfi_die.specs.Contents.{counted};
 ghost use Rattle.onfi_die.specs.Prepared.{kind_of, data_of, HasRoom};
@@ -14,6 +15,12 @@ use std::alloc::{AllocError, Global};
 pub enum Prepared {
     /// A read, with room for the data and spare bytes of a page.
     Read(Vec<u8>),
+    /// A read of which `count` sectors from sector `first` on are put out, with room for the page.
+    ReadSectors {
+        first: u8,
+        count: u8,
+        room: Vec<u8>,
+    },
     /// A program of these data and spare bytes.
     Program(Bytes),
     /// An erase.
@@ -38,6 +45,11 @@ impl Prepared {
     {
         match kind {
             Kind::Read => Ok(Prepared::Read(vec![in alloc; 0; usize::from(page_bytes)]?)),
+            Kind::ReadSectors { first, count } => Ok(Prepared::ReadSectors {
+                first,
+                count,
+                room: vec![in alloc; 0; usize::from(page_bytes)]?,
+            }),
             Kind::Program => Ok(Prepared::Program(Bytes::of(Vec::from_slice(alloc, bytes)?))),
             Kind::Erase => Ok(Prepared::Erase),
         }
@@ -49,6 +61,10 @@ impl Prepared {
     {
         match self {
             Prepared::Read(_) => Kind::Read,
+            Prepared::ReadSectors { first, count, .. } => Kind::ReadSectors {
+                first: *first,
+                count: *count,
+            },
             Prepared::Program(_) => Kind::Program,
             Prepared::Erase => Kind::Erase,
         }
@@ -58,16 +74,17 @@ impl Prepared {
     pub fn is_change(&self) -> bool
         ensures { (n : ℕ) → (if result then n + 1 else n) ≡ counted (kind_of self.now) n }
     {
-        !matches!(self, Prepared::Read(_))
+        !matches!(self, Prepared::Read(_) | Prepared::ReadSectors { .. })
     }
 
     /// Does a read of a page of an erased block.
     pub(crate) fn read_erased(self) -> Answer
-        requires { kind_of self ≡ kind.Read }
+        requires { operation_of (kind_of self) ≡ operation.Read }
         ensures { (bytes : ℕ) → HasRoom bytes self → result ≡ answer.Read (replicate bytes 255) }
     {
-        let Prepared::Read(mut room) = self else {
-            unreachable!();
+        let mut room = match self {
+            Prepared::Read(room) | Prepared::ReadSectors { room, .. } => room,
+            Prepared::Program(_) | Prepared::Erase => unreachable!(),
         };
         Page::Erased.show(room.as_mut_slice());
         Answer::Read(Bytes::of(room))

@@ -1,5 +1,6 @@
 ghost use Rattle.std.specs.Prelude.{◌≡◌, ◌≢◌, ℕ, ◌<◌, length, IfOk, OnOk, OnErr};
 ghost use Rattle.onfi_timing.specs.declared.kind.Kind.TheVariants as kind;
+ghost use Rattle.onfi_timing.specs.Kinds.{operation_of};
 
 use crate::block::Block;
 use crate::changes::Changes;
@@ -8,7 +9,7 @@ use crate::prepared::Prepared;
 use crate::shape::Shape;
 use onfi_addr::{Geometry, Place};
 use onfi_request::{Answer, Fault, Request};
-use onfi_timing::Kind;
+use onfi_timing::{Kind, Operation};
 use std::alloc::{AllocError, Global};
 use std::collections::HashMap;
 use std::marker::Model;
@@ -80,14 +81,14 @@ impl Store {
     /// # Errors
     /// Where memory was refused. The contents of all blocks are unchanged, whatever is answered.
     pub fn keep(&mut self, alloc: Global, kind: Kind, place: Place) -> Result<(), AllocError>
-        ensures kept { OnOk result (kind ≢ Kind.Read → IsKept place.lun place.block self.new) }
-        ensures read { kind ≡ Kind.Read → self.new ≡ self.old }
+        ensures kept { OnOk result (operation_of kind ≢ Operation.Read → IsKept place.lun place.block self.new) }
+        ensures read { operation_of kind ≡ Operation.Read → self.new ≡ self.old }
         ensures others { (lun block : ℕ) → IsKept lun block self.old → IsKept lun block self.new }
         ensures device { self.new.device ≡ self.old.device }
         ensures blocks { blocks_of self.new ≡ blocks_of self.old }
     {
         let key = key_of(place);
-        if kind == Kind::Read || self.kept.contains_key(&key) {
+        if kind.operation() == Operation::Read || self.kept.contains_key(&key) {
             return Ok(());
         }
         let Shape {
@@ -108,7 +109,7 @@ impl Store {
 
     /// Does a prepared operation at a place, whose block is kept for a program or an erase; this takes no memory.
     pub fn run(&mut self, place: Place, operation: Prepared) -> Answer
-        requires kept { kind_of operation ≢ kind.Read → IsKept place.lun place.block self.old }
+        requires kept { operation_of (kind_of operation) ≢ Operation.Read → IsKept place.lun place.block self.old }
         requires page { place.page < self.old.device.shape.pages }
         requires room { HasRoom self.old.device.shape.bytes operation }
         ensures device { self.new.device ≡ self.old.device }

@@ -2,7 +2,8 @@
 use Rattle.std.specs.Prelude.{◌≡◌, ◌≢◌, ℕ, ◌+◌, ◌<◌, ◌≤◌, ◌==◌, if◌then◌else◌, List, length}
 use Rattle.onfi_addr.specs.Rows.{row_of}
 use Rattle.onfi_addr.specs.declared.geometry.Geometry.{Geometry}
-use Rattle.onfi_timing.specs.declared.kind.Kind.TheVariants.{Read}
+use Rattle.onfi_timing.specs.declared.operation.Operation.TheVariants.{Read}
+use Rattle.onfi_timing.specs.Kinds.{operation_of}
 use Rattle.onfi_request.specs.declared.request.Item.{Item}
 use Rattle.onfi_request.specs.declared.want.Want.{Want}
 use Rattle.onfi_chip.specs.declared.closer.Closer.{Closer}
@@ -45,7 +46,7 @@ AfterDrive Memory old new = new ≡ old
 
 -- the phase is the status of a program or an erase
 abbrev pub IsStatus : Due → Item → Type 0
-IsStatus due item = (length due.group ≤ due.phase) × (item.request.kind ≢ Read)
+IsStatus due item = (length due.group ≤ due.phase) × (operation_of item.request.kind ≢ Read)
 
 -- why a command wasn't taken, as why its phase wasn't run
 abbrev pub fault_of_command : ChipFault → DriveFault

@@ -2,6 +2,7 @@
 
 ghost use Rattle.std.specs.Prelude.{◌≡◌, ◌≢◌, ℕ, ◌+◌, ◌<◌, ◌^◌, List, false, length, replicate, slice_get, IfOk, IfErr, IfSome, IsTrue};
 ghost use Rattle.onfi_addr.specs.Rows.{row_of};
+ghost use Rattle.onfi_timing.specs.Kinds.{operation_of};
 ghost use Rattle.onfi_request.specs.Range.{Fits};
 ghost use Rattle.onfi_chip.specs.declared.post.Post.{Post as APost};
 ghost use Rattle.onfi_chip.specs.Chip.{Chip as ChipState, found_ready, posted, taken};
@@ -22,7 +23,7 @@ use any_lun::AnyLun;
 use onfi_chip::{Chip, ChipFault, Closer, Fetch, PostFault};
 use onfi_flight::Due;
 use onfi_request::{Answer, Item, Request};
-use onfi_timing::Kind;
+use onfi_timing::Operation;
 use std::alloc::{AllocError, Global};
 use std::marker::Model;
 use std::mem;
@@ -186,7 +187,7 @@ impl Lanes {
             → HasDone (posted (C.state chip.old) post left due.now.start) (C.state chip.new)) }
         ensures agree { IfOk result (λ _. LanesAgree (C.state chip.new) self.new) }
         ensures lost { IfErr result (λ fault. IsLost fault (C.state chip.old) (C.state chip.new)) }
-        ensures not_ready { IfErr result (λ fault. fault ≡ PostFault.NotReady → fetch.kind ≢ Kind.Read) }
+        ensures not_ready { IfErr result (λ fault. fault ≡ PostFault.NotReady → operation_of fetch.kind ≢ Operation.Read) }
         ensures others { OthersKept due.now.lun self.old self.new }
     {
         let at = usize::from(due.lun);

@@ -2,7 +2,7 @@
 
 ghost use Rattle.std.specs.Prelude.{◌≡◌, ◌≢◌, ◌+◌, ◌^◌, ◌<◌, ◌≤◌, true, List, IfOk, IfErr};
 ghost use Rattle.onfi_addr.specs.Rows.{row_of};
-ghost use Rattle.onfi_timing.specs.Kinds.{spans_of};
+ghost use Rattle.onfi_timing.specs.Kinds.{operation_of, spans_of};
 ghost use Rattle.onfi_chip.specs.declared.post.Post.{Post as APost};
 ghost use Rattle.onfi_chip.specs.Chip.{posted};
 ghost use Rattle.onfi_chip.specs.Calls.{HasDone, IsLost, IsNextPost};
@@ -15,7 +15,7 @@ use crate::states::{Idle, Phase, Posting};
 use crate::target::Target;
 use onfi_chip::{Chip, Fetch, PostFault, read_post};
 use onfi_request::Answer;
-use onfi_timing::Kind;
+use onfi_timing::Operation;
 
 impl Lun<Posting> {
     /// The next post of the group, at `now`, in ns: the data output of a read, the status of a program or an erase.
@@ -43,7 +43,7 @@ impl Lun<Posting> {
         ensures made { IfOk result (λ told. IsBehind self.number self.state.left (now + (spans_of target.now.timing fetch.kind).post) told.0) }
         ensures others { IfOk result (λ _. OthersStay self.number (C.state chip.old) (C.state chip.new)) }
         ensures fault { IfErr result (λ refused. IsLost refused.fault (C.state chip.old) (C.state chip.new)) }
-        ensures told { IfErr result (λ refused. refused.fault ≡ PostFault.NotReady → fetch.kind ≢ Kind.Read) }
+        ensures told { IfErr result (λ refused. refused.fault ≡ PostFault.NotReady → operation_of fetch.kind ≢ Operation.Read) }
         ensures lun { IfErr result (λ refused. refused.lun ≡ self) }
     {
         let ready = now + target.timing.spans(fetch.kind()).post;
@@ -92,7 +92,7 @@ impl<S: Phase> Lun<S> {
             → IsNextPost (C.state chip.old) now (row_of target.now.geometry fetch.place) post left
             → HasDone (posted (C.state chip.old) post left now) (C.state chip.new)) }
         ensures lost { IfErr result (λ fault. IsLost fault (C.state chip.old) (C.state chip.new)) }
-        ensures not_ready { IfErr result (λ fault. fault ≡ PostFault.NotReady → fetch.kind ≢ Kind.Read) }
+        ensures not_ready { IfErr result (λ fault. fault ≡ PostFault.NotReady → operation_of fetch.kind ≢ Operation.Read) }
     {
         read_post(chip, &target.geometry, now, fetch)
     }

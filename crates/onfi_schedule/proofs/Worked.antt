@@ -2,6 +2,8 @@
 use Rattle.std.proofs.Common.{◌≡◌, ℕ, [], ◌∷◌, true, false, refl, lit≤, lit<}
 use Rattle.onfi_timing.specs.declared.kind.Kind.TheVariants.{Read, Erase}
 use Rattle.onfi_timing.specs.declared.spans.Spans.{Spans}
+use Rattle.onfi_timing.specs.Sectors.{least_post}
+use Rattle.onfi_timing.proofs.Stated.{nones, new_alike}
 use Rattle.onfi_timing.specs.declared.timing.Timing.{Timing}
 use Rattle.onfi_request.specs.declared.want.Want.{Want}
 use Rattle.onfi_group.specs.declared.rules.Rules.{Rules}
@@ -21,8 +23,13 @@ programs = record { cmd = 10800; gap = 600; array = 200100; post = 280; in_range
 abbrev erases : Spans
 erases = record { cmd = 100; gap = 600; array = 1500100; post = 280; in_range = record { cmd_some = lit≤ tt; cmd_short = lit< tt; gap_short = lit< tt; array_short = lit< tt; post_some = lit≤ tt; post_short = lit< tt } }
 
+-- the least post of reads, of which no sectors are stated
+page_post : 11000 ≡ least_post 11000 nones
+unfolding least_post
+page_post = refl
+
 abbrev device : Timing
-device = record { read = reads; program = programs; erase = erases }
+device = record { read = reads; program = programs; erase = erases; sectors = nones; least_read = 11000; long = refl; alike = new_alike reads; least = page_post; low = lit≤ tt }
 
 abbrev both : Rules
 both = record { read = true; write = true; strict = false; plane_bits = 1; few_planes = lit≤ tt }

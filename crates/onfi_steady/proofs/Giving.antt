@@ -8,7 +8,7 @@ use Rattle.std.proofs.lemmas.Option.{slice_get-get_or}
 use Rattle.onfi_request.specs.declared.want.Want.{Want}
 use Rattle.onfi_group.specs.declared.rules.Rules.{Rules}
 use Rattle.onfi_group.specs.Words.{Has}
-use Rattle.onfi_group.specs.Group.{IsStartable, lun_of, kind_of, mask_of, on_block}
+use Rattle.onfi_group.specs.Group.{IsStartable, lun_of, group_operation, mask_of, on_block}
 use Rattle.onfi_problem.specs.declared.lun_state.LunState.TheVariants.{Free, Running}
 use Rattle.onfi_problem.specs.declared.moves.Lun.{Lun}
 use Rattle.onfi_problem.specs.declared.moves.Move.{Move as KeptMove}
@@ -27,7 +27,7 @@ use Rattle.onfi_check.specs.First.{wants_started}
 use Rattle.onfi_bound.proofs.Steps.{waiting_yes, waiting_no, no_want}
 use Rattle.onfi_steady.specs.declared.given.Given.{Given}
 use Rattle.onfi_steady.specs.Order.{is_less, GoesBefore}
-use Rattle.onfi_steady.specs.Rule.{running, running_rank, group_of, oldest, kind_rank, own_numbers, phase_rank, IsOwn}
+use Rattle.onfi_steady.specs.Rule.{running, running_rank, group_of, oldest, operation_rank, own_numbers, phase_rank, IsOwn}
 use Rattle.onfi_steady.specs.Choosing.{IsOrFollows, IsOwnAmong, AreOwn, own_at, IsGiven, AreGiven, given_at, given_of}
 use Rattle.onfi_steady.proofs.OwnMoves.{has_move}
 
@@ -155,7 +155,7 @@ module _ (p : Problem) (m : Move) (t : ℕ) (ip : IsProblem p) (im : IsMove p m)
   rank_stays l (Start g) s e = refl
 
   numbers_stay : (l : ℕ) (n : Move) → SameAt p q l → move_lun n ≡ l → own_numbers p n ≡ own_numbers q n
-  numbers_stay l n s e = ap (λ g. kind_rank (kind_of g) ∷ oldest g ∷ (4 - length g) ∷ []) (group_stays l n s e)
+  numbers_stay l n s e = ap (λ g. operation_rank (group_operation g) ∷ oldest g ∷ (4 - length g) ∷ []) (group_stays l n s e)
 
   startable_left : (g : List Want) → IsMove q (Start g) → IsStartable p.rules (left_by m p.wants) g
   startable_left g (since, at, st) = subst (λ z. IsStartable z (left_by m p.wants) g) (sym rules_left) (subst (λ z. IsStartable q.rules z g) wants_left st)

@@ -7,7 +7,7 @@ use Rattle.std.proofs.lemmas.Bool.{cases_Bool, lt-ltb, false≢true}
 use Rattle.onfi_timing.specs.declared.timing.Timing.{Timing}
 use Rattle.onfi_timing.specs.Phases.{phase_length}
 use Rattle.onfi_request.specs.declared.want.Want.{Want}
-use Rattle.onfi_group.specs.Group.{group_spans, kind_of, lun_of}
+use Rattle.onfi_group.specs.Group.{group_operation, group_spans, lun_of}
 use Rattle.onfi_problem.specs.declared.lun_state.LunState.{LunState}
 use Rattle.onfi_problem.specs.declared.lun_state.LunState.TheVariants.{Free, Running}
 use Rattle.onfi_problem.specs.Problem.{Problem}
@@ -70,7 +70,7 @@ module _ (timing : Timing) (from : ℕ) (luns : List LunState) (books : Books) (
   p = channel timing from luns books
 
   pub begin_numbers : (since : ℕ) (group : List Want) → 1 ≤ length group → slice_get luns (lun_of group) ≡ Some (Free since) →
-      numbers_of (record { kept = is_kept kept (max from since) (group_spans timing group).cmd; start = max from since; rank = start_rank (kind_of group); smaller = 4 - length group; oldest = oldest group }) ≡ phase_numbers p (Start group)
+      numbers_of (record { kept = is_kept kept (max from since) (group_spans timing group).cmd; start = max from since; rank = start_rank (group_operation group); smaller = 4 - length group; oldest = oldest group }) ≡ phase_numbers p (Start group)
   begin_numbers since group some state =
       let at : earliest p (Start group) ≡ max from since = ap (λ z. max from (free_from z)) state in
       let cmd : phase_length (group_spans timing group) (length group) 0 ≡ (group_spans timing group).cmd = rw (lt-ltb 0 (length group) (omega arith)) refl in
@@ -84,7 +84,7 @@ module _ (timing : Timing) (from : ℕ) (luns : List LunState) (books : Books) (
   going lun o = one_of (if keeps_bus_at p o then false else list_any (keeps_bus_before (next_ran p lun o (max from (free_from o))).bus_free p) luns) ∷ max from (free_from o) ∷ running_rank o ∷ 4 ∷ oldest (running o) ∷ []
 
   pub running_numbers : (lun : ℕ) (group : List Want) (next ready : ℕ) → slice_get luns lun ≡ Some (Running group next ready) →
-      numbers_of (record { kept = (if keeps_bus p (Running group next ready) then false else is_kept kept (max from ready) (phase_length (group_spans timing group) (length group) next)); start = max from ready; rank = (if nat_lt next (length group) then 0 else post_rank (kind_of group)); smaller = 4; oldest = oldest group }) ≡ phase_numbers p (Next lun)
+      numbers_of (record { kept = (if keeps_bus p (Running group next ready) then false else is_kept kept (max from ready) (phase_length (group_spans timing group) (length group) next)); start = max from ready; rank = (if nat_lt next (length group) then 0 else post_rank (group_operation group)); smaller = 4; oldest = oldest group }) ≡ phase_numbers p (Next lun)
   running_numbers lun group next ready state =
       same_five _ _ _ _ _ _ _ (ap (λ z. one_of (if keeps_bus p (Running group next ready) then false else z)) (kept_is p kept (max from ready) (phase_length (group_spans timing group) (length group) next) by)) refl
       ∙ ap (going lun) (sym state)

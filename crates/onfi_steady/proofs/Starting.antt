@@ -4,8 +4,10 @@ use Rattle.std.specs.Prelude.{◌==◌, IsTrue}
 use Rattle.std.specs.List.{AllByRecursion as All, cons_option, filter_map, find}
 use Rattle.std.specs.Option.{option_map}
 use Rattle.std.proofs.lemmas.Bool.{cases_Bool, eq-eqb, eqb-true, false≢true}
-use Rattle.onfi_timing.specs.declared.kind.Kind.{Kind}
 use Rattle.onfi_timing.specs.declared.kind.Kind.TheVariants.{Read, Program, Erase}
+use Rattle.onfi_timing.specs.declared.operation.Operation.{Operation}
+use Rattle.onfi_timing.specs.declared.operation.Operation.TheVariants.{Read as Reads, Program as Programs, Erase as Erases}
+use Rattle.onfi_timing.specs.Kinds.{operation_of}
 use Rattle.onfi_request.specs.declared.want.Want.{Want}
 use Rattle.onfi_group.specs.declared.rules.Rules.{Rules}
 use Rattle.onfi_group.specs.Words.{Has, Pairs}
@@ -13,7 +15,7 @@ use Rattle.onfi_group.specs.Group.{IsFirst, IsGroup, IsStartable, above_planes, 
 use Rattle.onfi_group.specs.Joining.{GoesWith}
 use Rattle.onfi_group.proofs.Lists.{All-each, All-has}
 use Rattle.onfi_steady.specs.declared.waiter.Waiter.{Waiter}
-use Rattle.onfi_steady.specs.Rule.{kind_rank}
+use Rattle.onfi_steady.specs.Rule.{operation_rank}
 use Rattle.onfi_steady.specs.Waiting.{want_of, wants_of}
 use Rattle.onfi_steady.specs.Offer.{erase_group, goes_with, group_with, is_due, is_kind, is_mate, is_same_page, is_same_row, member_on, or_else, own_group, ready_on, turned_to}
 use Rattle.onfi_steady.proofs.Firsts.{ready_is}
@@ -56,27 +58,27 @@ none_ready (w ∷ ws) h =
     let due = or_else_none (find is_due (w ∷ ws)) _ h in
     let read = or_else_none (find (is_kind Read) (w ∷ ws)) _ due.1 in
     let program = or_else_none (find (is_kind Program) (w ∷ ws)) _ read.1 in
-    absurd (some_kind w.want.kind (not_found (is_kind Read) w ws read.0) (not_found (is_kind Program) w ws program.0) (not_found (is_kind Erase) w ws program.1))
+    absurd (some_operation (operation_of w.want.kind) (not_found (is_kind Read) w ws read.0) (not_found (is_kind Program) w ws program.0) (not_found (is_kind Erase) w ws program.1))
   where
-    some_kind : (k : Kind) → (kind_rank k == 0) ≡ false → (kind_rank k == 1) ≡ false → (kind_rank k == 2) ≡ false → ⊥
-    some_kind Read a b c = false≢true (sym a)
-    some_kind Program a b c = false≢true (sym b)
-    some_kind Erase a b c = false≢true (sym c)
+    some_operation : (o : Operation) → (operation_rank o == 0) ≡ false → (operation_rank o == 1) ≡ false → (operation_rank o == 2) ≡ false → ⊥
+    some_operation Reads a b c = false≢true (sym a)
+    some_operation Programs a b c = false≢true (sym b)
+    some_operation Erases a b c = false≢true (sym c)
 
-same_kind : (a b : Kind) → (kind_rank a == kind_rank b) ≡ true → a ≡ b
-same_kind Read Read h = refl
-same_kind Program Program h = refl
-same_kind Erase Erase h = refl
-same_kind Read Program h = absurd (false≢true h)
-same_kind Read Erase h = absurd (false≢true h)
-same_kind Program Read h = absurd (false≢true h)
-same_kind Program Erase h = absurd (false≢true h)
-same_kind Erase Read h = absurd (false≢true h)
-same_kind Erase Program h = absurd (false≢true h)
+same_operation : (a b : Operation) → (operation_rank a == operation_rank b) ≡ true → a ≡ b
+same_operation Reads Reads h = refl
+same_operation Programs Programs h = refl
+same_operation Erases Erases h = refl
+same_operation Reads Programs h = absurd (false≢true h)
+same_operation Reads Erases h = absurd (false≢true h)
+same_operation Programs Reads h = absurd (false≢true h)
+same_operation Programs Erases h = absurd (false≢true h)
+same_operation Erases Reads h = absurd (false≢true h)
+same_operation Erases Programs h = absurd (false≢true h)
 
 -- members that share with a request what members share are a group
 all_go : (rules : Rules) (head : Want) (g : List Want) → 1 ≤ length g → length g ≤ 4 → All (GoesWith rules head) g →
-    Pairs (λ a b. a.plane < b.plane) g → (1 < length g → IsTrue (may_group rules head.kind)) → IsGroup rules g
+    Pairs (λ a b. a.plane < b.plane) g → (1 < length g → IsTrue (may_group rules (operation_of head.kind))) → IsGroup rules g
 all_go rules head [] some few go rises rule = absurd (omega arith)
 all_go rules head (y ∷ ys) some few go rises rule =
     let each = λ (x : Want) (h : Has (y ∷ ys) x). All-has (GoesWith rules head) (y ∷ ys) x go h in
@@ -84,11 +86,11 @@ all_go rules head (y ∷ ys) some few go rises rule =
     record {
       some = some;
       few = few;
-      kind = All-each (λ m. m.kind ≡ y.kind) (y ∷ ys) (λ x h. (each x h).kind ∙ sym own.kind);
+      operation = All-each (λ m. operation_of m.kind ≡ operation_of y.kind) (y ∷ ys) (λ x h. (each x h).operation ∙ sym own.operation);
       lun = All-each (λ m. m.lun ≡ y.lun) (y ∷ ys) (λ x h. (each x h).lun ∙ sym own.lun);
       planes = rises;
-      page = λ n. All-each (λ m. m.page ≡ y.page) (y ∷ ys) (λ x h. (each x h).page (λ e. n (own.kind ∙ e)) ∙ sym (own.page (λ e. n (own.kind ∙ e))));
-      rule = λ several. subst (λ k. IsTrue (may_group rules k)) (sym own.kind) (rule several);
+      page = λ n. All-each (λ m. m.page ≡ y.page) (y ∷ ys) (λ x h. (each x h).page (λ e. n (own.operation ∙ e)) ∙ sym (own.page (λ e. n (own.operation ∙ e))));
+      rule = λ several. subst (λ o. IsTrue (may_group rules o)) (sym own.operation) (rule several);
       strict = λ s. All-each (λ m. above_planes rules m ≡ above_planes rules y) (y ∷ ys) (λ x h. (each x h).strict s ∙ sym (own.strict s));
     }
 
@@ -165,28 +167,28 @@ module _ (rules : Rules) (waiting : List Waiter) (lun : ℕ) (small : All (λ w.
       pub plane : m.plane ≡ p
       pub goes : GoesWith rules head.want m
       pub first : IsFirst (wants_of waiting) m
-      pub single : may_group rules head.want.kind ≡ false → m ≡ head.want
+      pub single : may_group rules (operation_of head.want.kind) ≡ false → m ≡ head.want
 
     own_member : (p : ℕ) → p ≡ head.want.plane → IsMember p head.want
     own_member p e = record {
       plane = sym e;
-      goes = record { kind = refl; lun = refl; page = λ n. refl; strict = λ y. refl };
+      goes = record { operation = refl; lun = refl; page = λ n. refl; strict = λ y. refl };
       first = (ready_is waiting lun head has).first;
       single = λ n. refl;
     }
 
     goes_by : (m : Want) → m.lun ≡ head.want.lun → goes_with rules head.want m ≡ true → GoesWith rules head.want m
-    goes_by m at h = elim (cases_Bool (kind_rank m.kind == kind_rank head.want.kind)) [
+    goes_by m at h = elim (cases_Bool (operation_rank (operation_of m.kind) == operation_rank (operation_of head.want.kind))) [
       | inl k ↦ elim (cases_Bool (is_same_page head.want m)) [
-        | inl q ↦ (let r : is_same_row rules head.want m ≡ true = rw (k, q) at h in record { kind = same_kind m.kind head.want.kind k; lun = at; page = λ n. by_page n q; strict = λ y. by_row y r })
+        | inl q ↦ (let r : is_same_row rules head.want m ≡ true = rw (k, q) at h in record { operation = same_operation (operation_of m.kind) (operation_of head.want.kind) k; lun = at; page = λ n. by_page n q; strict = λ y. by_row y r })
         | inr q ↦ (let bad : false ≡ true = rw (k, q) at h in absurd (false≢true bad))
       ]
       | inr k ↦ (let bad : false ≡ true = rw k at h in absurd (false≢true bad))
     ]
       where
-        by_page : head.want.kind ≢ Erase → is_same_page head.want m ≡ true → m.page ≡ head.want.page
-        by_page n q = elim (cases_Bool (kind_rank head.want.kind == kind_rank Erase)) [
-          | inl e ↦ absurd (n (same_kind head.want.kind Erase e))
+        by_page : operation_of head.want.kind ≢ Erases → is_same_page head.want m ≡ true → m.page ≡ head.want.page
+        by_page n q = elim (cases_Bool (operation_rank (operation_of head.want.kind) == operation_rank Erases)) [
+          | inl e ↦ absurd (n (same_operation (operation_of head.want.kind) Erases e))
           | inr e ↦ (let r : (m.page == head.want.page) ≡ true = rw e at q in eqb-true m.page head.want.page r)
         ]
 
@@ -198,7 +200,7 @@ module _ (rules : Rules) (waiting : List Waiter) (lun : ℕ) (small : All (λ w.
 
     mate_member : (p : ℕ) (v : Waiter) → Has ready v → is_mate rules head.want p v ≡ true → IsMember p v.want
     mate_member p v i h = elim (cases_Bool (v.want.plane == p)) [
-      | inl k ↦ elim (cases_Bool (may_group rules head.want.kind)) [
+      | inl k ↦ elim (cases_Bool (may_group rules (operation_of head.want.kind))) [
         | inl q ↦ (
             let r : goes_with rules head.want v.want ≡ true = rw (k, q) at h in
             let is = ready_is waiting lun v i in
@@ -234,7 +236,7 @@ module _ (rules : Rules) (waiting : List Waiter) (lun : ℕ) (small : All (λ w.
     some [] h = absurd h
     some (x ∷ xs) h = omega arith
 
-    one_alone : may_group rules head.want.kind ≡ false → (g : List Want) → Pairs (λ a b. a.plane < b.plane) g → All (λ m. m ≡ head.want) g → 1 < length g → ⊥
+    one_alone : may_group rules (operation_of head.want.kind) ≡ false → (g : List Want) → Pairs (λ a b. a.plane < b.plane) g → All (λ m. m ≡ head.want) g → 1 < length g → ⊥
     one_alone n [] rise same several = omega arith
     one_alone n (x ∷ []) rise same several = omega arith
     one_alone n (x ∷ y ∷ ys) rise same several =
@@ -249,8 +251,8 @@ module _ (rules : Rules) (waiting : List Waiter) (lun : ℕ) (small : All (λ w.
     group_rises : Pairs (λ a b. a.plane < b.plane) group
     group_rises = rises on (λ p m e. (member p m e).plane) planes planes_rise
 
-    rule : 1 < length group → IsTrue (may_group rules head.want.kind)
-    rule several = elim (cases_Bool (may_group rules head.want.kind)) [
+    rule : 1 < length group → IsTrue (may_group rules (operation_of head.want.kind))
+    rule several = elim (cases_Bool (may_group rules (operation_of head.want.kind))) [
       | inl k ↦ k
       | inr k ↦ absurd (one_alone k group group_rises (All-each (λ m. m ≡ head.want) group (λ m h. (each_member m h).1.single k)) several)
     ]

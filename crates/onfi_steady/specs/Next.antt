@@ -1,11 +1,12 @@
 -- The way W: of each LUN its group, of all LUNs the phase that goes first.
 use Rattle.std.specs.Prelude.{◌≡◌, ◌≢◌, ◌⊎◌, ℕ, ◌+◌, ◌<◌, ◌≤◌, ◌==◌, nat_lt, not, if◌then◌else◌, Bool, true, false, List, [], ◌∷◌, length, Option, Some, None, slice_get}
 use Rattle.std.specs.List.{AllByRecursion as Each, find, list_any}
-use Rattle.onfi_timing.specs.declared.kind.Kind.TheVariants.{Read, Erase}
+use Rattle.onfi_timing.specs.declared.kind.Kind.TheVariants.{Read}
+use Rattle.onfi_timing.specs.declared.operation.Operation.TheVariants.{Erase}
 use Rattle.onfi_request.specs.declared.want.Want.{Want}
 use Rattle.onfi_group.specs.declared.rules.Rules.{Rules}
 use Rattle.onfi_group.specs.Words.{Has}
-use Rattle.onfi_group.specs.Group.{kind_of}
+use Rattle.onfi_group.specs.Group.{group_operation}
 use Rattle.onfi_problem.specs.declared.lun_state.LunState.{LunState}
 use Rattle.onfi_problem.specs.declared.lun_state.LunState.TheVariants.{Free, Running}
 use Rattle.onfi_problem.specs.Problem.{Problem}
@@ -13,7 +14,7 @@ use Rattle.onfi_problem.specs.Moves.{Move, Next, Start, IsMove, earliest, move_l
 use Rattle.onfi_steady.specs.declared.waiter.Waiter.{Waiter}
 use Rattle.onfi_steady.specs.declared.next.NextPhase.{NextPhase}
 use Rattle.onfi_steady.specs.Order.{GoesBefore}
-use Rattle.onfi_steady.specs.Rule.{kind_rank, phase_numbers}
+use Rattle.onfi_steady.specs.Rule.{operation_rank, phase_numbers}
 use Rattle.onfi_steady.specs.Waiting.{Books}
 use Rattle.onfi_steady.specs.Offer.{ready_on, on_lun, own_group, erase_group, is_open, is_kind, is_due}
 
@@ -22,7 +23,7 @@ use Rattle.onfi_steady.specs.Offer.{ready_on, on_lun, own_group, erase_group, is
 abbrev pub has_work : Problem → Bool → LunState → Bool
 has_work p reads (Free since) = reads
 has_work p reads (Running group next ready) =
-    if nat_lt next (length group) then not (kind_rank (kind_of group) == kind_rank Erase) else not (nat_lt (p.bus_free + p.timing.program.array) ready)
+    if nat_lt next (length group) then not (operation_rank (group_operation group) == operation_rank Erase) else not (nat_lt (p.bus_free + p.timing.program.array) ready)
 
 -- one of these LUNs has, of which the first has that number
 abbrev pub have_work : Books → Problem → ℕ → List LunState → Bool

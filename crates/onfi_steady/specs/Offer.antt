@@ -4,12 +4,15 @@ use Rattle.std.specs.List.{filter, filter_map, find, list_any}
 use Rattle.std.specs.Option.{option_map}
 use Rattle.onfi_timing.specs.declared.kind.Kind.{Kind}
 use Rattle.onfi_timing.specs.declared.kind.Kind.TheVariants.{Read, Program, Erase}
+use Rattle.onfi_timing.specs.declared.operation.Operation.{Operation}
+use Rattle.onfi_timing.specs.declared.operation.Operation.TheVariants.{Erase as Erases}
+use Rattle.onfi_timing.specs.Kinds.{operation_of}
 use Rattle.onfi_request.specs.declared.want.Want.{Want}
 use Rattle.onfi_group.specs.declared.rules.Rules.{Rules}
 use Rattle.onfi_group.specs.Group.{above_planes, may_group, on_block}
 use Rattle.onfi_steady.specs.declared.waiter.Waiter.{Waiter}
 use Rattle.onfi_steady.specs.declared.offer.Offer.{Offer}
-use Rattle.onfi_steady.specs.Rule.{kind_rank}
+use Rattle.onfi_steady.specs.Rule.{operation_rank}
 use Rattle.onfi_steady.specs.Waiting.{is_on, want_of}
 
 -- those that may begin: without what waits for another one of its block
@@ -25,15 +28,16 @@ abbrev pub ready_on : ℕ → List Waiter → List Waiter
 ready_on lun waiting = firsts (on_lun lun waiting)
 
 -- so many groups with a later request may pass over a request
-abbrev pub turns_of : Kind → ℕ
-turns_of Erase = 512
+abbrev pub turns_of : Operation → ℕ
+turns_of Erases = 512
 turns_of other = 128
 
 abbrev pub is_due : Waiter → Bool
-is_due w = not (nat_lt w.passed (turns_of w.want.kind))
+is_due w = not (nat_lt w.passed (turns_of (operation_of w.want.kind)))
 
+-- it has the LUN do what that kind does
 abbrev pub is_kind : Kind → Waiter → Bool
-is_kind kind w = kind_rank w.want.kind == kind_rank kind
+is_kind kind w = operation_rank (operation_of w.want.kind) == operation_rank (operation_of kind)
 
 abbrev pub or_else : Option Waiter → Option Waiter → Option Waiter
 or_else None other = other
@@ -44,17 +48,17 @@ abbrev pub turned_to : List Waiter → Option Waiter
 turned_to ready = or_else (find is_due ready) (or_else (find (is_kind Read) ready) (or_else (find (is_kind Program) ready) (find (is_kind Erase) ready)))
 
 abbrev pub is_same_page : Want → Want → Bool
-is_same_page head m = if kind_rank head.kind == kind_rank Erase then true else m.page == head.page
+is_same_page head m = if operation_rank (operation_of head.kind) == operation_rank Erases then true else m.page == head.page
 
 abbrev pub is_same_row : Rules → Want → Want → Bool
 is_same_row rules head m = if rules.strict then above_planes rules m == above_planes rules head else true
 
 -- the two may run as one, were they on two planes of one LUN
 abbrev pub goes_with : Rules → Want → Want → Bool
-goes_with rules head m = if kind_rank m.kind == kind_rank head.kind then (if is_same_page head m then is_same_row rules head m else false) else false
+goes_with rules head m = if operation_rank (operation_of m.kind) == operation_rank (operation_of head.kind) then (if is_same_page head m then is_same_row rules head m else false) else false
 
 abbrev pub is_mate : Rules → Want → ℕ → Waiter → Bool
-is_mate rules head plane w = if w.want.plane == plane then (if may_group rules head.kind then goes_with rules head w.want else false) else false
+is_mate rules head plane w = if w.want.plane == plane then (if may_group rules (operation_of head.kind) then goes_with rules head w.want else false) else false
 
 -- what of a request's group is on a plane: the request itself, or the oldest that may join it there
 abbrev pub member_on : Rules → List Waiter → Want → ℕ → Option Want

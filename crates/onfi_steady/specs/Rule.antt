@@ -1,10 +1,10 @@
 -- The rule: of each LUN its group, of all LUNs the phase that starts soonest.
 use Rattle.std.specs.Prelude.{◌≡◌, ℕ, ◌+◌, ◌-◌, ◌⊎◌, max, min, nat_lt, if◌then◌else◌, Bool, true, false, List, [], ◌∷◌, length, Option, Some, None, slice_get}
 use Rattle.std.specs.List.{list_any}
-use Rattle.onfi_timing.specs.declared.kind.Kind.{Kind}
-use Rattle.onfi_timing.specs.declared.kind.Kind.TheVariants.{Read, Program, Erase}
+use Rattle.onfi_timing.specs.declared.operation.Operation.{Operation}
+use Rattle.onfi_timing.specs.declared.operation.Operation.TheVariants.{Read, Program, Erase}
 use Rattle.onfi_request.specs.declared.want.Want.{Want}
-use Rattle.onfi_group.specs.Group.{kind_of, group_spans}
+use Rattle.onfi_group.specs.Group.{group_operation, group_spans}
 use Rattle.onfi_problem.specs.declared.lun_state.LunState.{LunState}
 use Rattle.onfi_problem.specs.declared.lun_state.LunState.TheVariants.{Free, Running}
 use Rattle.onfi_problem.specs.Problem.{Problem}
@@ -39,14 +39,14 @@ abbrev pub oldest : List Want → ℕ
 oldest group = least_number (first_number group) group
 
 -- a LUN reads before it programs, and programs before it erases
-abbrev pub kind_rank : Kind → ℕ
-kind_rank Read = 0
-kind_rank Program = 1
-kind_rank Erase = 2
+abbrev pub operation_rank : Operation → ℕ
+operation_rank Read = 0
+operation_rank Program = 1
+operation_rank Erase = 2
 
--- of a LUN's groups the one of its first kind with the oldest request, of these the largest
+-- of a LUN's groups the one of its first operation with the oldest request, of these the largest
 abbrev pub own_numbers : Problem → Move → List ℕ
-own_numbers p m = let group = group_of p m in kind_rank (kind_of group) ∷ oldest group ∷ (4 - length group) ∷ []
+own_numbers p m = let group = group_of p m in operation_rank (group_operation group) ∷ oldest group ∷ (4 - length group) ∷ []
 
 -- m is of the group that its LUN gives
 pub record IsOwn (p : Problem) (m : Move) : Type 0 where
@@ -77,24 +77,24 @@ abbrev pub is_kept_from : Problem → Move → Bool
 is_kept_from p m = if move_keeps_bus p m then false else list_any (keeps_bus_before (after p m).bus_free p) p.luns
 
 -- what begins: a read before an erase before a program, whose data holds the bus longest
-abbrev pub start_rank : Kind → ℕ
+abbrev pub start_rank : Operation → ℕ
 start_rank Read = 2
 start_rank Erase = 3
 start_rank Program = 5
 
 -- a status before these, a data output between the last two
-abbrev pub post_rank : Kind → ℕ
+abbrev pub post_rank : Operation → ℕ
 post_rank Read = 4
 post_rank other = 1
 
 -- what goes on with its commands before all
 abbrev pub running_rank : Option LunState → ℕ
-running_rank (Some (Running group next ready)) = if nat_lt next (length group) then 0 else post_rank (kind_of group)
+running_rank (Some (Running group next ready)) = if nat_lt next (length group) then 0 else post_rank (group_operation group)
 running_rank other = 0
 
 abbrev pub phase_rank : Problem → Move → ℕ
 phase_rank p (Next lun) = running_rank (slice_get p.luns lun)
-phase_rank p (Start group) = start_rank (kind_of group)
+phase_rank p (Start group) = start_rank (group_operation group)
 
 -- of all LUNs the phase that starts soonest, after all others where the bus is kept from it; of equals by what it does; then
 -- the larger group that begins; then the one with the oldest request

@@ -10,10 +10,10 @@ ghost use Rattle.onfi_steady.specs.Next.{any_work, has_work};
 ghost use Rattle.onfi_steady.specs.Kept.{AreOffered, IsKeptFrom, earlier, is_kept, kept_with};
 
 use crate::offer::Offer;
-use crate::own::kind_rank;
+use crate::own::operation_rank;
 use onfi_group::Group;
 use onfi_problem::LunState;
-use onfi_timing::{Kind, Timing};
+use onfi_timing::{Operation, Timing};
 
 /// Whether a LUN has work: its group is in its commands and is no erase, or its array ends within that of a program; or it runs
 /// nothing, and a read waits for it.
@@ -37,7 +37,7 @@ fn has_work(timing: &Timing, from: u64, reads: bool, state: &LunState) -> bool
         LunState::Free { .. } => reads,
         LunState::Running { group, next, ready } => {
             if (*next as usize) < group.len() {
-                kind_rank(group.kind()) != kind_rank(Kind::Erase)
+                operation_rank(group.operation()) != operation_rank(Operation::Erase)
             } else {
                 ready.saturating_sub(from) <= timing.program.array
             }

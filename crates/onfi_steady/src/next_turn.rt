@@ -5,7 +5,7 @@ ghost use Rattle.onfi_timing.specs.declared.kind.Kind.{Kind as AnyKind};
 ghost use Rattle.onfi_problem.specs.declared.lun_state.LunState.{LunState as AnyState};
 ghost use Rattle.onfi_problem.specs.declared.lun_state.LunState.TheVariants.{Free, Running};
 ghost use Rattle.onfi_problem.specs.Moves.{Next, Start};
-ghost use Rattle.onfi_group.specs.Group.{kind_of, lun_of};
+ghost use Rattle.onfi_group.specs.Group.{group_operation, kind_of, lun_of};
 ghost use Rattle.onfi_steady.specs.Rule.{phase_numbers, post_rank};
 ghost use Rattle.onfi_steady.specs.Choosing.{numbers_of};
 ghost use Rattle.onfi_steady.specs.Waiting.{Books, channel};
@@ -52,12 +52,12 @@ fn is_kept_beside(keeps: bool, kept: Option<u64>, start: u64, length: u64) -> bo
 }
 
 fn rank_of(group: &Group, next: u8) -> u8
-    ensures { result ≡ (if nat_lt next (length group.now) then 0 else post_rank (kind_of group.now)) }
+    ensures { result ≡ (if nat_lt next (length group.now) then 0 else post_rank (group_operation group.now)) }
 {
     if (next as usize) < group.len() {
         0
     } else {
-        post_rank(group.kind())
+        post_rank(group.operation())
     }
 }
 
@@ -80,7 +80,7 @@ pub fn turn_of_begin(
     Turn {
         kept: is_kept(kept, start, timing.spans(kind).cmd),
         start,
-        rank: start_rank(kind),
+        rank: start_rank(kind.operation()),
         smaller: 4 - members.len(),
         oldest: oldest(members),
     }

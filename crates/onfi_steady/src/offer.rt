@@ -7,14 +7,14 @@ ghost use Rattle.onfi_group.specs.Group.{may_group};
 ghost use Rattle.onfi_steady.specs.Kept.{IsNothing, IsOfferOn};
 ghost use Rattle.onfi_steady.specs.Offer.{IsOffer, erase_group, turned_to, group_with, goes_with, is_mate, is_on_last_plane, is_same_page, is_same_row, is_due as is_due_waiter, is_kind as is_kind_of, may_grow, member_on};
 
-use crate::own::kind_rank;
+use crate::own::operation_rank;
 use crate::ready::list_ready;
 use crate::waiter::Waiter;
 use arrayvec::ArrayVec;
 use onfi_group::Rules;
 use onfi_problem::LunState;
 use onfi_request::Want;
-use onfi_timing::Kind;
+use onfi_timing::{Kind, Operation};
 
 /// What a LUN would begin; a list without members begins nothing.
 #[derive(Drop)]
@@ -185,17 +185,17 @@ fn is_mate(rules: &Rules, head: &Want, plane: u8, waiter: &Waiter) -> bool
     ensures { result ≡ is_mate rules.now head.now plane waiter.now }
 {
     waiter.want.plane == plane
-        && may_group(rules, head.kind)
+        && may_group(rules, head.kind.operation())
         && goes_with(rules, head, &waiter.want)
 }
 
-// Whether several requests of that kind may run as one.
-fn may_group(rules: &Rules, kind: Kind) -> bool
-    ensures { result ≡ may_group rules.now kind }
+// Whether several requests of that operation may run as one.
+fn may_group(rules: &Rules, operation: Operation) -> bool
+    ensures { result ≡ may_group rules.now operation }
 {
-    match kind {
-        Kind::Read => rules.read,
-        Kind::Program | Kind::Erase => rules.write,
+    match operation {
+        Operation::Read => rules.read,
+        Operation::Program | Operation::Erase => rules.write,
     }
 }
 
@@ -203,7 +203,7 @@ fn may_group(rules: &Rules, kind: Kind) -> bool
 fn goes_with(rules: &Rules, head: &Want, member: &Want) -> bool
     ensures { result ≡ goes_with rules.now head.now member.now }
 {
-    kind_rank(member.kind) == kind_rank(head.kind)
+    operation_rank(member.kind.operation()) == operation_rank(head.kind.operation())
         && is_same_page(head, member)
         && is_same_row(rules, head, member)
 }
@@ -211,7 +211,8 @@ fn goes_with(rules: &Rules, head: &Want, member: &Want) -> bool
 fn is_same_page(head: &Want, member: &Want) -> bool
     ensures { result ≡ is_same_page head.now member.now }
 {
-    kind_rank(head.kind) == kind_rank(Kind::Erase) || member.page == head.page
+    operation_rank(head.kind.operation()) == operation_rank(Operation::Erase)
+        || member.page == head.page
 }
 
 fn is_same_row(rules: &Rules, head: &Want, member: &Want) -> bool

@@ -2,18 +2,18 @@
 
 ghost use Rattle.std.specs.Prelude.{◌≡◌, ◌≤◌, ◌<◌, IfSome, length};
 ghost use Rattle.std.specs.List.{AllByRecursion as Each};
-ghost use Rattle.onfi_timing.specs.declared.kind.Kind.{Kind as AnyKind};
+ghost use Rattle.onfi_timing.specs.declared.operation.Operation.{Operation as AnyOperation};
 ghost use Rattle.onfi_problem.specs.Moves.{IsMove, AreMoves};
 ghost use Rattle.onfi_problem.specs.Position.{move_of, moves_of};
 ghost use Rattle.onfi_problem.specs.Starts.{IsNamed};
 ghost use Rattle.onfi_steady.specs.Order.{is_less};
-ghost use Rattle.onfi_steady.specs.Rule.{first_number, group_of, kind_rank, oldest, own_numbers};
+ghost use Rattle.onfi_steady.specs.Rule.{first_number, group_of, oldest, operation_rank, own_numbers};
 ghost use Rattle.onfi_steady.specs.Choosing.{AreOwn, own_of};
 
 use onfi_group::Group;
 use onfi_problem::{Move, Problem};
 use onfi_request::Want;
-use onfi_timing::Kind;
+use onfi_timing::Operation;
 
 /// For each LUN the move of the group that it gives; None where it has no move.
 pub fn own_moves(problem: &Problem, moves: &[Move]) -> [Option<Move>; 8]
@@ -56,7 +56,10 @@ fn is_given_before(problem: &Problem, m: Move, other: Move) -> bool
 {
     let group = group_of(problem, m);
     let than = group_of(problem, other);
-    let (rank, than_rank) = (kind_rank(group.kind()), kind_rank(than.kind()));
+    let (rank, than_rank) = (
+        operation_rank(group.operation()),
+        operation_rank(than.operation()),
+    );
     if rank != than_rank {
         return rank < than_rank;
     }
@@ -80,13 +83,13 @@ pub fn group_of(problem: &Problem, m: Move) -> &Group
 }
 
 /// A LUN reads before it programs, and programs before it erases.
-pub fn kind_rank(kind: Kind) -> u8
-    ensures { result ≡ kind_rank kind }
+pub fn operation_rank(operation: Operation) -> u8
+    ensures { result ≡ operation_rank operation }
 {
-    match kind {
-        Kind::Read => 0,
-        Kind::Program => 1,
-        Kind::Erase => 2,
+    match operation {
+        Operation::Read => 0,
+        Operation::Program => 1,
+        Operation::Erase => 2,
     }
 }
 

@@ -2,7 +2,7 @@
 
 ghost use Rattle.std.specs.Prelude.{◌≡◌, ℕ, ◌^◌, ◌<◌, ◌≤◌, nat_lt, length};
 ghost use Rattle.std.specs.List.{list_any};
-ghost use Rattle.onfi_timing.specs.declared.kind.Kind.{Kind as AnyKind};
+ghost use Rattle.onfi_timing.specs.declared.operation.Operation.{Operation as AnyOperation};
 ghost use Rattle.onfi_problem.specs.Moves.{IsMove, move_lun, Next};
 ghost use Rattle.onfi_problem.specs.Position.{move_of, lun_named, state_of};
 ghost use Rattle.onfi_check.specs.First.{wants_started};
@@ -12,7 +12,7 @@ ghost use Rattle.onfi_steady.specs.Choosing.{given_of, numbers_of};
 
 use crate::given::Given;
 use onfi_problem::{Lun, Move, Problem};
-use onfi_timing::Kind;
+use onfi_timing::Operation;
 
 /// How soon a phase goes, compared number by number.
 #[derive(Clone, Copy)]
@@ -128,7 +128,7 @@ pub fn phase_rank(problem: &Problem, m: Move) -> u8
 {
     match m {
         Move::Next { lun } => running_rank(problem, lun),
-        Move::Start { place, .. } => start_rank(problem.group(place).kind()),
+        Move::Start { place, .. } => start_rank(problem.group(place).operation()),
     }
 }
 
@@ -143,28 +143,28 @@ fn running_rank(problem: &Problem, lun: u8) -> u8
     if (state.next as usize) < group.len() {
         0
     } else {
-        post_rank(group.kind())
+        post_rank(group.operation())
     }
 }
 
 /// .. what begins
-pub fn start_rank(kind: Kind) -> u8
-    ensures { result ≡ start_rank kind }
+pub fn start_rank(operation: Operation) -> u8
+    ensures { result ≡ start_rank operation }
 {
-    match kind {
-        Kind::Read => 2,
-        Kind::Erase => 3,
-        Kind::Program => 5,
+    match operation {
+        Operation::Read => 2,
+        Operation::Erase => 3,
+        Operation::Program => 5,
     }
 }
 
 /// .. a data output or a status
-pub fn post_rank(kind: Kind) -> u8
-    ensures { result ≡ post_rank kind }
+pub fn post_rank(operation: Operation) -> u8
+    ensures { result ≡ post_rank operation }
 {
-    match kind {
-        Kind::Read => 4,
-        Kind::Program | Kind::Erase => 1,
+    match operation {
+        Operation::Read => 4,
+        Operation::Program | Operation::Erase => 1,
     }
 }
 

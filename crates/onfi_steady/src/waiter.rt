@@ -1,9 +1,9 @@
 ghost use Rattle.std.specs.Prelude.{◌≡◌};
 ghost use Rattle.onfi_steady.specs.Offer.{is_due, is_kind, turns_of};
 
-use crate::own::kind_rank;
+use crate::own::operation_rank;
 use onfi_request::Want;
-use onfi_timing::Kind;
+use onfi_timing::{Kind, Operation};
 
 /// A request that waits, and how many groups with a later request began on its LUN since it was accepted.
 #[derive(Clone, Copy, Debug, Default, PartialEq, Eq)]
@@ -18,23 +18,23 @@ impl Waiter {
     pub fn is_due(&self) -> bool
         ensures { result ≡ is_due self.now }
     {
-        self.passed >= turns_of(self.want.kind)
+        self.passed >= turns_of(self.want.kind.operation())
     }
 
-    /// Whether it is of that kind.
+    /// Whether it has its LUN do what that kind does.
     pub fn is_kind(&self, kind: Kind) -> bool
         ensures { result ≡ is_kind kind self.now }
     {
-        kind_rank(self.want.kind) == kind_rank(kind)
+        operation_rank(self.want.kind.operation()) == operation_rank(kind.operation())
     }
 }
 
 // So many groups with a later request may pass over a request.
-fn turns_of(kind: Kind) -> u16
-    ensures { result ≡ turns_of kind }
+fn turns_of(operation: Operation) -> u16
+    ensures { result ≡ turns_of operation }
 {
-    match kind {
-        Kind::Read | Kind::Program => 128,
-        Kind::Erase => 512,
+    match operation {
+        Operation::Read | Operation::Program => 128,
+        Operation::Erase => 512,
     }
 }

@@ -127,6 +127,6 @@ fn newest_with(newest: Option<u64>, kind: Kind, id: u64) -> Option<u64>
 {
     match kind {
         Kind::Program => Some(id),
-        Kind::Read | Kind::Erase => newest,
+        Kind::Read | Kind::ReadSectors { .. } | Kind::Erase => newest,
     }
 }

@@ -1,5 +1,6 @@
 ghost use Rattle.std.specs.Prelude.{◌≡◌, ◌≢◌, ◌↔◌, ◌+◌, ◌<◌, ◌≤◌, ◌^◌, List, false, length, slice_get, IfOk, IfErr, IsTrue};
 ghost use Rattle.onfi_addr.specs.Rows.{row_of};
+ghost use Rattle.onfi_timing.specs.Kinds.{operation_of};
 ghost use Rattle.onfi_request.specs.Range.{Fits};
 ghost use Rattle.onfi_chip.specs.declared.post.Post.{Post as APost};
 ghost use Rattle.onfi_chip.specs.Chip.{found_ready, posted, taken};
@@ -13,7 +14,7 @@ use crate::states::{Idle, Posting, Queuing, Working};
 use crate::target::Target;
 use onfi_chip::{Chip, ChipFault, Closer, Fetch, PostFault};
 use onfi_request::{Answer, Request};
-use onfi_timing::Kind;
+use onfi_timing::Operation;
 use std::alloc::Global;
 
 /// A LUN in whichever of the typed phases it is.
@@ -88,7 +89,7 @@ impl AnyLun {
         ensures others { IfOk result.1 (λ _. OthersStay (number_in self) (C.state chip.old) (C.state chip.new)) }
         ensures number { number_in result.0 ≡ number_in self }
         ensures lost { IfErr result.1 (λ fault. IsLost fault (C.state chip.old) (C.state chip.new)) }
-        ensures not_ready { IfErr result.1 (λ fault. fault ≡ PostFault.NotReady → fetch.kind ≢ Kind.Read) }
+        ensures not_ready { IfErr result.1 (λ fault. fault ≡ PostFault.NotReady → operation_of fetch.kind ≢ Operation.Read) }
     {
         let posting = self.into_posting(now);
         match posting.post(chip, target, now, fetch) {

@@ -1,4 +1,5 @@
 use Rattle.std.proofs.Common.{refl, sym, ap, ◌∙◌}
+use Rattle.onfi_timing.specs.Kinds.{operation_of}
 use Rattle.onfi_request.specs.declared.answer.Answer.TheVariants.{Read}
 use Rattle.onfi_chip.specs.declared.post.Post.{Post}
 use Rattle.onfi_chip.specs.declared.sim.SimChip.{SimChip}
@@ -13,7 +14,7 @@ unreachable-requires c =
     let h = c.requires.next.2 in
     let place = c.place-place.ensures post.place h.in_range h.row_is in
     let told = c.post-post.ensures.taken post left h.ready (posts_there old c.args.now c.args.row post left c.place-place.result place h) in
-    is_read _ c.post-post.result.kind c.post-post.result.answer (ap (λ (q : Post). q.kind) told.0 ∙ c.requires.next.3) c.post-post.ensures.form c.in_default.not-Read
+    is_read _ c.post-post.result.kind c.post-post.result.answer (ap (λ (q : Post). operation_of q.kind) told.0 ∙ c.requires.next.3) c.post-post.ensures.form c.in_default.not-Read
 
 pub returns-clause-ok : goal.returns-clause-ok
 returns-clause-ok c post left h =

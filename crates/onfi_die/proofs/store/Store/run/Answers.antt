@@ -1,16 +1,14 @@
-use Rattle.std.proofs.Common.{◌<◌, refl, sym, ap, subst, ◌∙◌}
+use Rattle.std.proofs.Common.{◌<◌, replicate, refl, sym, ap, subst, ◌∙◌}
 use Rattle.std.proofs.Math.ListN.{length-replicate}
 use Rattle.std.specs.Prelude.{IsSome}
 use Rattle.std.specs.Option.{unwrap_or}
-use Rattle.onfi_timing.specs.declared.kind.Kind.{Kind}
-use Rattle.onfi_timing.specs.declared.kind.Kind.TheVariants as kind
 use Rattle.onfi_request.specs.declared.answer.Answer.{Answer}
 use Rattle.onfi_die.specs.declared.shape.Shape.{Shape}
 use Rattle.onfi_die.specs.Contents.{fresh, answer_of}
 use Rattle.onfi_die.specs.Prepared.{kind_of, HasRoom, IsAnswerTo}
 use Rattle.onfi_die.specs.Requests.{request_of}
 use Rattle.onfi_die.specs.Store.{Stored, IsKept, blocks_of}
-use Rattle.onfi_die.proofs.Keeping.{stored, shape_found, blocks_ran, answer_ran, put_shape, put_still, put_no_more, not_kept, read_if_none, read_changes_nothing, read_of_none}
+use Rattle.onfi_die.proofs.Keeping.{stored, shape_found, blocks_ran, answer_ran, put_shape, put_still, put_no_more, not_kept, read_if_none, read_changes_nothing, read_of_none, read_is_answer}
 use Rattle.onfi_die.proofs.store.Store.run.Goals as goal
 
 pub read_erased-requires : goal.read_erased-requires
@@ -35,8 +33,8 @@ pub returns-in_default-clause-form : goal.returns-in_default-clause-form
 returns-in_default-clause-form c =
     let read = read_if_none c.args.operation c.args.self.now c.self.inside.kept.entries c.args.place.lun c.args.place.block c.key_of.result (ap (λ (s : Stored). s.kept) (sym c.self.view_is)) c.key_of.ensures c.in_default.ensures.value c.requires.kept in
     let bytes = c.args.self.now.device.shape.bytes in
-    subst (λ (k : Kind). IsAnswerTo bytes k c.read_erased.result) (sym read)
-    (subst (λ (a : Answer). IsAnswerTo bytes kind.Read a) (sym (c.read_erased.ensures bytes c.requires.room)) (length-replicate bytes 255))
+    subst (λ (a : Answer). IsAnswerTo bytes (kind_of c.args.operation) a) (sym (c.read_erased.ensures bytes c.requires.room))
+    (read_is_answer bytes (kind_of c.args.operation) (replicate bytes 255) read (length-replicate bytes 255))
 
 pub run-requires-clause-page : goal.run-requires-clause-page
 run-requires-clause-page c =
