@@ -215,7 +215,7 @@ status_told schedule s h sound order (fault.NotReady lun) (move, start, left, ne
     (get_has asks.group (asks.phase - length asks.group) asks.member asks.there) in
     let lun_is = here ∙ group_lun h.now sound.problem move asks.group asks.phase asks.is ∙ is_lun in
     let post = post_starts schedule asks.group step.starts asks.phase start step.rest step.planned step.at asks.member asks.behind asks.there in
-    (start, (asks.member, lun_is, asks.kind, post))
+    (start, (asks.member, lun_is, asks.operation, post))
 
 -- where nothing is done
 pub order_opens : (schedule : Schedule) (h : HalfState) → h.left.groups ≡ schedule.groups

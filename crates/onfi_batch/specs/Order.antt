@@ -1,7 +1,8 @@
 -- In which order a batch replies, and which LUN it names where one isn't ready.
 use Rattle.std.specs.Prelude.{◌≡◌, ◌≢◌, ℕ, ◌+◌, ◌<◌, List, length, Some, slice_get}
 use Rattle.std.specs.List.{AllZip}
-use Rattle.onfi_timing.specs.declared.kind.Kind.TheVariants.{Read}
+use Rattle.onfi_timing.specs.declared.operation.Operation.TheVariants.{Read}
+use Rattle.onfi_timing.specs.Kinds.{operation_of}
 use Rattle.onfi_request.specs.declared.want.Want.{Want}
 use Rattle.onfi_request.specs.declared.reply.Reply.{Reply}
 use Rattle.onfi_group.specs.Words.{Has, Pairs}
@@ -30,5 +31,5 @@ pub record AreInPostOrder (schedule : Schedule) (replies : List Reply) : Type 0 
 -- a LUN that isn't ready is one whose status is asked for then: the post of a program or an erase on it starts
 abbrev pub TellsStatus : Schedule → ℕ → BatchFault → Type 0
 TellsStatus schedule start Bus = Unit {0}
-TellsStatus schedule start (NotReady lun) = (w : Want) × (w.lun ≡ lun) × (w.kind ≢ Read) × PostStarts schedule w start
+TellsStatus schedule start (NotReady lun) = (w : Want) × (w.lun ≡ lun) × (operation_of w.kind ≢ Read) × PostStarts schedule w start
 TellsStatus schedule start Memory = Unit {0}

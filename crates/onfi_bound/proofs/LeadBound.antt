@@ -185,7 +185,7 @@ lead_start p ms since t e ip at st late sts =
     let b = least_has _ _ (Has-map (λ w. (spans_of p.timing w.kind).cmd + (spans_of p.timing w.kind).array) (on_lun l p.wants) m.0 there) in
     let first : e ≤ max p.bus_free since + b.0 = rw at at (sts l (Free since) b.0 at b.1) in
     let same = one_operation p.timing (kind_of ms) m.0.kind (sym operation) in
-    let value : b.0 ≤ spans.cmd + spans.array = rw (same.cmd, same.array) at b.2 in
+    let value : b.0 ≤ spans.cmd + spans.array = let low = b.2 in let c = same.cmd in let a = same.array in omega arith in
     let z : k - 0 ≡ k = omega arith in
     let times = times_left 1 k spans.cmd some in
     let waits : spans.array ≤ waits_left spans k 0 = rw (lt-ltb 0 k (omega arith)) (omega arith) in

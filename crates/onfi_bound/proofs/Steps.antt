@@ -3,6 +3,7 @@ use Rattle.std.proofs.Common.{◌≡◌, ℕ, zero, suc, ◌+◌, ◌<◌, Bool,
 use Rattle.std.specs.List.{list_any}
 use Rattle.std.proofs.lemmas.List.{map-append, take_more}
 use Rattle.std.proofs.lemmas.List.Folds.{list_any_more}
+use Rattle.onfi_timing.specs.declared.kind.Kind.TheVariants.{Read as ReadPage}
 use Rattle.onfi_timing.specs.declared.operation.Operation.TheVariants.{Read, Program, Erase}
 use Rattle.onfi_request.specs.declared.want.Want.{Want}
 use Rattle.onfi_group.specs.Words.{total}
@@ -18,7 +19,7 @@ abbrev pub no_chain : Chain
 no_chain = record { running = false; from = 0; commands = 0; posts = 0; waits = 0; command = None }
 
 abbrev pub no_want : Want
-no_want = record { id = 0; kind = Read; lun = 0; plane = 0; block = 0; page = 0 }
+no_want = record { id = 0; kind = ReadPage; lun = 0; plane = 0; block = 0; page = 0 }
 
 -- a sum with one more
 pub summed : {A : Type 0} (f : A → ℕ) (xs : List A) (i : ℕ) (d : A) (first so_far next : ℕ) → i < length xs → so_far ≡ first + total f (take i xs) → next ≡ so_far + f (get_or xs i d) → next ≡ first + total f (take (i + 1) xs)

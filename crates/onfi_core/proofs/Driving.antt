@@ -8,11 +8,14 @@ use Rattle.onfi_addr.specs.declared.geometry.Geometry.{Geometry}
 use Rattle.onfi_addr.specs.Rows.{IsInRange, row_of, plane_of_block}
 use Rattle.onfi_timing.specs.declared.kind.Kind.{Kind}
 use Rattle.onfi_timing.specs.declared.kind.Kind.TheVariants as kind
+use Rattle.onfi_timing.specs.declared.operation.Operation.{Operation}
+use Rattle.onfi_timing.specs.declared.operation.Operation.TheVariants as operation
+use Rattle.onfi_timing.specs.Kinds.{operation_of}
 use Rattle.onfi_request.specs.Range.{Fits, IsPageFor}
 use Rattle.onfi_request.specs.declared.request.Item.{Item}
 use Rattle.onfi_request.specs.declared.request.Request.{Request}
 use Rattle.onfi_request.specs.declared.want.Want.{Want}
-use Rattle.onfi_group.specs.Group.{IsGroup, kind_of, lun_of, page_of}
+use Rattle.onfi_group.specs.Group.{IsGroup, group_operation, lun_of, page_of}
 use Rattle.onfi_group.specs.Words.{Has, Pairs}
 use Rattle.onfi_problem.specs.Moves.{Move, Next, Start, IsMove, earliest}
 use Rattle.onfi_problem.specs.declared.lun_state.LunState.TheVariants.{Running}
@@ -95,20 +98,27 @@ module _ (s : Setup) (h : HalfState) (sound : IsSound s h) where
       let page : IsPageFor s.geometry kind.Erase (request_of h.accepted w).place.page = subst (λ k. IsPageFor s.geometry k (request_of h.accepted w).place.page) (place_kind s h w t ∙ e) (fits_is w t).page in
       sym (place_page s h w t) ∙ (let first : (request_of h.accepted w).place.page ≡ 0 = omega (arith, page) in first)
 
-  kind_cases : (k : Kind) (P : Type 0) → (k ≡ kind.Erase → P) → (k ≢ kind.Erase → P) → P
-  kind_cases kind.Read P f other = other (λ e. cc)
-  kind_cases kind.Program P f other = other (λ e. cc)
-  kind_cases kind.Erase P f other = f refl
+  operation_cases : (o : Operation) (P : Type 0) → (o ≡ operation.Erase → P) → (o ≢ operation.Erase → P) → P
+  operation_cases operation.Read P f other = other (λ e. cc)
+  operation_cases operation.Program P f other = other (λ e. cc)
+  operation_cases operation.Erase P f other = f refl
+
+  is_erase : (k : Kind) → operation_of k ≡ operation.Erase → k ≡ kind.Erase
+  is_erase kind.Read e = absurd cc
+  is_erase (kind.ReadSectors first count) e = absurd cc
+  is_erase kind.Program e = absurd cc
+  is_erase kind.Erase e = refl
 
   module _ (g : List Want) (group : IsGroup h.now.rules g) (members : All Taken g) where
-    kind_in : (w : Want) → Has g w → w.kind ≡ kind_of g
-    kind_in w has = All-has (λ (v : Want). v.kind ≡ kind_of g) g w group.kind has
+    operation_in : (w : Want) → Has g w → operation_of w.kind ≡ group_operation g
+    operation_in w has = All-has (λ (v : Want). operation_of v.kind ≡ group_operation g) g w group.operation has
 
     -- members share their page
     same_page : (v m : Want) → Has g v → Has g m → v.page ≡ m.page
     same_page v m hv hm =
-        kind_cases (kind_of g) (v.page ≡ m.page)
-        (λ e. erase_page v (All-has Taken g v members hv) (kind_in v hv ∙ e) ∙ sym (erase_page m (All-has Taken g m members hm) (kind_in m hm ∙ e)))
+        operation_cases (group_operation g) (v.page ≡ m.page)
+        (λ e. erase_page v (All-has Taken g v members hv) (is_erase v.kind (operation_in v hv ∙ e))
+        ∙ sym (erase_page m (All-has Taken g m members hm) (is_erase m.kind (operation_in m hm ∙ e))))
         (λ n. All-has (λ (w : Want). w.page ≡ page_of g) g v (group.page n) hv ∙ sym (All-has (λ (w : Want). w.page ≡ page_of g) g m (group.page n) hm))
 
     may_join : (v m : Want) → Has g v → Has g m → v.plane < m.plane → MayJoin s.geometry (request_of h.accepted m) (request_of h.accepted v)
@@ -117,7 +127,7 @@ module _ (s : Setup) (h : HalfState) (sound : IsSound s h) where
         let tm = All-has Taken g m members hm in
         let pv = plane_is v tv in
         let pm = plane_is m tm in (
-          place_kind s h v tv ∙ kind_in v hv ∙ sym (kind_in m hm) ∙ sym (place_kind s h m tm),
+          ap operation_of (place_kind s h v tv) ∙ operation_in v hv ∙ sym (operation_in m hm) ∙ ap operation_of (sym (place_kind s h m tm)),
           place_page s h v tv ∙ same_page v m hv hm ∙ sym (place_page s h m tm),
           omega (arith, pv, pm, lower),
         )
@@ -242,5 +252,5 @@ module _ (s : Setup) (h : HalfState) (chip : Chip) (sound : IsSound s h) (agrees
     behind = le;
     member = m;
     there = post_at le;
-    kind = λ e. other (ap (λ (x : Item). x.request.kind) item_is ∙ place_kind s h m taken ∙ e);
+    operation = λ e. other (ap (λ (x : Item). operation_of x.request.kind) item_is ∙ ap operation_of (place_kind s h m taken) ∙ e);
   }

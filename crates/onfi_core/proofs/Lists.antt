@@ -38,6 +38,11 @@ take_next xs i x h = let e : i + 1 ≡ suc i = omega arith in rw e (take_suc xs 
 pub All-at : {A : Type 0} (P : A → Type 0) (xs : List A) (i : ℕ) (x : A) → All P xs → slice_get xs i ≡ Some x → P x
 All-at P xs i x h at = All-has P xs x h (get_has xs i x at)
 
+-- what is so of what stands at each place is so of each
+pub each_there : {A : Type 0} (P : A → Type 0) (xs : List A) → ((i : ℕ) (x : A) → slice_get xs i ≡ Some x → P x) → All P xs
+each_there P [] h = tt
+each_there P (x ∷ xs) h = (h zero x refl, each_there P xs (λ i y at. h (suc i) y at))
+
 -- a place below the next is below, or is it
 pub next_cases : (at n : ℕ) → at < n + 1 → (at < n) ⊎ (at ≡ n)
 next_cases at n h = grind arith

@@ -5,15 +5,17 @@ use Rattle.std.specs.List.{AllByRecursion as All}
 use Rattle.std.proofs.lemmas.Bool.{lt-ltb, le-ltb, cases_lt, eq-eqb, ne_eqb}
 use Rattle.std.proofs.lemmas.List.{drop_all, map-append, take_all}
 use Rattle.std.proofs.lemmas.Option.{get_or_from_slice_get}
-use Rattle.onfi_timing.specs.Kinds.{spans_of}
+use Rattle.onfi_timing.specs.Kinds.{operation_of, spans_of}
 use Rattle.onfi_timing.specs.Phases.{phase_length, wait_before}
+use Rattle.onfi_timing.specs.Sectors.{IsAlike}
 use Rattle.onfi_timing.specs.declared.spans.Spans.{Spans}
 use Rattle.onfi_timing.specs.declared.timing.Timing.{Timing}
+use Rattle.onfi_timing.proofs.Shared.{one_operation}
 use Rattle.onfi_request.specs.declared.answer.Answer.{Answer}
 use Rattle.onfi_request.specs.declared.reply.Reply.{Reply}
 use Rattle.onfi_request.specs.declared.request.Item.{Item}
 use Rattle.onfi_request.specs.declared.want.Want.{Want}
-use Rattle.onfi_group.specs.Group.{group_spans, kind_of, lun_of}
+use Rattle.onfi_group.specs.Group.{group_operation, group_spans, kind_of, lun_of}
 use Rattle.onfi_group.specs.Words.{Has}
 use Rattle.onfi_group.proofs.PhaseLengths.{member_post}
 use Rattle.onfi_problem.specs.Moves.{lun_after}
@@ -192,17 +194,19 @@ module _ (s : Setup) (h : HalfState) (timing : h.now.timing ≡ s.timing) (chip 
       let kind = place_kind s h m (All-has (IsTaken s h.planned h.accepted) g m going.members k) in
       ap (spans_of chip.timing) kind ∙ ap (λ (t : Timing). spans_of t m.kind) (agrees.timing ∙ sym timing)
 
-  -- .. and those that its group shares
-  spans_are : (m : Want) → Has g m → spans_of chip.timing (request_of h.accepted m).kind ≡ spans_of h.now.timing (kind_of g)
-  spans_are m k = kind_spans m k ∙ ap (spans_of h.now.timing) (All-has (λ (v : Want). v.kind ≡ kind_of g) g m going.group.kind k)
+  -- .. and all but the post is what its group shares
+  spans_are : (m : Want) → Has g m → IsAlike (spans_of h.now.timing (kind_of g)) (spans_of chip.timing (request_of h.accepted m).kind)
+  spans_are m k =
+      let operation = All-has (λ (v : Want). operation_of v.kind ≡ group_operation g) g m going.group.operation k in
+      subst (IsAlike (spans_of h.now.timing (kind_of g))) (sym (kind_spans m k)) (one_operation h.now.timing (kind_of g) m.kind (sym operation))
 
-  after_gap : n + 1 < length g → (spans : Spans) → spans ≡ spans_of h.now.timing (kind_of g) → start + spans.cmd + spans.gap ≡ ready_after h.now g n start
-  after_gap lt spans e = rw (e, lt-ltb n (length g) (omega arith), lt-ltb (n + 1) (length g) lt) refl
+  after_gap : n + 1 < length g → (spans : Spans) → IsAlike (spans_of h.now.timing (kind_of g)) spans → start + spans.cmd + spans.gap ≡ ready_after h.now g n start
+  after_gap lt spans e = rw (e.cmd, e.gap, lt-ltb n (length g) (omega arith), lt-ltb (n + 1) (length g) lt) refl
 
-  after_array : n + 1 ≡ length g → (spans : Spans) → spans ≡ spans_of h.now.timing (kind_of g) → start + spans.cmd + spans.array ≡ ready_after h.now g n start
+  after_array : n + 1 ≡ length g → (spans : Spans) → IsAlike (spans_of h.now.timing (kind_of g)) spans → start + spans.cmd + spans.array ≡ ready_after h.now g n start
   after_array q spans e =
       let same : (n + 1 == length g) ≡ true = eq-eqb (n + 1) (length g) q in
-      rw (e, lt-ltb n (length g) (omega arith), le-ltb (n + 1) (length g) (omega arith), same) refl
+      rw (e.cmd, e.array, lt-ltb n (length g) (omega arith), le-ltb (n + 1) (length g) (omega arith), same) refl
 
   after_last : length g ≤ n → (m : Want) → slice_get g (n - length g) ≡ Some m → (spans : Spans) → spans ≡ spans_of h.now.timing m.kind → start + spans.post ≡ ready_after h.now g n start
   after_last le m at spans e =

@@ -1,5 +1,5 @@
 -- A planning keeps what every reachable state keeps.
-use Rattle.std.proofs.Common.{◌≡◌, ◌≢◌, ℕ, ◌+◌, ◌-◌, ◌<◌, ◌≤◌, ◌⊎◌, inl, inr, List, [], ◌++◌, length, take, drop, None, append-nil, refl, sym, ap, subst, ◌∙◌, append_assoc, length-drop, length-append, arith}
+use Rattle.std.proofs.Common.{◌≡◌, ◌≢◌, ℕ, ◌+◌, ◌-◌, ◌<◌, ◌≤◌, ◌⊎◌, inl, inr, true, List, [], ◌++◌, length, take, drop, Some, None, append-nil, refl, sym, ap, subst, ◌∙◌, append_assoc, length-drop, length-append, arith}
 use Rattle.std.specs.Prelude.{slice_get, ◌%◌, ◌^◌}
 use Rattle.std.specs.List.{AllByRecursion as All}
 use Rattle.std.proofs.Math.Nat.{mod-lt}
@@ -7,15 +7,18 @@ use Rattle.std.proofs.lemmas.List.{drop-drop, drop_all, length-take, length-take
 use Rattle.std.proofs.lemmas.List.Elements.{filter-append}
 use Rattle.onfi_addr.specs.Rows.{plane_of_block}
 use Rattle.onfi_timing.specs.declared.kind.Kind.{Kind}
-use Rattle.onfi_timing.specs.declared.kind.Kind.TheVariants.{Read, Program, Erase}
-use Rattle.onfi_request.specs.Range.{Fits, IsPageFor}
+use Rattle.onfi_timing.specs.declared.kind.Kind.TheVariants.{Read, ReadSectors, Program, Erase}
+use Rattle.onfi_timing.specs.declared.timing.Timing.{Timing}
+use Rattle.onfi_timing.specs.Kinds.{IsStated}
+use Rattle.onfi_request.specs.Range.{Fits, IsPageFor, is_whole}
 use Rattle.onfi_request.specs.declared.request.Item.{Item}
 use Rattle.onfi_request.specs.declared.want.Want.{Want}
 use Rattle.onfi_group.specs.Words.{Has, number}
-use Rattle.onfi_problem.specs.Problem.{Problem, IsProblem, IsWant, has_id}
+use Rattle.onfi_problem.specs.Problem.{Problem, AreStated, HasLengths, IsLunStated, IsProblem, IsWant, has_id}
 use Rattle.onfi_problem.proofs.Perm.{All-weaker, All-append, All-each}
 use Rattle.onfi_chip.specs.Chip.{Chip}
 use Rattle.onfi_problem.specs.declared.lun_state.LunState.{LunState}
+use Rattle.onfi_problem.specs.declared.lun_state.LunState.TheVariants.{Free, Running}
 use Rattle.onfi_problem.specs.Kept.{problem_of}
 use Rattle.onfi_problem.proofs.Wants.{Pairs-filter, one_with_id}
 use Rattle.onfi_core.specs.Kept.{on, is_want_on, IsTaken, IsSound, ChipAgrees, IsReached, Rise, commanding}
@@ -26,7 +29,7 @@ use Rattle.onfi_core.specs.declared.setup.Choice.TheVariants.{InOrder, ByLun, Re
 use Rattle.onfi_core.specs.declared.setup.Setup.{Setup}
 use Rattle.onfi_core.proofs.Bus.{number-append}
 use Rattle.onfi_core.proofs.Halves.{same_replies}
-use Rattle.onfi_core.proofs.Lists.{All-at, All-drop, All-take}
+use Rattle.onfi_core.proofs.Lists.{All-at, All-drop, All-take, each_there}
 use Rattle.onfi_core.proofs.Merged.{all_parts, filter_merged, in_turn, merged_all, number_merged, rise_back, rise_parts}
 use Rattle.onfi_core.proofs.Numbered.{All-wants, all_taken, length_wants, none_below, split_at, taken_are, not_below, numbers_rise, Rising-append, wants_rise}
 use Rattle.onfi_core.proofs.PassedOver.{wants_of_waiters}
@@ -53,6 +56,7 @@ plane_small s block =
 
 erase_page : (s : Setup) (kind : Kind) (page : ℕ) → IsPageFor s.geometry kind page → kind ≡ Erase → page ≡ 0
 erase_page s Read page h e = cc
+erase_page s (ReadSectors first count) page h e = cc
 erase_page s Program page h e = cc
 erase_page s Erase page h e = omega (arith, h)
 
@@ -62,6 +66,13 @@ is_want s n x f = record {
   erase = erase_page s x.request.kind x.request.place.page f.page;
 }
 
+-- lengths of what is read or written as a whole are always stated
+stated_whole : (timing : Timing) (k : Kind) → is_whole k ≡ true → IsStated timing k
+stated_whole timing Read w = refl
+stated_whole timing (ReadSectors first count) w = absurd cc
+stated_whole timing Program w = refl
+stated_whole timing Erase w = refl
+
 -- a want that was looked at is one of a problem, of a LUN that is there
 module _ (s : Setup) (n : ℕ) (accepted : List Item) (in_range : All (λ (x : Item). Fits s.geometry x.request) accepted) where
   taken_is_want : (w : Want) → IsTaken s n accepted w → IsWant w
@@ -69,6 +80,11 @@ module _ (s : Setup) (n : ℕ) (accepted : List Item) (in_range : All (λ (x : I
 
   taken_lun : (w : Want) → IsTaken s n accepted w → w.lun < s.geometry.lun_count
   taken_lun w t = subst (λ (v : Want). v.lun < s.geometry.lun_count) (sym t.is) (All-at (λ (x : Item). Fits s.geometry x.request) accepted w.id t.item in_range t.there).lun
+
+  taken_is_stated : (timing : Timing) (w : Want) → IsTaken s n accepted w → IsStated timing w.kind
+  taken_is_stated timing w t =
+      let whole = (All-at (λ (x : Item). Fits s.geometry x.request) accepted w.id t.item in_range t.there).whole in
+      subst (λ (v : Want). IsStated timing v.kind) (sym t.is) (stated_whole timing t.item.request.kind whole)
 
 later_taken : (s : Setup) (accepted : List Item) (n m : ℕ) → n ≤ m → (w : Want) → IsTaken s n accepted w → IsTaken s m accepted w
 later_taken s accepted n m low w t = let q = t.below in record { below = omega arith; item = t.item; there = t.there; is = t.is }
@@ -267,6 +283,20 @@ keeps_by WholeGroups s h taken half is takes = keeps_whole s h taken half takes 
 
 pub keeps_taken : (s : Setup) (h : HalfState) (taken : Taken) → IsSound s h → Takes s h taken → Keeps s h taken
 keeps_taken s h taken half takes = keeps_by s.choice s h taken half refl takes
+
+-- the timing states lengths for all that is planned
+pub has_lengths : (s : Setup) (h : HalfState) (taken : Taken) → IsSound s h → Keeps s h taken → HasLengths (problem_with h taken.wants)
+has_lengths s h taken half keeps = record {
+  wants = all_stated taken.planned taken.wants keeps.wants;
+  luns = each_there (IsLunStated h.now.timing) h.now.luns lun_stated;
+}
+  where
+    all_stated : (n : ℕ) (ws : List Want) → All (IsTaken s n h.accepted) ws → AreStated h.now.timing ws
+    all_stated n ws t = All-weaker (IsTaken s n h.accepted) (λ (w : Want). IsStated h.now.timing w.kind) (taken_is_stated s n h.accepted half.in_range h.now.timing) ws t
+
+    lun_stated : (i : ℕ) (state : LunState) → slice_get h.now.luns i ≡ Some state → IsLunStated h.now.timing state
+    lun_stated i (Free since) at = tt
+    lun_stated i (Running group next ready) at = all_stated h.planned group (half.running i group next ready at)
 
 module _ (s : Setup) (h : HalfState) (half : IsSound s h) (taken : Taken) (plan : Planning) (plans : Plans s h taken plan) where
   keeps : Keeps s h taken

@@ -1,7 +1,8 @@
 -- What an event does to a channel.
 use Rattle.std.specs.Prelude.{◌≡◌, ◌≢◌, ℕ, ◌+◌, ◌-◌, ◌^◌, ◌<◌, ◌≤◌, ◌⊎◌, ◌==◌, max, not, nat_le, nat_lt, if◌then◌else◌, Bool, true, false, IsTrue, List, [], ◌∷◌, ◌++◌, length, take, drop, Option, Some, None, slice_get}
 use Rattle.std.specs.List.{filter, list_any}
-use Rattle.onfi_timing.specs.declared.kind.Kind.TheVariants.{Read}
+use Rattle.onfi_timing.specs.declared.operation.Operation.TheVariants.{Read}
+use Rattle.onfi_timing.specs.Kinds.{operation_of}
 use Rattle.onfi_request.specs.declared.want.Want.{Want}
 use Rattle.onfi_request.specs.declared.answer.Answer.{Answer}
 use Rattle.onfi_request.specs.declared.request.Request.{Request}
@@ -395,7 +396,7 @@ pub record AsksStatus (p : Problem) (move : Move) : Type 0 where
   pub behind : length group ≤ phase
   pub member : Want
   pub there : slice_get group (phase - length group) ≡ Some member
-  pub kind : member.kind ≢ Read
+  pub operation : operation_of member.kind ≢ Read
 
 -- the bus may fail at any phase; only the status of a program or an erase says that its LUN isn't ready, where it comes next
 abbrev pub IsCauseOf : HalfState → Cause → Type 0

@@ -48,6 +48,6 @@ fn newest_with(newest: Option<u64>, kind: Kind, place: u64) -> Option<u64>
 {
     match kind {
         Kind::Program => Some(place),
-        Kind::Read | Kind::Erase => newest,
+        Kind::Read | Kind::ReadSectors { .. } | Kind::Erase => newest,
     }
 }

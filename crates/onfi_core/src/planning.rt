@@ -1,5 +1,5 @@
 ghost use Rattle.std.specs.Prelude.{◌≡◌, ◌<◌, ◌≤◌, ◌^◌, IfOk, IsErrOf, IfErr, ◌↔◌};
-ghost use Rattle.onfi_problem.specs.Problem.{IsSmall, IsProblem};
+ghost use Rattle.onfi_problem.specs.Problem.{IsSmall, IsProblem, HasLengths};
 ghost use Rattle.onfi_problem.specs.Kept.{problem_of};
 ghost use Rattle.onfi_problem.specs.Left.{horizon};
 ghost use Rattle.onfi_core.specs.Steps.{IsPlanned, IsPromised};
@@ -42,6 +42,7 @@ pub fn plan_wants<P: Planner>(
 ) -> Result<NextPlan, PlanStop>
     requires small { IsSmall (problem_of setup.now.timing setup.now.rules bus_free luns.now wants.now) }
     requires problem { IsProblem (problem_of setup.now.timing setup.now.rules bus_free luns.now wants.now) }
+    requires lengths { HasLengths (problem_of setup.now.timing setup.now.rules bus_free luns.now wants.now) }
     ensures problem { IfOk result (λ next. next.batch.problem.problem ≡ problem_of setup.now.timing setup.now.rules bus_free luns.now wants.now) }
     ensures planned { IfOk result (λ next. IsPlanned (planning_of next.batch)) }
     ensures promised { IfOk result (λ next. IsPromised P.exact P.certifies (planning_of next.batch)) }
@@ -55,6 +56,7 @@ pub fn plan_wants<P: Planner>(
         Err(ProblemFault::Memory) => return Err(PlanStop::Memory),
         Err(ProblemFault::TooMany) => unreachable!(),
         Err(ProblemFault::BadLun) => unreachable!(),
+        Err(ProblemFault::NoLengths) => unreachable!(),
     };
     let limit = Limit::of(setup.limit).unwrap();
     let plan = match planner.plan(alloc, &problem, limit) {

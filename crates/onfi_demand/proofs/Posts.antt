@@ -12,7 +12,7 @@ use Rattle.onfi_request.specs.declared.want.Want.{Want}
 use Rattle.onfi_group.proofs.PhaseLengths.{no_want}
 use Rattle.onfi_demand.specs.Left.{sectors_left}
 use Rattle.onfi_demand.specs.Remaining.{lengths_of, post_of, posts_count, posts_left}
-use Rattle.onfi_demand.specs.declared.lengths.GroupLengths.{GroupLengths}
+use Rattle.onfi_demand.specs.declared.group_lengths.GroupLengths.{GroupLengths}
 use Rattle.onfi_demand.proofs.Agreeing.{sectors_length}
 
 -- the elements of two lists, one after the other

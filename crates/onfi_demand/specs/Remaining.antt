@@ -7,7 +7,7 @@ use Rattle.onfi_timing.specs.declared.spans.Spans.{Spans}
 use Rattle.onfi_timing.specs.declared.timing.Timing.{Timing}
 use Rattle.onfi_timing.specs.Kinds.{operation_spans, sector_spans, stated}
 use Rattle.onfi_timing.specs.Phases.{Lengths, posts_from}
-use Rattle.onfi_demand.specs.declared.lengths.GroupLengths.{GroupLengths}
+use Rattle.onfi_demand.specs.declared.group_lengths.GroupLengths.{GroupLengths}
 use Rattle.onfi_demand.specs.Left.{LunLeft, Idle, Rest}
 
 -- the post of an operation: that of a read is by the number of its sectors

@@ -13,8 +13,9 @@ ghost use Rattle.onfi_demand.specs.Kept.{IsKept};
 ghost use Rattle.onfi_demand.specs.Work.{left_of, IsShape, IsWork};
 
 use crate::demand::Demand;
+use crate::group_lengths::GroupLengths;
 use crate::left::{LunLeft, LunWork, left_on};
-use crate::lengths::{GroupLengths, operation_spans, rest_to_post};
+use crate::lengths::{operation_spans, rest_to_post};
 use onfi_problem::Problem;
 use onfi_request::Want;
 use onfi_timing::Timing;

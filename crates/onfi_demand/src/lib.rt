@@ -6,6 +6,7 @@ mod asked;
 mod closings;
 mod demand;
 pub mod laws;
+mod group_lengths;
 mod lead;
 mod left;
 mod lengths;
@@ -13,6 +14,6 @@ mod look;
 
 pub use asked::Step;
 pub use demand::Demand;
+pub use group_lengths::GroupLengths;
 pub use left::{LunLeft, LunWork, has_left, left_on};
-pub use lengths::GroupLengths;
 pub use look::Window;

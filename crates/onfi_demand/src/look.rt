@@ -10,8 +10,8 @@ ghost use Rattle.onfi_demand.specs.Remaining.{lengths_of};
 ghost use Rattle.onfi_demand.specs.Work.{IsWork};
 
 use crate::demand::Demand;
+use crate::group_lengths::GroupLengths;
 use crate::left::{LunLeft, LunWork};
-use crate::lengths::GroupLengths;
 use onfi_bound::Load;
 use onfi_problem::Problem;
 use onfi_request::Want;

@@ -16,11 +16,7 @@ pub enum Prepared {
     /// A read, with room for the data and spare bytes of a page.
     Read(Vec<u8>),
     /// A read of which `count` sectors from sector `first` on are put out, with room for the page.
-    ReadSectors {
-        first: u8,
-        count: u8,
-        room: Vec<u8>,
-    },
+    ReadSectors { first: u8, count: u8, room: Vec<u8> },
     /// A program of these data and spare bytes.
     Program(Bytes),
     /// An erase.

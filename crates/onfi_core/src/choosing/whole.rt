@@ -24,7 +24,7 @@ use onfi_group::Rules;
 use onfi_problem::LunState;
 use onfi_request::Want;
 use onfi_steady::Waiter;
-use onfi_timing::{Kind, Timing};
+use onfi_timing::{Kind, Operation, Timing};
 use std::alloc::{AllocError, Global};
 
 /// Chooses a batch, up to so many wants, of the requests that wait on a channel, in acceptance order, with the bus and the LUNs
@@ -450,7 +450,7 @@ fn given_by(
         return None;
     };
     if work && is_held(rules, items, chains, marks, newest, items[at].lun, at) {
-        return oldest_of(items, chains, marks, lun, Some(Kind::Erase));
+        return oldest_of(items, chains, marks, lun, Some(Operation::Erase));
     }
     Some(at)
 }
@@ -675,7 +675,13 @@ fn held_lun(
     let Some(lun) = lun_of(items, id) else {
         return None;
     };
-    let Some(at) = oldest_of(items, chains, marks, usize::from(lun), Some(Kind::Program)) else {
+    let Some(at) = oldest_of(
+        items,
+        chains,
+        marks,
+        usize::from(lun),
+        Some(Operation::Program),
+    ) else {
         return None;
     };
     if waiters[at].is_due() || !is_held(rules, items, chains, marks, newest, lun, at) {

@@ -2,9 +2,10 @@
 
 ghost use Rattle.std.specs.Prelude.{◌≡◌, ◌==◌, not, List};
 ghost use Rattle.std.specs.List.{list_any};
-ghost use Rattle.onfi_timing.specs.declared.kind.Kind.TheVariants.{Read, Erase};
+ghost use Rattle.onfi_timing.specs.declared.kind.Kind.TheVariants.{Read};
+ghost use Rattle.onfi_timing.specs.declared.operation.Operation.TheVariants.{Erase};
 ghost use Rattle.onfi_problem.specs.declared.lun_state.LunState.{LunState as AnyState};
-ghost use Rattle.onfi_steady.specs.Rule.{kind_rank};
+ghost use Rattle.onfi_steady.specs.Rule.{operation_rank};
 ghost use Rattle.onfi_steady.specs.Waiting.{Books, channel};
 ghost use Rattle.onfi_steady.specs.Offer.{is_kind, on_lun};
 ghost use Rattle.onfi_steady.specs.Kept.{is_read_on};
@@ -12,7 +13,7 @@ ghost use Rattle.onfi_steady.specs.Next.{any_work, has_work};
 
 use onfi_problem::LunState;
 use onfi_steady::Waiter;
-use onfi_timing::{Kind, Timing};
+use onfi_timing::{Kind, Operation, Timing};
 
 /// Whether a LUN has work: its group is in its commands and is no erase, or its array ends within that of a program; or it runs
 /// nothing, and a read waits for it.
@@ -34,7 +35,7 @@ fn has_work(timing: &Timing, bus_free: u64, reads: bool, state: &LunState) -> bo
         LunState::Free { .. } => reads,
         LunState::Running { group, next, ready } => {
             if usize::from(*next) < group.len() {
-                is_no_erase(group.kind())
+                is_no_erase(group.operation())
             } else {
                 ready.saturating_sub(bus_free) <= timing.program.array
             }
@@ -42,12 +43,12 @@ fn has_work(timing: &Timing, bus_free: u64, reads: bool, state: &LunState) -> bo
     }
 }
 
-fn is_no_erase(kind: Kind) -> bool
-    ensures { result ≡ not (kind_rank kind == kind_rank Erase) }
+fn is_no_erase(operation: Operation) -> bool
+    ensures { result ≡ not (operation_rank operation == operation_rank Erase) }
 {
-    match kind {
-        Kind::Read | Kind::Program => true,
-        Kind::Erase => false,
+    match operation {
+        Operation::Read | Operation::Program => true,
+        Operation::Erase => false,
     }
 }
 

@@ -20,11 +20,11 @@ loop-other-preserved c =
     elim c.if-other-want.branch [
       | then-other-want+then-has w ↦ (
           let plane = (all_at IsWant c.args.before.now c.loop-other.other-index no_want c.loop-other-test.true c.requires.wants).plane in
-          let q = rw (of.kind, of.page, of.above) at (w.if-has.ensures) in
+          let q = rw (of.operation, of.page, of.above) at (w.if-has.ensures) in
           counts_more c.args.rules.now c.args.want.now c.args.before.now c.loop-other.other-index no_want c.loop-other.counts c.if-other-want.counts c.loop-other-test.true plane w.if-other-want.true (sym q) c.loop-other.invariant w.counts-is)
       | else-other-want w ↦ rw w.counts-is (elim w.else-other-want.branch [
         | else-other-want-via-then-other-want+else-has w' ↦ (
-            let q = rw (of.kind, of.page, of.above) at (w'.if-has.ensures) in
+            let q = rw (of.operation, of.page, of.above) at (w'.if-has.ensures) in
             counts_same c.args.rules.now c.args.want.now c.args.before.now c.loop-other.other-index no_want c.loop-other.counts c.loop-other-test.true (sym q) c.loop-other.invariant)
         | else-other-want-via-else-other-want w' ↦ counts_other c.args.rules.now c.args.want.now c.args.before.now c.loop-other.other-index no_want c.loop-other.counts c.loop-other-test.true w'.if-other-want.false c.loop-other.invariant
       ])

@@ -20,9 +20,9 @@ less_one-requires c =
     let here = next_place x.problem x.groups c.luns.result.now c.luns.ensures.states c.args.lun blank lim c.requires.step in
     let group = c.index-groups-state.result in
     let same = read_group x.groups _ group here (rw c.groups.ensures.value at c.index-groups-state.is) in
-    let one = next_command x.problem x.groups c.luns.result.now c.luns.ensures.states c.args.lun blank group lim c.requires.step same (omega arith) c.kind.result in
-    let some = some_there c.kind.result _ _ (commands_of x.problem c.kind.result) c.kind.ensures one in
-    let counts = c.requires.counts c.kind.result in
+    let one = next_command x.problem x.groups c.luns.result.now c.luns.ensures.states c.args.lun blank group lim c.requires.step same (omega arith) c.operation.result in
+    let some = some_there c.operation.result _ _ (commands_of x.problem c.operation.result) c.operation.ensures one in
+    let counts = c.requires.counts c.operation.result in
     omega arith
 
 pub returns-then-state-len : goal.returns-then-state-len
@@ -33,7 +33,7 @@ returns-then-state-len c = λ operation.
     let here = next_place x.problem x.groups c.luns.result.now c.luns.ensures.states c.args.lun blank lim c.requires.step in
     let group = c.index-groups-state.result in
     let same = read_group x.groups _ group here (rw c.groups.ensures.value at c.index-groups-state.is) in
-    one_left operation c.kind.result _ _ _ _ _ c.kind.ensures (c.less_one.ensures operation) (c.requires.counts operation) (next_command x.problem x.groups c.luns.result.now c.luns.ensures.states c.args.lun blank group lim c.requires.step same (omega arith) operation)
+    one_left operation c.operation.result _ _ _ _ _ c.operation.ensures (c.less_one.ensures operation) (c.requires.counts operation) (next_command x.problem x.groups c.luns.result.now c.luns.ensures.states c.args.lun blank group lim c.requires.step same (omega arith) operation)
 
 pub returns-else-state-len : goal.returns-else-state-len
 returns-else-state-len c = λ operation.

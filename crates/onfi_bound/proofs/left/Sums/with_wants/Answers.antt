@@ -1,7 +1,8 @@
-use Rattle.std.proofs.Common.{◌+◌, ap, ◌∙◌, arith}
+use Rattle.std.proofs.Common.{◌+◌, if◌then◌else◌, true, ap, ◌∙◌, arith}
 use Rattle.onfi_timing.specs.Kinds.{operation_of}
 use Rattle.onfi_problem.specs.Left.{want_command, want_post}
 use Rattle.onfi_bound.specs.Bounds.{same_operation}
+use Rattle.onfi_bound.specs.Parts.{has_operation}
 use Rattle.onfi_bound.proofs.Steps.{summed, tested_too}
 use Rattle.onfi_bound.proofs.left.Sums.with_wants.Goals as goal
 
@@ -14,7 +15,7 @@ loop-want-preserved c =
     record {
       commands = summed (want_command c.args.timing.now) c.args.wants.now c.loop-want.want-index _ c.args.self.commands _ _ c.loop-want-test.true at.commands commands;
       posts = summed (want_post c.args.timing.now) c.args.wants.now c.loop-want.want-index _ c.args.self.posts _ _ c.loop-want-test.true at.posts posts;
-      operations = λ operation. tested_too _ (λ w. same_operation operation (operation_of w.kind)) c.args.wants.now c.loop-want.want-index _ _ _ c.loop-want-test.true (at.operations operation) (more.operations operation);
+      operations = λ operation. tested_too _ (λ w. same_operation operation (operation_of w.kind)) c.args.wants.now c.loop-want.want-index _ _ _ c.loop-want-test.true (at.operations operation) (more.operations operation ∙ ap (λ z. if has_operation c.loop-want.sums.operations operation then true else same_operation operation z) c.operation.ensures);
       commands_short = omega arith;
       posts_short = omega arith;
     }

@@ -5,6 +5,7 @@ use Rattle.onfi_problem.specs.Left.{want_command, want_post}
 use Rattle.onfi_problem.proofs.Perm.{All-append}
 use Rattle.onfi_problem.proofs.Wants.{total-append}
 use Rattle.onfi_bound.specs.Bounds.{same_operation}
+use Rattle.onfi_bound.specs.Parts.{has_operation}
 use Rattle.onfi_bound.proofs.GroupPosts.{total_few}
 use Rattle.onfi_bound.proofs.Loading.{IsOwnFirst, any_more, firsts_with, firsts_short, works_with, works_short}
 use Rattle.onfi_bound.proofs.load.Load.add.Goals as goal
@@ -42,7 +43,7 @@ returns-clause-load c =
       takes = record {
         commands = (let t = total-append (want_command timing) ws (w ∷ []) in let a = h.takes.commands in let e = ap (λ z. z.cmd) s in omega arith);
         posts = (let t = total-append (want_post timing) ws (w ∷ []) in let a = h.takes.posts in let e = ap (λ z. z.post) s in omega arith);
-        operations = λ operation. sums.operations operation ∙ (ap (λ b. if b then true else same_operation operation (operation_of w.kind)) (h.takes.operations operation) ∙ sym (any_more (λ v. same_operation operation (operation_of v.kind)) ws w));
+        operations = λ operation. (sums.operations operation ∙ ap (λ z. if has_operation load.sums.operations operation then true else same_operation operation z) c.operation.ensures) ∙ (ap (λ b. if b then true else same_operation operation (operation_of w.kind)) (h.takes.operations operation) ∙ sym (any_more (λ v. same_operation operation (operation_of v.kind)) ws w));
         firsts = firsts_with timing rules ws w load h first within c.requires.lun way;
         short = firsts_short timing rules ws w load h first within way;
         work = rw s (works_with timing rules ws w load h c.wait_of-wait.result within' c.requires.lun c.requires.want.plane wait.page_fits wait.above_fits (rw s at wait.value));

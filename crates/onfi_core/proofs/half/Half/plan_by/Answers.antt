@@ -1,5 +1,5 @@
 use Rattle.std.proofs.Common.{◌≡◌, ◌≢◌, ◌<◌, ◌≤◌, ◌^◌, Bool, None, false, refl, sym, ap, ◌∙◌, subst}
-use Rattle.onfi_problem.specs.Problem.{IsProblem, Problem}
+use Rattle.onfi_problem.specs.Problem.{HasLengths, IsProblem, Problem}
 use Rattle.onfi_problem.specs.Kept.{problem_of}
 use Rattle.onfi_problem.specs.Left.{horizon}
 use Rattle.onfi_check.specs.Nodes.{HasMoreNodes}
@@ -8,7 +8,7 @@ use Rattle.onfi_core.specs.declared.planning.PlanStop.TheVariants.{Clock, Over, 
 use Rattle.onfi_core.specs.Kept.{IsSound}
 use Rattle.onfi_core.specs.Steps.{Plans, Taken, Takes, nothing_to_plan, problem_with}
 use Rattle.onfi_core.specs.View.{HalfView, PlanRefused, StopsBecause, planning_of, refusal_of, taken_of}
-use Rattle.onfi_core.proofs.Plan.{keeps_taken, parts_are}
+use Rattle.onfi_core.proofs.Plan.{has_lengths, keeps_taken, parts_are}
 use Rattle.onfi_core.proofs.Next.{taken_goes_on, taken_stops}
 use Rattle.onfi_core.proofs.Running.{clock_stops}
 use Rattle.onfi_core.proofs.half.Half.plan_by.Given.{Over as AtTypes}
@@ -50,6 +50,13 @@ plan_wants-next-requires-clause-problem g c =
     let v = c.args.self.now in
     let sound = subst (λ (x : HalfView). IsSound x.setup x.state) c.self.view_is c.self.invariant.sound in
     subst IsProblem (sym (problem_is g c)) (keeps_taken v.setup v.state (taken_of c.in-Ok.taking) sound c.in-Ok.ensures.takes).problem
+
+pub plan_wants-next-requires-clause-lengths : goal.plan_wants-next-requires-clause-lengths
+plan_wants-next-requires-clause-lengths g c =
+    let v = c.args.self.now in
+    let sound = subst (λ (x : HalfView). IsSound x.setup x.state) c.self.view_is c.self.invariant.sound in
+    let keeps = keeps_taken v.setup v.state (taken_of c.in-Ok.taking) sound c.in-Ok.ensures.takes in
+    subst HasLengths (sym (problem_is g c)) (has_lengths v.setup v.state (taken_of c.in-Ok.taking) sound keeps)
 
 pub take_over-requires-clause-plans : goal.take_over-requires-clause-plans
 take_over-requires-clause-plans g c =

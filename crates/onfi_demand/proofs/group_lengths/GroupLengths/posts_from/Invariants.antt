@@ -2,7 +2,7 @@ use Rattle.std.proofs.Common.{◌≡◌, ◌+◌, ◌-◌, ◌*◌, ◌^◌, ◌
 use Rattle.std.specs.List.{sum}
 use Rattle.onfi_timing.specs.Phases.{posts_from}
 use Rattle.onfi_demand.specs.Remaining.{lengths_of}
-use Rattle.onfi_demand.proofs.lengths.GroupLengths.posts_from.Given as goal
+use Rattle.onfi_demand.proofs.group_lengths.GroupLengths.posts_from.Given as goal
 
 abbrev pub invariant-loop-at : goal.invariant-loop-at
 invariant-loop-at l = record {
