@@ -5,6 +5,7 @@ use Rattle.onfi_timing.specs.declared.operation.Operation.{Operation}
 use Rattle.onfi_timing.specs.declared.operation.Operation.TheVariants.{Read, Program, Erase}
 use Rattle.onfi_timing.specs.declared.spans.Spans.{Spans}
 use Rattle.onfi_timing.specs.declared.timing.Timing.{Timing}
+pub use Rattle.onfi_timing.specs.Kinds.{same_operation}
 use Rattle.onfi_timing.specs.Kinds.{least_rest, operation_of, operation_spans, spans_of}
 use Rattle.onfi_request.specs.declared.want.Want.{Want}
 use Rattle.onfi_group.specs.declared.rules.Rules.{Rules}
@@ -59,12 +60,6 @@ lead_from p (Some start) = start + all_posts p
 -- all posts come after the first one
 abbrev pub lead : Problem → ℕ
 lead p = lead_from p (least (post_starts p 0 p.luns))
-
-abbrev pub same_operation : Operation → Operation → Bool
-same_operation Read Read = true
-same_operation Program Program = true
-same_operation Erase Erase = true
-same_operation _ _ = false
 
 -- a command is next on the LUN, and its group is of that operation
 abbrev pub commands_next : Operation → LunState → Bool

@@ -156,20 +156,19 @@ agree_groups timing g g' n own other operation size sectors =
     let there' = subst (λ k. Agree k n (group_spans timing g') (lengths_left timing (group_operation g') (length g') (sectors_left g' n))) (sym size) there in
     agree_both (length g) n (group_spans timing g) (group_spans timing g') (lengths_left timing (group_operation g) (length g) (sectors_left g n)) (agree_group timing g n own) (subst (λ l. Agree (length g) n (group_spans timing g') l) same there')
 
+abbrev sectors : Want → ℕ
+sectors m = sectors_of m.kind
+
 -- where the same is left, the same is left after one phase more
 pub sectors_later : (g g' : List Want) (n : ℕ) → length g ≡ length g' → sectors_left g n ≡ sectors_left g' n → sectors_left g (n + 1) ≡ sectors_left g' (n + 1)
 sectors_later g g' n size same = later g ∙ (ap (drop (n + 1 - length g - (n - length g))) same ∙ (ap (λ k. drop (n + 1 - k - (n - k)) (sectors_left g' n)) size ∙ sym (later g')))
   where
-    sectors : List Want → List ℕ
-    sectors ms = map (λ m. sectors_of m.kind) ms
-
     later : (ms : List Want) → sectors_left ms (n + 1) ≡ drop (n + 1 - length ms - (n - length ms)) (sectors_left ms n)
-    unfolding sectors
     later ms =
         let j = n - length ms in
         let x = n + 1 - length ms - j in
         let more : j + x ≡ n + 1 - length ms = omega arith in
-        ap (λ i. sectors (drop i ms)) (sym more) ∙ (ap sectors (sym (drop-drop x j ms)) ∙ sym (drop-map (λ m. sectors_of m.kind) x (drop j ms)))
+        ap (λ i. map sectors (drop i ms)) (sym more) ∙ (ap (map sectors) (sym (drop-drop x j ms)) ∙ sym (drop-map sectors x (drop j ms)))
 
 all_alike : (luns : List LunState) → ((l : ℕ) (g : List Want) (n r : ℕ) → slice_get luns l ≡ Some (Running g n r) → IsAlike g) → All RunsAlike luns
 all_alike [] h = tt

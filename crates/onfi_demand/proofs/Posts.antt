@@ -49,14 +49,12 @@ module _ (timing : Timing) (operation : Operation) (k n : ℕ) (sectors posts : 
   left = take (posts_count k n) sectors
 
   pub posts_are : k ≤ 4 → length sectors ≡ 4 → length posts ≡ 4 → ((i : ℕ) → i < n - k → get_or posts i 0 ≡ 0) → ((i : ℕ) → n - k ≤ i → i < k → get_or posts i 0 ≡ post_of timing operation (get_or sectors (i - (n - k)) 0)) → take k posts ≡ posts_left timing operation k (take (posts_count k n) sectors)
-  unfolding left
   posts_are few long own over there = ext_get_or 0 (take k posts) (posts_left timing operation k left) (size ∙ sym whole) at
     where
       size : length (take k posts) ≡ k
       size = length-take-le k posts (omega arith)
 
       count : length left ≡ posts_count k n
-      unfolding left
       count = length-take-le (posts_count k n) sectors (omega arith)
 
       zeros : length (replicate (k - length left) 0) ≡ k - length left
@@ -71,7 +69,6 @@ module _ (timing : Timing) (operation : Operation) (k n : ℕ) (sectors posts : 
           omega arith
 
       at : (i : ℕ) → i < length (take k posts) → get_or (take k posts) i 0 ≡ get_or (posts_left timing operation k left) i 0
-      unfolding left
       at i h =
           let s = size in
           let own = get_or-take k posts i 0 (omega arith) in

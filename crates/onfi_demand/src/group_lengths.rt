@@ -1,7 +1,7 @@
 //! How long the phases of a group take of which only the operation, the number of members and the sectors of the posts that
 //! are left are known.
 
-ghost use Rattle.std.specs.Prelude.{◌≡◌, ◌*◌, ◌^◌, ◌<◌, ◌≤◌, length, take};
+ghost use Rattle.std.specs.Prelude.{◌≡◌, ℕ, ◌*◌, ◌^◌, ◌<◌, ◌≤◌, length, slice_index, take};
 ghost use Rattle.std.specs.List.{AllByRecursion as Each};
 
 use crate::lengths::{operation_spans, posts_of, rest_to_post};
@@ -17,7 +17,7 @@ pub struct GroupLengths {
     posts: [u64; 4],
     pub ghost few: { members ≤ 4 },
     pub ghost long: { length posts ≡ 4 },
-    pub ghost short: { Each (λ t. t < 2 ^ 50) posts },
+    pub ghost short: { (i : ℕ) → slice_index posts i < 2 ^ 50 },
 }
 
 impl GroupLengths {

@@ -1,7 +1,6 @@
 //! Lengths of operations, whatever group runs.
 
-ghost use Rattle.std.specs.Prelude.{◌≡◌, ◌+◌, ◌*◌, ◌^◌, ◌<◌, ◌≤◌, [], length, take};
-ghost use Rattle.std.specs.List.{AllByRecursion as Each};
+ghost use Rattle.std.specs.Prelude.{◌≡◌, ℕ, ◌+◌, ◌*◌, ◌^◌, ◌<◌, ◌≤◌, [], length, slice_index, take};
 ghost use Rattle.onfi_timing.specs.Kinds.{operation_spans};
 ghost use Rattle.onfi_problem.specs.Left.{commands_left, waits_left};
 ghost use Rattle.onfi_demand.specs.Remaining.{post_of, posts_count, posts_left, with_posts};
@@ -46,7 +45,7 @@ pub(crate) fn posts_of(
     requires { members ≤ 4 }
     ensures posts { take members result ≡ posts_left timing.now operation members (take (posts_count members next) sectors.now) }
     ensures long { length result ≡ 4 }
-    ensures short { Each (λ t. t < 2 ^ 50) result }
+    ensures short { (i : ℕ) → slice_index result i < 2 ^ 50 }
 {
     let mut posts = [0; 4];
     let over = next.saturating_sub(members) as usize;

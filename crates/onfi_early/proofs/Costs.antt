@@ -3,14 +3,14 @@ use Rattle.std.proofs.Common.{◌≡◌, ◌≢◌, ℕ, zero, suc, ◌+◌, ◌
 use Rattle.std.specs.Prelude.{slice_get, slice_index_or}
 use Rattle.std.specs.Option.{option_map}
 use Rattle.std.proofs.lemmas.Bool.{ne_eqb}
-use Rattle.std.proofs.lemmas.List.{take-replicate}
-use Rattle.onfi_timing.specs.declared.kind.Kind.{Kind}
+use Rattle.onfi_timing.specs.declared.operation.Operation.{Operation}
 use Rattle.onfi_timing.specs.declared.kind.Kind.TheVariants.{Read}
-use Rattle.onfi_timing.specs.Kinds.{spans_of}
+use Rattle.onfi_timing.specs.Phases.{Lengths}
 use Rattle.onfi_timing.specs.declared.timing.Timing.{Timing}
 use Rattle.onfi_request.specs.declared.want.Want.{Want}
 use Rattle.onfi_problem.specs.declared.lun_state.LunState.{LunState}
 use Rattle.onfi_demand.specs.Left.{LunLeft, Rest, left_on}
+use Rattle.onfi_demand.specs.Remaining.{lengths_left}
 use Rattle.onfi_early.specs.Cost.{posts_cost, left_cost, rest_cost, weight_of}
 
 abbrev pub no_want : Want
@@ -33,13 +33,9 @@ weight_next wants weights id i d h other =
     let next : suc i ≡ i + 1 = omega arith in
     subst (λ n. weight_of (drop i wants) (drop i weights) id ≡ weight_of (drop n wants) (drop n weights) id) next (weight_behind wants weights id i d h other)
 
--- at most four members of one kind have equal posts
-pub few_posts : (k post : ℕ) → k ≤ 4 → take k (post ∷ post ∷ post ∷ post ∷ []) ≡ replicate k post
-few_posts k post h = take-replicate k 4 post h
-
-pub rest_costs : (timing : Timing) (weights starts : List ℕ) (kind : Kind) (k n first commands : ℕ) (posts : List ℕ) → posts ≡ replicate k (spans_of timing kind).post → first ≡ n - k → commands ≡ k - n
-    → posts_cost posts weights first (drop commands starts) ≡ left_cost timing weights (Rest kind k n) starts
-rest_costs timing weights starts kind k n first commands posts a b d = rw (a, b, d) refl
+pub rest_costs : (timing : Timing) (weights starts sectors : List ℕ) (operation : Operation) (k n first commands : ℕ) (lengths : Lengths) → lengths ≡ lengths_left timing operation k sectors → first ≡ n - k → commands ≡ k - n
+    → posts_cost lengths.posts weights first (drop commands starts) ≡ left_cost timing weights (Rest operation k sectors n) starts
+rest_costs timing weights starts sectors operation k n first commands lengths a b d = rw (a, b, d) refl
 
 -- what a LUN's state costs is what is left of it
 pub left_costs : (f : LunLeft → ℕ) (o : Option LunState) (l : LunLeft) (n : ℕ) → option_map left_on o ≡ Some l → f l ≡ n → option_map (λ state. f (left_on state)) o ≡ Some n

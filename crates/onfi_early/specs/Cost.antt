@@ -1,14 +1,13 @@
 -- What a schedule costs: the sum over all requests of their weight times the end of their post.
 use Rattle.std.specs.Prelude.{ℕ, ◌+◌, ◌-◌, ◌*◌, ◌==◌, if◌then◌else◌, List, [], ◌∷◌, length, map, drop, slice_index, slice_index_or}
 use Rattle.onfi_timing.specs.declared.timing.Timing.{Timing}
-use Rattle.onfi_timing.specs.Kinds.{spans_of}
 use Rattle.onfi_request.specs.declared.want.Want.{Want}
 use Rattle.onfi_group.specs.Words.{total}
 use Rattle.onfi_group.specs.Group.{group_spans}
 use Rattle.onfi_problem.specs.declared.lun_state.LunState.{LunState}
 use Rattle.onfi_problem.specs.Position.{Position}
 use Rattle.onfi_demand.specs.Left.{LunLeft, Idle, Rest, left_on}
-use Rattle.onfi_demand.specs.OneKind.{lengths_of}
+use Rattle.onfi_demand.specs.Remaining.{lengths_left}
 use Rattle.onfi_schedule.specs.Schedule.{Placed, Schedule}
 use Rattle.onfi_early.specs.declared.weights.Weights.{Weights}
 
@@ -34,7 +33,7 @@ group_cost timing wants weights g = posts_cost (group_spans timing g.members).po
 -- a group that runs: the commands that are left, then the posts
 abbrev pub left_cost : Timing → List ℕ → LunLeft → List ℕ → ℕ
 left_cost timing weights Idle starts = 0
-left_cost timing weights (Rest kind members next) starts = posts_cost (lengths_of (spans_of timing kind) members).posts weights (next - members) (drop (members - next) starts)
+left_cost timing weights (Rest operation members sectors next) starts = posts_cost (lengths_left timing operation members sectors).posts weights (next - members) (drop (members - next) starts)
 
 -- .. of each LUN from number `lun` on
 abbrev pub rest_cost : Timing → List (List ℕ) → ℕ → List LunState → List (List ℕ) → ℕ

@@ -12,7 +12,7 @@ ghost use Rattle.onfi_early.specs.Cost.{cost, group_cost, left_cost, member_weig
 
 use crate::weights::Weights;
 use arrayvec::ArrayVec;
-use onfi_demand::{LunLeft, left_on};
+use onfi_demand::{GroupLengths, LunLeft, left_on};
 use onfi_problem::Problem;
 use onfi_request::Want;
 use onfi_schedule::{Placed, Schedule, Starts};
@@ -60,15 +60,15 @@ fn cost_left(problem: &Problem, timing: &Timing, lun: u8, weights: &[u16], start
     match left_on(problem, lun) {
         LunLeft::Idle => 0,
         LunLeft::Rest {
-            kind,
+            operation,
             members,
             next,
+            sectors,
         } => {
-            let posts = [timing.spans(kind).post; 4];
+            let lengths = GroupLengths::of(timing, operation, members, next, &sectors);
             let commands = members.saturating_sub(next) as usize;
             let first = next.saturating_sub(members) as usize;
-            let own = &posts[..members as usize];
-            cost_behind(own, weights, first, commands, starts)
+            cost_behind(lengths.posts(), weights, first, commands, starts)
         }
     }
 }

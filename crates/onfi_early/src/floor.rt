@@ -2,10 +2,11 @@
 
 use crate::aim::Aim;
 use crate::line::Line;
-use crate::rest::{Posts, Rest, commands_left};
+use crate::rest::{Posts, Rest, commands_left, post_of};
 use onfi_group::Group;
 use onfi_problem::{Move, Problem};
-use onfi_timing::Kind;
+use onfi_request::Want;
+use onfi_timing::{Operation, Spans};
 
 /// What is left to each LUN at a node, and room for what is left after a move.
 #[derive(Drop)]
@@ -36,7 +37,7 @@ impl Floor {
         Floor {
             luns,
             cost: 0,
-            reads: Line::new(aim.timing.read),
+            reads: Line::new(shortest_read(problem, aim)),
             programs: Line::new(aim.timing.program),
             erases: Line::new(aim.timing.erase),
         }
@@ -123,18 +124,19 @@ impl Floor {
         let (spans, members) = (aim.timing.spans(group.kind()), group.len() as u8);
         let mut late = (members as u64 - 1) * (spans.cmd + spans.gap);
         let mut others = self.rest_of(lun).weights;
-        let mut more = 0u128;
+        let (mut more, mut posts) = (0u128, 0u64);
         for member in 0..members {
             let weight = aim.weight(place, member as usize);
             more = more.wrapping_add(weight as u128 * late as u128);
-            late = late.wrapping_add(spans.post);
+            let post = post_of(aim, group, member);
+            (late, posts) = (late.wrapping_add(post), posts.wrapping_add(post));
             others = others.saturating_sub(weight as u64);
         }
-        let takes = commands_left(&spans, members) + spans.post * members as u64;
+        let takes = commands_left(&spans, members).wrapping_add(posts);
         more.wrapping_add(others as u128 * takes as u128)
     }
 
-    /// By how much the posts cost more after a move of the node where those of a kind take the bus one after another, and
+    /// By how much the posts cost more after a move of the node where those of an operation take the bus one after another, and
     /// so do its commands.
     pub fn more_in_line(&mut self, problem: &Problem, aim: &Aim, phase: Phase) -> u128 {
         self.reads.clear();
@@ -172,25 +174,23 @@ impl Floor {
         let rest = self.rest_of(phase.step.lun());
         let posts = match phase.step {
             Move::Next { .. } if rest.posts.is_next() => {
-                let post = aim.timing.spans(rest.posts.kind).post;
-                rest.posts.behind_first(aim, post)
+                rest.posts.behind_first(aim, rest.phase)
             }
             Move::Next { .. } => rest.posts,
             Move::Start { place, .. } => posts_of(problem, aim, place),
         };
         self.line_up(posts, phase.start);
-        let post = aim.timing.spans(posts.kind).post;
         phase
             .start
             .wrapping_add(posts.wait)
-            .wrapping_add(post * posts.left as u64)
+            .wrapping_add(time_of(problem, aim, posts))
     }
 
     // The posts of a group whose LUN goes on then.
     fn line_up(&mut self, posts: Posts, from: u64) {
         if posts.left > 0 {
             let start = from.wrapping_add(posts.wait);
-            self.line_of(posts.kind)
+            self.line_of(posts.operation)
                 .add_posts(start, posts.left, posts.least);
         }
     }
@@ -207,18 +207,68 @@ impl Floor {
         for (at, want) in problem.wants().iter().enumerate() {
             if waiting[at] && !started[at] {
                 let free = free[(want.lun % 8) as usize];
-                self.line_of(want.kind).add_want(free, aim.wants[at]);
+                self.line_of(want.kind.operation())
+                    .add_want(free, aim.wants[at]);
             }
         }
     }
 
-    fn line_of(&mut self, kind: Kind) -> &mut Line {
-        match kind {
-            Kind::Read => &mut self.reads,
-            Kind::Program => &mut self.programs,
-            Kind::Erase => &mut self.erases,
+    fn line_of(&mut self, operation: Operation) -> &mut Line {
+        match operation {
+            Operation::Read => &mut self.reads,
+            Operation::Program => &mut self.programs,
+            Operation::Erase => &mut self.erases,
         }
     }
+}
+
+// The lengths of the problem's read whose post is the shortest, so that no line of reads is too long; of a page where it has none.
+fn shortest_read(problem: &Problem, aim: &Aim) -> Spans {
+    let mut shortest = None;
+    for want in problem.wants() {
+        shortest = shorter(shortest, aim, want);
+    }
+    for state in problem.luns() {
+        if state.next > 0
+            && let Some(group) = problem.groups().get(state.place as usize)
+        {
+            shortest = shorter_of(shortest, aim, group);
+        }
+    }
+    shortest.unwrap_or(aim.timing.read)
+}
+
+// The shortest read of a group or of those before.
+fn shorter_of(before: Option<Spans>, aim: &Aim, group: &Group) -> Option<Spans> {
+    let mut shortest = before;
+    for member in group.members() {
+        shortest = shorter(shortest, aim, member);
+    }
+    shortest
+}
+
+// The shorter of a want and those before, where it is a read.
+fn shorter(before: Option<Spans>, aim: &Aim, want: &Want) -> Option<Spans> {
+    if want.kind.operation() != Operation::Read {
+        return before;
+    }
+    let own = aim.timing.spans(want.kind);
+    match before {
+        Some(spans) if spans.post <= own.post => before,
+        _ => Some(own),
+    }
+}
+
+// How long the posts that are left of a group take, in ns.
+fn time_of(problem: &Problem, aim: &Aim, posts: Posts) -> u64 {
+    let Some(group) = problem.groups().get(posts.place as usize) else {
+        return 0;
+    };
+    let mut time = 0u64;
+    for member in posts.member..posts.member.saturating_add(posts.left) {
+        time = time.wrapping_add(post_of(aim, group, member));
+    }
+    time
 }
 
 // Those of a group that starts.

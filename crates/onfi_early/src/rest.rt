@@ -5,7 +5,7 @@ ghost use Rattle.std.specs.Prelude.{◌<◌, ◌≤◌, ◌^◌};
 use crate::aim::Aim;
 use onfi_group::Group;
 use onfi_problem::{Lun, Problem};
-use onfi_timing::{Kind, Spans};
+use onfi_timing::{Operation, Spans};
 
 /// What is left to a LUN, each phase as early as the LUN lets it.
 #[derive(Clone, Copy)]
@@ -25,7 +25,7 @@ pub struct Rest {
 /// The posts that are left of a group.
 #[derive(Clone, Copy)]
 pub struct Posts {
-    pub kind: Kind,
+    pub operation: Operation,
     pub place: u8,
     /// How many are left, of which member the first is, and the least of their weights.
     pub left: u8,
@@ -65,13 +65,13 @@ impl Rest {
         let spans = aim.timing.spans(group.kind());
         self.posts = Posts::of(&spans, aim, group, place, next);
         self.phase = if self.posts.wait == 0 {
-            spans.post
+            post_of(aim, group, self.posts.member)
         } else {
             spans.cmd
         };
         self.busy = self.posts.wait;
         for member in self.posts.member..self.posts.member.saturating_add(self.posts.left) {
-            self.busy = self.busy.wrapping_add(spans.post);
+            self.busy = self.busy.wrapping_add(post_of(aim, group, member));
             self.count(self.busy, aim.weight(place, member as usize));
         }
     }
@@ -105,7 +105,7 @@ impl Posts {
     /// None.
     pub fn none() -> Posts {
         Posts {
-            kind: Kind::Read,
+            operation: Operation::Read,
             place: 0,
             left: 0,
             member: 0,
@@ -120,7 +120,7 @@ impl Posts {
         let member = next.saturating_sub(members);
         let left = members.saturating_sub(member);
         Posts {
-            kind: group.kind(),
+            operation: group.operation(),
             place,
             left,
             member,
@@ -144,6 +144,16 @@ impl Posts {
             wait: post,
             ..self
         }
+    }
+}
+
+/// How long the post of a member takes, in ns; 0 where there is no such member.
+pub fn post_of(aim: &Aim, group: &Group, member: u8) -> u64
+    ensures { result < 2 ^ 50 }
+{
+    match group.members().get(member as usize) {
+        Some(member) => aim.timing.spans(member.kind).post,
+        None => 0,
     }
 }
 

@@ -18,7 +18,7 @@ use onfi_demand::{LunLeft, left_on};
 use onfi_planner::{Begun, Best};
 use onfi_problem::{Move, Moves, Problem};
 use onfi_steady::run_by_rule;
-use onfi_timing::Kind;
+use onfi_timing::Operation;
 use std::alloc::{AllocError, Global};
 
 /// How to choose among the moves that may start first.
@@ -226,7 +226,7 @@ fn rank(problem: &Problem, work: &[u64; 8], rule: Rule, m: Move) -> u64
             .saturating_add(wants),
         Rule::Work => work_left(problem, work, lun).saturating_add(wants),
         Rule::FewestWants => work_left(problem, work, lun).saturating_sub(wants),
-        Rule::Commands => rank_of_command(is_post(problem, lun), wants, kind_rank(problem, m)),
+        Rule::Commands => rank_of_command(is_post(problem, lun), wants, operation_rank(problem, m)),
         Rule::Posts => rank_of_post(is_post(problem, lun), wants),
     }
 }
@@ -238,10 +238,10 @@ fn turn_of(problem: &Problem, lun: u8, m: Move) -> u64
 {
     match m {
         Move::Next { .. } => turn_of_running(problem, lun),
-        Move::Start { place, .. } => match problem.group(place).kind() {
-            Kind::Read => 4,
-            Kind::Program => 2,
-            Kind::Erase => 1,
+        Move::Start { place, .. } => match problem.group(place).operation() {
+            Operation::Read => 4,
+            Operation::Program => 2,
+            Operation::Erase => 1,
         },
     }
 }
@@ -253,30 +253,31 @@ fn turn_of_running(problem: &Problem, lun: u8) -> u64
     match left_on(problem, lun) {
         LunLeft::Idle => 0,
         LunLeft::Rest {
-            kind,
+            operation,
             members,
             next,
+            ..
         } => {
             if next < members {
                 return 6;
             }
-            match kind {
-                Kind::Read => 3,
-                Kind::Program => 5,
-                Kind::Erase => 5,
+            match operation {
+                Operation::Read => 3,
+                Operation::Program => 5,
+                Operation::Erase => 5,
             }
         }
     }
 }
 
-// Commands rank above posts, by wants and then by kind.
-fn rank_of_command(post: bool, wants: u64, kind: u64) -> u64 {
+// Commands rank above posts, by wants and then by operation.
+fn rank_of_command(post: bool, wants: u64, operation: u64) -> u64 {
     if post {
-        return kind;
+        return operation;
     }
     wants
         .saturating_mul(4)
-        .saturating_add(kind)
+        .saturating_add(operation)
         .saturating_add(128)
 }
 
@@ -320,15 +321,15 @@ fn started_wants(problem: &Problem, m: Move) -> u64
 }
 
 // Erases before programs, and programs before reads; no matter which where a group goes on.
-fn kind_rank(problem: &Problem, m: Move) -> u64
+fn operation_rank(problem: &Problem, m: Move) -> u64
     requires { IsMove problem.now.problem (move_of problem.now.groups m) }
 {
     match m {
         Move::Next { .. } => 0,
-        Move::Start { place, .. } => match problem.group(place).kind() {
-            Kind::Erase => 2,
-            Kind::Program => 1,
-            Kind::Read => 0,
+        Move::Start { place, .. } => match problem.group(place).operation() {
+            Operation::Erase => 2,
+            Operation::Program => 1,
+            Operation::Read => 0,
         },
     }
 }

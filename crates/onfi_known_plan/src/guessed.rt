@@ -3,45 +3,72 @@
 ghost use Rattle.std.specs.Prelude.{◌<◌, length};
 
 use onfi_bound::Loads;
-use onfi_demand::{LunLeft, left_on, phase_length, wait_before};
+use onfi_demand::{GroupLengths, LunLeft, left_on};
 use onfi_problem::Problem;
-use onfi_timing::{Kind, Spans};
+use onfi_timing::Operation;
 
-/// How many wants of each kind wait for a LUN.
+/// Wants of an operation that wait: how many, and their posts, all together and the shortest, in ns.
 #[derive(Clone, Copy)]
-pub struct KindCounts {
-    pub reads: u64,
-    pub programs: u64,
-    pub erases: u64,
+pub struct Waiting {
+    pub count: u64,
+    pub posts: u64,
+    pub shortest: u64,
 }
 
-impl KindCounts {
+impl Waiting {
+    // None.
+    fn none() -> Waiting {
+        Waiting {
+            count: 0,
+            posts: 0,
+            shortest: u64::MAX,
+        }
+    }
+
     // One want more.
-    fn add(&mut self, kind: Kind) {
-        let count = match kind {
-            Kind::Read => &mut self.reads,
-            Kind::Program => &mut self.programs,
-            Kind::Erase => &mut self.erases,
-        };
-        *count = count.saturating_add(1);
+    fn add(&mut self, post: u64) {
+        self.count = self.count.saturating_add(1);
+        self.posts = self.posts.saturating_add(post);
+        self.shortest = self.shortest.min(post);
     }
 }
 
-/// How many wants of each kind wait, for each LUN.
-pub fn waiting_counts(problem: &Problem) -> [KindCounts; 8] {
-    let none = KindCounts {
-        reads: 0,
-        programs: 0,
-        erases: 0,
+/// The wants that wait for a LUN.
+#[derive(Clone, Copy)]
+pub struct WaitingOnLun {
+    pub reads: Waiting,
+    pub programs: Waiting,
+    pub erases: Waiting,
+}
+
+impl WaitingOnLun {
+    // One want more.
+    fn add(&mut self, operation: Operation, post: u64) {
+        let waiting = match operation {
+            Operation::Read => &mut self.reads,
+            Operation::Program => &mut self.programs,
+            Operation::Erase => &mut self.erases,
+        };
+        waiting.add(post);
+    }
+}
+
+/// The wants that wait, for each LUN.
+pub fn list_waiting(problem: &Problem) -> [WaitingOnLun; 8] {
+    let none = WaitingOnLun {
+        reads: Waiting::none(),
+        programs: Waiting::none(),
+        erases: Waiting::none(),
     };
-    let mut counts = [none; 8];
+    let mut luns = [none; 8];
     let waiting = problem.waiting();
     for (i, want) in problem.wants().iter().enumerate() {
         if waiting[i] {
-            counts[(want.lun % 8) as usize].add(want.kind);
+            let post = problem.timing().spans(want.kind).post;
+            luns[(want.lun % 8) as usize].add(want.kind.operation(), post);
         }
     }
-    counts
+    luns
 }
 
 /// For each LUN how long the wants that wait take at least, in ns; none where the loads are of another problem.
@@ -69,21 +96,24 @@ pub fn group_left(problem: &Problem, lun: u8) -> u64
     match left_on(problem, lun) {
         LunLeft::Idle => 0,
         LunLeft::Rest {
-            kind,
+            operation,
             members,
             next,
-        } => rest_of(&problem.timing().spans(kind), members, next),
+            sectors,
+        } => {
+            let lengths = GroupLengths::of(problem.timing(), operation, members, next, &sectors);
+            rest_of(&lengths, next)
+        }
     }
 }
 
 /// How long the phases of a group take from `next` on, with the waits between them, in ns.
-pub fn rest_of(spans: &Spans, members: u8, next: u8) -> u64 {
-    let members = members as usize;
+pub fn rest_of(lengths: &GroupLengths, next: u8) -> u64 {
     let mut rest = 0u64;
-    for phase in next as usize..2 * members {
+    for phase in next as usize..2 * lengths.members as usize {
         rest = rest
-            .saturating_add(phase_length(spans, members, phase))
-            .saturating_add(wait_before(spans, members, phase + 1));
+            .saturating_add(lengths.phase_length(phase))
+            .saturating_add(lengths.wait_before(phase + 1));
     }
     rest
 }

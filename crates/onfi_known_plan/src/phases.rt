@@ -2,9 +2,9 @@
 
 ghost use Rattle.std.specs.Prelude.{◌≡◌, ◌≤◌, ◌<◌, ◌^◌, IfOk, IfSome, [], length};
 
-use crate::guessed::{KindCounts, rest_of, waiting_counts, waiting_work};
+use crate::guessed::{Waiting, WaitingOnLun, list_waiting, rest_of, waiting_work};
 use onfi_bound::Loads;
-use onfi_demand::{LunLeft, Window, left_on, phase_length, wait_before};
+use onfi_demand::{GroupLengths, LunLeft, Window, left_on};
 use onfi_problem::Problem;
 use onfi_timing::{Spans, Timing};
 use std::alloc::{AllocError, Global};
@@ -59,11 +59,11 @@ impl Phases {
     // Lists what is left to all LUNs.
     fn list(&mut self, problem: &Problem, loads: &Loads) -> Result<(), AllocError> {
         let timing = problem.timing();
-        let counts = waiting_counts(problem);
+        let waiting = list_waiting(problem);
         let work = waiting_work(problem, loads);
         for lun in 0..problem.lun_count() {
             let free = self.list_group(problem, timing, lun as u8, work[lun])?;
-            self.list_wants(timing, &counts[lun], free)?;
+            self.list_wants(timing, &waiting[lun], free)?;
         }
         Ok(())
     }
@@ -82,12 +82,13 @@ impl Phases {
         match left_on(problem, lun) {
             LunLeft::Idle => Ok(go),
             LunLeft::Rest {
-                kind,
+                operation,
                 members,
                 next,
+                sectors,
             } => {
-                let spans = timing.spans(kind);
-                self.list_phases(&spans, members, next, go, work)
+                let lengths = GroupLengths::of(timing, operation, members, next, &sectors);
+                self.list_phases(&lengths, next, go, work)
             }
         }
     }
@@ -96,21 +97,19 @@ impl Phases {
     // one; answers when that one ends.
     fn list_phases(
         &mut self,
-        spans: &Spans,
-        members: u8,
+        lengths: &GroupLengths,
         next: u8,
         go: u64,
         work: u64,
     ) -> Result<u64, AllocError> {
-        let end = go.saturating_add(rest_of(spans, members, next));
-        let members = members as usize;
+        let end = go.saturating_add(rest_of(lengths, next));
         let mut start = go;
-        for phase in next as usize..2 * members {
-            let length = phase_length(spans, members, phase);
+        for phase in next as usize..2 * lengths.members as usize {
+            let length = lengths.phase_length(phase);
             let ended = start.saturating_add(length);
             let tail = end.saturating_sub(ended).saturating_add(work);
             self.insert(start, length, tail)?;
-            start = ended.saturating_add(wait_before(spans, members, phase + 1));
+            start = ended.saturating_add(lengths.wait_before(phase + 1));
         }
         Ok(end)
     }
@@ -119,22 +118,27 @@ impl Phases {
     fn list_wants(
         &mut self,
         timing: &Timing,
-        counts: &KindCounts,
+        waiting: &WaitingOnLun,
         free: u64,
     ) -> Result<(), AllocError> {
-        self.list_kind(&timing.read, counts.reads, free)?;
-        self.list_kind(&timing.program, counts.programs, free)?;
-        self.list_kind(&timing.erase, counts.erases, free)
+        self.list_operation(&timing.read, &waiting.reads, free)?;
+        self.list_operation(&timing.program, &waiting.programs, free)?;
+        self.list_operation(&timing.erase, &waiting.erases, free)
     }
 
-    // .. of so many wants of a kind.
-    fn list_kind(&mut self, spans: &Spans, count: u64, free: u64) -> Result<(), AllocError> {
-        if count == 0 {
+    // .. of the wants of an operation.
+    fn list_operation(
+        &mut self,
+        spans: &Spans,
+        waiting: &Waiting,
+        free: u64,
+    ) -> Result<(), AllocError> {
+        if waiting.count == 0 {
             return Ok(());
         }
-        let commands = spans.cmd.saturating_mul(count);
-        let posts = spans.post.saturating_mul(count);
-        let behind = spans.array.saturating_add(spans.post);
+        let commands = spans.cmd.saturating_mul(waiting.count);
+        let posts = waiting.posts;
+        let behind = spans.array.saturating_add(waiting.shortest);
         let ready = free.saturating_add(spans.cmd).saturating_add(spans.array);
         self.insert(free, commands, behind)?;
         self.insert(ready, posts, 0)

@@ -4,18 +4,21 @@ ghost use Rattle.std.specs.Prelude.{◌≡◌, ◌≤◌, ◌<◌, ℕ, true, []
 ghost use Rattle.onfi_group.specs.Words.{Pairs};
 ghost use Rattle.onfi_demand.specs.Work.{IsShape};
 ghost use Rattle.onfi_known_check.specs.Proves.{IsAgain, Remembers};
-ghost use Rattle.onfi_known_plan.specs.Codes.{told_kind, told_left};
+ghost use Rattle.onfi_known_plan.specs.Codes.{IsCode, coded_operation};
 ghost use Rattle.onfi_known_plan.specs.Times.{AreTimes};
 
 use onfi_demand::{Demand, LunLeft, left_on};
 use onfi_known_check::Known;
 use onfi_problem::Problem;
-use onfi_timing::Kind;
+use onfi_timing::Operation;
 use std::alloc::{AllocError, Global};
 use std::collections::HashMap;
 
 /// How many nodes with the same left are looked at for one.
 const MOST_LOOKS: u32 = 64;
+
+/// An odd number that spreads the sectors of LUNs over all bits of a key: 2^64 by the golden ratio.
+const MIX: u64 = 0x9E37_79B9_7F4A_7C15;
 
 /// The nodes that a walk is done with, in the order in which they ended.
 #[derive(Drop)]
@@ -122,15 +125,24 @@ fn are_met(times: &[u64; 8], asked: &[u64; 8]) -> bool
     met
 }
 
-// A number that is the same exactly where the same is left: seven bits for each LUN, and a bit for each want.
+// A number that is the same where the same is left: seven bits for each LUN, and a bit for each want, with the sectors mixed in.
+// Without sectors it is the same nowhere else; who looks a node up compares all.
 fn key_of(problem: &Problem) -> u64 {
-    let mut key = 0u64;
+    let (mut key, mut mixed) = (0u64, 0u64);
     for lun in 0..problem.lun_count() as u8 {
-        key = key
-            .wrapping_mul(128)
-            .wrapping_add(code_of(left_on(problem, lun)));
+        let left = left_on(problem, lun);
+        key = key.wrapping_mul(128).wrapping_add(code_of(left));
+        mixed = mixed.wrapping_mul(MIX).wrapping_add(sectors_of(left));
     }
-    with_marks(key, problem.waiting())
+    with_marks(key, problem.waiting()) ^ mixed.wrapping_mul(MIX)
+}
+
+// The sectors of the posts that are left to a LUN, a byte for each.
+fn sectors_of(left: LunLeft) -> u64 {
+    match left {
+        LunLeft::Idle => 0,
+        LunLeft::Rest { sectors, .. } => u64::from(u32::from_le_bytes(sectors)),
+    }
 }
 
 fn with_marks(key: u64, marks: &[bool; 8]) -> u64 {
@@ -141,30 +153,31 @@ fn with_marks(key: u64, marks: &[bool; 8]) -> u64 {
     key
 }
 
-// A number of seven bits that says what a LUN has left.
+// A number of seven bits that says what a LUN has left, but for sectors.
 fn code_of(left: LunLeft) -> u64
     requires { IsShape left }
     ensures small { result < 128 }
-    ensures told { told_left result ≡ left }
+    ensures told { IsCode result left }
 {
     match left {
         LunLeft::Idle => 0,
         LunLeft::Rest {
-            kind,
+            operation,
             members,
             next,
-        } => place_of(kind) + 4 * (members as u64 - 1 + 4 * next as u64),
+            ..
+        } => place_of(operation) + 4 * (members as u64 - 1 + 4 * next as u64),
     }
 }
 
-fn place_of(kind: Kind) -> u64
+fn place_of(operation: Operation) -> u64
     ensures some { 1 ≤ result }
     ensures few { result ≤ 3 }
-    ensures told { told_kind result ≡ kind }
+    ensures told { coded_operation result ≡ operation }
 {
-    match kind {
-        Kind::Read => 1,
-        Kind::Program => 2,
-        Kind::Erase => 3,
+    match operation {
+        Operation::Read => 1,
+        Operation::Program => 2,
+        Operation::Erase => 3,
     }
 }

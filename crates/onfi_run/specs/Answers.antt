@@ -3,7 +3,9 @@ use Rattle.std.specs.Prelude.{◌≡◌, ◌≤◌, ℕ, zero, suc, max, Bool, t
 use Rattle.std.specs.List.{list_all}
 use Rattle.std.specs.Option.{is_some}
 use Rattle.onfi_timing.specs.declared.kind.Kind.{Kind}
-use Rattle.onfi_timing.specs.declared.kind.Kind.TheVariants as kind
+use Rattle.onfi_timing.specs.declared.operation.Operation.{Operation}
+use Rattle.onfi_timing.specs.declared.operation.Operation.TheVariants.{Read, Program, Erase}
+use Rattle.onfi_timing.specs.Kinds.{operation_of}
 use Rattle.onfi_request.specs.declared.answer.Answer.{Answer}
 use Rattle.onfi_request.specs.declared.answer.Answer.TheVariants as answer
 use Rattle.onfi_request.specs.declared.reply.Reply.{Reply}
@@ -12,16 +14,19 @@ use Rattle.onfi_run.specs.Arriving.{Expected}
 use Rattle.onfi_run.specs.Report.{AnswersView}
 
 -- a read gives a page, the others say whether they succeeded
+abbrev pub suits_operation : Operation → Answer → Bool
+suits_operation Read (answer.Read bytes) = true
+suits_operation Read answer.Done = false
+suits_operation Read answer.Failed = false
+suits_operation Program (answer.Read bytes) = false
+suits_operation Program answer.Done = true
+suits_operation Program answer.Failed = true
+suits_operation Erase (answer.Read bytes) = false
+suits_operation Erase answer.Done = true
+suits_operation Erase answer.Failed = true
+
 abbrev pub suits : Kind → Answer → Bool
-suits kind.Read (answer.Read bytes) = true
-suits kind.Read answer.Done = false
-suits kind.Read answer.Failed = false
-suits kind.Program (answer.Read bytes) = false
-suits kind.Program answer.Done = true
-suits kind.Program answer.Failed = true
-suits kind.Erase (answer.Read bytes) = false
-suits kind.Erase answer.Done = true
-suits kind.Erase answer.Failed = true
+suits kind answer = suits_operation (operation_of kind) answer
 
 -- an answer suits its operation, and no reply was collected before its operation was submitted
 pub record IsSuited (c : Completion) : Type 0 where

@@ -3,19 +3,19 @@ use Rattle.std.specs.Prelude.{◌≡◌, ℕ, ◌-◌, ◌/◌, ◌&&◌, if◌t
 use Rattle.std.specs.List.{flat_map, sum}
 use Rattle.std.specs.List.Sorted.{IsNonDecreasing, IsPermutation}
 use Rattle.std.specs.Option.{is_some, unwrap_or}
-use Rattle.onfi_timing.specs.declared.kind.Kind.{Kind}
-use Rattle.onfi_script.specs.Subject.{is_kind}
+use Rattle.onfi_timing.specs.declared.operation.Operation.{Operation}
+use Rattle.onfi_timing.specs.Kinds.{operation_of, same_operation}
 use Rattle.onfi_run.specs.declared.completion.Completion.{Completion}
 use Rattle.onfi_run.specs.declared.latency.Latency.{Latency}
 use Rattle.onfi_run.specs.Report.{GotView}
 
--- of an operation of that kind that has its reply; without a moment of arrival it arrives as it is submitted
-abbrev pub latency_of : Kind → Completion → Option ℕ
-latency_of kind c = if is_kind kind c.kind && is_some c.answer then Some (c.at - unwrap_or c.arrives c.sent) else None
+-- of what does that operation and has its reply; without a moment of arrival it arrives as it is submitted
+abbrev pub latency_of : Operation → Completion → Option ℕ
+latency_of operation c = if same_operation operation (operation_of c.kind) && is_some c.answer then Some (c.at - unwrap_or c.arrives c.sent) else None
 
 -- of all such, by host, channel and serial
-abbrev pub latencies : Kind → List GotView → List ℕ
-latencies kind got = flat_map (flat_map (filter_map (latency_of kind))) got
+abbrev pub latencies : Operation → List GotView → List ℕ
+latencies operation got = flat_map (flat_map (filter_map (latency_of operation))) got
 
 -- the place, counted from 0, of the least of so many in rising order that at least 99 of 100 don't pass
 abbrev pub place_of_99 : ℕ → ℕ

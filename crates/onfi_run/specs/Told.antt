@@ -2,7 +2,7 @@
 use Rattle.std.specs.Prelude.{◌≡◌, ℕ, Bool, true, false, List, [], ◌∷◌, length, map, IfSome, Some}
 use Rattle.std.specs.Option.{is_some}
 use Rattle.std.specs.List.{AllByRecursion as Each}
-use Rattle.onfi_timing.specs.declared.kind.Kind.TheVariants.{Read, Program, Erase}
+use Rattle.onfi_timing.specs.declared.operation.Operation.TheVariants.{Read, Program, Erase}
 use Rattle.onfi_script.specs.declared.row.Row.{Row}
 use Rattle.onfi_run.specs.Answers.{IsSuited, IsComplete}
 use Rattle.onfi_run.specs.Arriving.{Expected, expected_of}

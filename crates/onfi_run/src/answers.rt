@@ -11,7 +11,7 @@ use crate::completion::Completion;
 use crate::operations::kind_in;
 use onfi_request::{Answer, Reply};
 use onfi_script::Row;
-use onfi_timing::Kind;
+use onfi_timing::{Kind, Operation};
 use std::alloc::{AllocError, Global};
 use std::marker::Model;
 
@@ -39,8 +39,8 @@ fn suits(kind: Kind, answer: &Answer) -> bool
     ensures { result ≡ spec.suits kind answer.now }
 {
     match answer {
-        Answer::Read(_) => matches!(kind, Kind::Read),
-        Answer::Done | Answer::Failed => !matches!(kind, Kind::Read),
+        Answer::Read(_) => matches!(kind.operation(), Operation::Read),
+        Answer::Done | Answer::Failed => !matches!(kind.operation(), Operation::Read),
     }
 }
 

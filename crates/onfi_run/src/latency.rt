@@ -1,15 +1,14 @@
 //! How long operations took.
 ghost use Rattle.std.specs.Prelude.{◌≡◌, ◌≤◌, ◌*◌, ◌/◌, ◌++◌, [], OnOk, IfOk, length, filter_map};
 ghost use Rattle.std.specs.List.{cons_option, flat_map, sum};
-ghost use Rattle.onfi_script.specs.Subject.{is_kind};
 ghost use Rattle.onfi_run.specs.Latency as spec;
 
 use crate::answers::{Answers, Got};
 use crate::completion::Completion;
-use onfi_timing::Kind;
+use onfi_timing::Operation;
 use std::alloc::{AllocError, Global};
 
-/// How long operations of one kind took, from arrival to reply, in ns of the run's clock; from submission, where no row says
+/// How long reads, programs or erases took, from arrival to reply, in ns of the run's clock; from submission, where no row says
 /// when they arrived.
 #[derive(Clone, Copy)]
 pub struct Latency {
@@ -21,23 +20,12 @@ pub struct Latency {
     pub most_of_99: u64,
 }
 
-/// Whether the two are one kind.
-fn is_kind(kind: Kind, other: Kind) -> bool
-    ensures { result ≡ is_kind kind other }
-{
-    match kind {
-        Kind::Read => matches!(other, Kind::Read),
-        Kind::Program => matches!(other, Kind::Program),
-        Kind::Erase => matches!(other, Kind::Erase),
-    }
-}
-
 impl Completion {
-    /// How long the operation took, where it is of that kind and has its reply.
-    fn latency(&self, kind: Kind) -> Option<u64>
-        ensures { result ≡ spec.latency_of kind self.now }
+    /// How long the operation took, where it is that one and has its reply.
+    fn latency(&self, operation: Operation) -> Option<u64>
+        ensures { result ≡ spec.latency_of operation self.now }
     {
-        if is_kind(kind, self.kind) && self.answer.is_some() {
+        if operation.is(self.kind.operation()) && self.answer.is_some() {
             Some(self.at.saturating_sub(self.arrives.unwrap_or(self.sent)))
         } else {
             None
@@ -56,32 +44,32 @@ fn put(latencies: &mut Vec<u64>, latency: Option<u64>) -> Result<(), AllocError>
 }
 
 /// Appends to others how long the operations of a host on a channel took.
-fn add(latencies: &mut Vec<u64>, kind: Kind, all: &[Completion]) -> Result<(), AllocError>
-    ensures { OnOk result (latencies.new.items ≡ latencies.old.items ++ filter_map (spec.latency_of kind) all.now) }
+fn add(latencies: &mut Vec<u64>, operation: Operation, all: &[Completion]) -> Result<(), AllocError>
+    ensures { OnOk result (latencies.new.items ≡ latencies.old.items ++ filter_map (spec.latency_of operation) all.now) }
 {
     for completion in all {
-        put(latencies, completion.latency(kind))?;
+        put(latencies, completion.latency(operation))?;
     }
     Ok(())
 }
 
 /// .. of a host on all channels.
-fn add_got(latencies: &mut Vec<u64>, kind: Kind, got: &[Answers]) -> Result<(), AllocError>
-    ensures { OnOk result (latencies.new.items ≡ latencies.old.items ++ flat_map (filter_map (spec.latency_of kind)) got.now) }
+fn add_got(latencies: &mut Vec<u64>, operation: Operation, got: &[Answers]) -> Result<(), AllocError>
+    ensures { OnOk result (latencies.new.items ≡ latencies.old.items ++ flat_map (filter_map (spec.latency_of operation)) got.now) }
 {
     for answers in got {
-        add(latencies, kind, answers.as_slice())?;
+        add(latencies, operation, answers.as_slice())?;
     }
     Ok(())
 }
 
 /// .. of all hosts.
-fn latencies(alloc: Global, kind: Kind, all: &[Got]) -> Result<Vec<u64>, AllocError>
-    ensures { IfOk result (λ v. v.items ≡ spec.latencies kind all.now) }
+fn latencies(alloc: Global, operation: Operation, all: &[Got]) -> Result<Vec<u64>, AllocError>
+    ensures { IfOk result (λ v. v.items ≡ spec.latencies operation all.now) }
 {
     let mut latencies = Vec::new(alloc);
     for got in all {
-        add_got(&mut latencies, kind, got.as_slice())?;
+        add_got(&mut latencies, operation, got.as_slice())?;
     }
     Ok(latencies)
 }
@@ -124,16 +112,16 @@ fn told(latencies: Vec<u64>) -> Option<Latency>
     })
 }
 
-/// How long the operations of that kind took which have their replies; nothing where there are none.
+/// How long reads, programs or erases took which have their replies; nothing where there are none.
 ///
 /// # Errors
 /// Where memory was refused.
 pub(crate) fn latency_of(
     alloc: Global,
-    kind: Kind,
+    operation: Operation,
     all: &[Got],
 ) -> Result<Option<Latency>, AllocError>
-    ensures { IfOk result (λ latency. spec.IsLatencyOf (spec.latencies kind all.now) latency) }
+    ensures { IfOk result (λ latency. spec.IsLatencyOf (spec.latencies operation all.now) latency) }
 {
-    Ok(told(latencies(alloc, kind, all)?))
+    Ok(told(latencies(alloc, operation, all)?))
 }

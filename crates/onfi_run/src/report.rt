@@ -6,7 +6,7 @@ use crate::bus_use::BusUse;
 use crate::channel_end::ChannelEnd;
 use crate::clock_report::ClockReport;
 use crate::latency::latency_of;
-use onfi_timing::Kind;
+use onfi_timing::Operation;
 use std::alloc::{AllocError, Global};
 use std::marker::Model;
 
@@ -47,9 +47,9 @@ impl Report {
     {
         let clock = ClockReport {
             buses,
-            reads: latency_of(alloc, Kind::Read, &self.got)?,
-            programs: latency_of(alloc, Kind::Program, &self.got)?,
-            erases: latency_of(alloc, Kind::Erase, &self.got)?,
+            reads: latency_of(alloc, Operation::Read, &self.got)?,
+            programs: latency_of(alloc, Operation::Program, &self.got)?,
+            erases: latency_of(alloc, Operation::Erase, &self.got)?,
         };
         let Report {
             got,

@@ -4,3 +4,4 @@ pub mod Walk
 pub mod Phases
 pub mod Stated
 pub mod Shared
+pub mod Posts

@@ -1,5 +1,5 @@
 -- What each kind does, and its lengths.
-use Rattle.std.specs.Prelude.{◌≡◌, ◌≢◌, ℕ, zero, suc, ◌+◌, Bool, true, Option, None, IfSome, is_some, unwrap_or, slice_index_or}
+use Rattle.std.specs.Prelude.{◌≡◌, ◌≢◌, ℕ, zero, suc, ◌+◌, Bool, true, false, Option, None, IfSome, is_some, unwrap_or, slice_index_or}
 use Rattle.onfi_timing.specs.declared.kind.Kind.{Kind}
 use Rattle.onfi_timing.specs.declared.kind.Kind.TheVariants.{Read, Program, Erase, ReadSectors}
 use Rattle.onfi_timing.specs.declared.operation.Operation.{Operation}
@@ -14,6 +14,12 @@ operation_of Read = Reads
 operation_of (ReadSectors first count) = Reads
 operation_of Program = Programs
 operation_of Erase = Erases
+
+abbrev pub same_operation : Operation → Operation → Bool
+same_operation Reads Reads = true
+same_operation Programs Programs = true
+same_operation Erases Erases = true
+same_operation _ _ = false
 
 -- how many sectors are put out; none are counted where all of a page is put out, or nothing
 abbrev pub sectors_of : Kind → ℕ

@@ -8,4 +8,5 @@ pub mod Sheet
 pub mod Table
 pub mod StrobeRows
 pub mod Strobes
+pub mod SectorPosts
 pub use Rattle.onfi_param.specs.Fields

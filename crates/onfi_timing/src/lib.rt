@@ -9,6 +9,7 @@ mod lengths;
 mod operation;
 mod parameter;
 mod records;
+mod sector_posts;
 mod sheet;
 mod spans;
 mod strobe;

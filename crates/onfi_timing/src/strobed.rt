@@ -37,8 +37,8 @@ fn cycles_time(bytes: u16, cycle: u32) -> u64
     (u64::from(bytes) + 1) / 2 * u64::from(cycle)
 }
 
-// How long so many bytes take out of the device, in ps.
-fn time_out(strobes: &StrobeValues, bytes: u16) -> u64
+/// How long so many bytes take out of the device, in ps.
+pub fn time_out(strobes: &StrobeValues, bytes: u16) -> u64
     ensures value { result ≡ bytes_out strobes.now bytes }
     ensures small { result ≤ 2 ^ 48 }
 {
@@ -59,8 +59,8 @@ fn time_in(strobes: &StrobeValues, bytes: u16) -> u64
         + u64::from(strobes.t_wpsth)
 }
 
-// A phase of so many ns, and of so many ps by strobes, in whole ns: rounded up once.
-fn rounded_up(plain: u64, strobed: u64) -> u64
+/// A phase of so many ns, and of so many ps by strobes, in whole ns: rounded up once.
+pub fn rounded_up(plain: u64, strobed: u64) -> u64
     requires plain { plain ≤ 2 ^ 38 }
     requires strobed { strobed ≤ 2 ^ 48 }
     ensures value { result ≡ ns_up (1000 * plain + strobed) }

@@ -1,5 +1,5 @@
 use Rattle.std.proofs.Common.{◌≡◌, ap, refl, subst, Some}
-use Rattle.onfi_timing.specs.declared.kind.Kind.TheVariants.{Read, Program, Erase}
+use Rattle.onfi_timing.specs.declared.operation.Operation.TheVariants.{Read, Program, Erase}
 use Rattle.onfi_run.specs.declared.clock_report.ClockReport.{ClockReport}
 use Rattle.onfi_run.specs.Latency.{IsLatencyOf, latencies}
 use Rattle.onfi_run.specs.Report.{ReportView}
