@@ -1,7 +1,8 @@
 use crate::page::{read, sample_page};
 use onfi_samples::{sample_geometry, sample_timing};
 use onfi_timing::{
-    Parameter, Sheet, SheetFault, Spans, Strobe, StrobeFault, StrobeValues, Strobes, Timing, Values,
+    Kind, Parameter, Sheet, SheetFault, Spans, Strobe, StrobeFault, StrobeValues, Strobes, Timing,
+    Values,
 };
 use std::process::Abort;
 
@@ -105,4 +106,53 @@ fn the_order_of_faults_of_strobes(rt: HostRuntime) {
         let strobes = Strobes::read(rt.alloc(), text.as_bytes());
         assert_eq!(rt; strobes, Err(fault), "{text}");
     }
+}
+
+/// The post of a read of so many sectors, where it is stated.
+fn post_of(timing: &Timing, count: u8) -> Option<u64> {
+    let kind = Kind::ReadSectors { first: 0, count };
+    if timing.states(kind) {
+        Some(timing.spans(kind).post)
+    } else {
+        None
+    }
+}
+
+#[test]
+fn sectors_of_the_sample_device(rt: HostRuntime) {
+    let sheet = Sheet::read(rt.alloc(), SHEET.as_bytes()).expect(&rt, "a sheet");
+    let page = read(&rt, sample_page());
+    let told = Timing::of_sectors(&page, &sample_geometry(), &sheet, 132);
+    let timing = told.expect(&rt, "a timing");
+    assert_eq!(rt; timing.read, sample_timing().read);
+    for (count, post) in [
+        (1, Some(3_080)),
+        (2, Some(5_720)),
+        (4, Some(11_000)),
+        (5, None),
+    ] {
+        assert_eq!(rt; post_of(&timing, count), post, "{count}");
+    }
+    let none = Timing::of_sectors(&page, &sample_geometry(), &sheet, 0);
+    assert_eq!(rt; none, Ok(sample_timing()));
+    let fewer = timing.with_posts(&[0, 700, 0, 0, 0, 0, 0]);
+    for (count, post) in [(1, None), (2, Some(700)), (3, None)] {
+        assert_eq!(rt; post_of(&fewer, count), post, "{count}");
+    }
+}
+
+#[test]
+fn sectors_of_the_sample_device_by_strobes(rt: HostRuntime) {
+    let sheet = Sheet::read(rt.alloc(), SHEET_BESIDE.as_bytes()).expect(&rt, "a sheet");
+    let strobes = Strobes::read(rt.alloc(), STROBES.as_bytes()).expect(&rt, "strobes");
+    let page = read(&rt, sample_page());
+    let told = Timing::of_strobed_sectors(&page, &sample_geometry(), &sheet, &strobes, 131);
+    let timing = told.expect(&rt, "a timing");
+    for (count, post) in [(1, Some(642)), (2, Some(750)), (4, Some(968)), (5, None)] {
+        assert_eq!(rt; post_of(&timing, count), post, "{count}");
+    }
+    let mut lacking = strobes;
+    lacking.t_dsc = None;
+    let told = Timing::of_strobed_sectors(&page, &sample_geometry(), &sheet, &lacking, 131);
+    assert_eq!(rt; told, Err(StrobeFault::Missing(Strobe::Tdsc)));
 }

@@ -1,11 +1,14 @@
 -- What is written of a device: the fields of its parameter page, and the rows of the first form that describe the same device.
-use Rattle.std.specs.Prelude.{◌≡◌, ℕ, ◌*◌, ◌/◌, ◌%◌, ◌<◌, ◌≤◌, ◌++◌, ◌⊎◌, Bool, true, false, List, length, codes, Result, Ok, Err}
+use Rattle.std.specs.Prelude.{◌≡◌, ℕ, ◌*◌, ◌/◌, ◌%◌, ◌<◌, ◌≤◌, ◌++◌, ◌⊎◌, if◌then◌else◌, Bool, true, false, List, [], length, codes, Result, Ok, Err}
 use Rattle.std.specs.Fmt.{decimal}
-use Rattle.std.specs.List.{list_any}
+use Rattle.std.specs.List.{flat_map, list_any}
 use Rattle.onfi_param.specs.Copies.{IsFirstCopy, IsPageCopy, copy_at}
 use Rattle.onfi_param.specs.Fields as field
 use Rattle.onfi_param.specs.declared.fault.PageFault.TheVariants.{Short, NoCopy}
 use Rattle.onfi_timing.specs.declared.spans.Spans.{Spans}
+use Rattle.onfi_timing.specs.declared.timing.Timing.{Timing}
+use Rattle.onfi_timing.specs.Kinds.{sector_spans, states_count}
+use Rattle.onfi_timing.specs.SectorPosts.{counts}
 use Rattle.onfi_script.specs.declared.device.Device.{Device as Of}
 use Rattle.onfi_script.specs.declared.fault.Refusal.{Refusal}
 use Rattle.onfi_script.specs.declared.fault.ScriptFault.{ScriptFault}
@@ -79,10 +82,18 @@ unfoldable pub spans_row : List ℕ → Spans → List ℕ
 spans_row name spans = (name ++ decimal spans.cmd) ++ (codes "," ++ decimal spans.gap) ++ (codes "," ++ decimal spans.array)
     ++ (codes "," ++ decimal spans.post) ++ codes "\n"
 
+-- the row `sectorpost` of so many sectors, where their post is stated
+unfoldable pub sector_row : Timing → ℕ → List ℕ
+sector_row timing count =
+    if states_count timing count
+    then (codes "sectorpost," ++ decimal count) ++ (codes "," ++ decimal (sector_spans timing count).post) ++ codes "\n"
+    else []
+
 -- the rows of the first form, or why it can't be planned for
 unfoldable pub rows_of : Result Of ScriptFault → List ℕ
 rows_of (Ok device) = shape_row device ++ spans_row (codes "spans,read,") device.timing.read
     ++ spans_row (codes "spans,program,") device.timing.program ++ spans_row (codes "spans,erase,") device.timing.erase
+    ++ flat_map (sector_row device.timing) counts
 rows_of (Err f) = codes "refused," ++ name_of f ++ codes "\n"
 
 -- the rows give a page, and with their sheet this device

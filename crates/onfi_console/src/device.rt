@@ -1,5 +1,6 @@
 //! What a parameter page says of its device.
 ghost use Rattle.std.specs.Prelude.{◌≡◌, ◌++◌, IfOk, MatchResult, OnOk, string_bytes};
+ghost use Rattle.std.specs.List.{flat_map};
 ghost use Rattle.onfi_param.specs.Copies.{IsFirstCopy};
 ghost use Rattle.onfi_script.specs.AnswerOf.{answer_of};
 ghost use Rattle.onfi_script.specs.Answer.{whole};
@@ -13,7 +14,7 @@ use onfi_script::{
     Answer, Device, Purpose, Refusal, Row, RowStop, ScriptFault, Stop, Why, device_of, has_page,
     page_bytes, put_number, read_rows, refused,
 };
-use onfi_timing::Spans;
+use onfi_timing::{Kind, Spans, Timing};
 use std::alloc::{AllocError, Global};
 
 /// Appends a line to a text.
@@ -183,6 +184,40 @@ fn put_spans(alloc: Global, text: &mut String, name: &str, spans: Spans) -> Resu
     text.push_str("\n")
 }
 
+/// Appends the row `sectorpost` of so many sectors to a text, where their post is stated.
+#[tactic(auto, unfolding(crate::specs::Described::sector_row))]
+fn put_sector(
+    alloc: Global,
+    text: &mut String,
+    timing: &Timing,
+    count: u8,
+) -> Result<(), AllocError>
+    ensures { OnOk result (string_bytes text.new ≡ string_bytes text.old ++ spec.sector_row timing.now count) }
+{
+    let kind = Kind::ReadSectors { first: 0, count };
+    if !timing.states(kind) {
+        return Ok(());
+    }
+    put_number(alloc, text, "sectorpost,", u64::from(count))?;
+    put_number(alloc, text, ",", timing.spans(kind).post)?;
+    text.push_str("\n")
+}
+
+/// Appends the rows `sectorpost` of so many sectors each to a text.
+fn put_sectors(
+    alloc: Global,
+    text: &mut String,
+    timing: &Timing,
+    counts: &[u8],
+) -> Result<(), AllocError>
+    ensures { OnOk result (string_bytes text.new ≡ string_bytes text.old ++ flat_map (spec.sector_row timing.now) counts.now) }
+{
+    for count in counts {
+        put_sector(alloc, text, timing, *count)?;
+    }
+    Ok(())
+}
+
 /// Appends the rows of the first form to a text, or why the device can't be planned for.
 #[tactic(auto, unfolding(crate::specs::Described::rows_of))]
 fn put_rows(
@@ -197,7 +232,8 @@ fn put_rows(
             put_shape(alloc, text, device)?;
             put_spans(alloc, text, "spans,read,", device.timing.read)?;
             put_spans(alloc, text, "spans,program,", device.timing.program)?;
-            put_spans(alloc, text, "spans,erase,", device.timing.erase)
+            put_spans(alloc, text, "spans,erase,", device.timing.erase)?;
+            put_sectors(alloc, text, &device.timing, &[1, 2, 3, 4, 5, 6, 7])
         }
         Err(fault) => {
             text.push_str("refused,")?;

@@ -30,7 +30,8 @@ pub const PLAN: &str =
 
 pub const PLAN_MORE: &str = "\
 Input: a script of rows up to the line 'end': a device (shape and spans rows, or page and sheet rows), the state of bus
-and LUNs (bus, free, running), and up to eight requests (want).
+and LUNs (bus, free, running), and up to eight requests (want), of which reads may put out some sectors of their page
+(sectorpost or sector, sectors, runsectors).
 Output: the plan text: its finish in ns, the starts of each group's phases, the certificate. With --within or --rule a line
 'below N' where the plan isn't proved optimal: nothing ends before N ns. With --early requests end early by their weights
 (weight), which else mean nothing.

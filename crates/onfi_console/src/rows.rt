@@ -3,7 +3,7 @@ use std::alloc::{AllocError, Global};
 use strsim::levenshtein;
 
 /// The names of rows, those that `plan` and `check` take first.
-const NAMES: [&str; 25] = [
+const NAMES: [&str; 29] = [
     "shape",
     "spans",
     "page",
@@ -29,6 +29,10 @@ const NAMES: [&str; 25] = [
     "array",
     "at",
     "geometry",
+    "sectorpost",
+    "sector",
+    "sectors",
+    "runsectors",
 ];
 
 /// The form of a row of this name.
@@ -75,6 +79,25 @@ fn problem_form(name: &str) -> Option<&'static str> {
             "weight,REQUEST,N: want REQUEST, 0 to 7 by the order of their rows, counts N times, 1 to 65535",
         ),
         "strict" => Some("strict,FLAG: 0 or 1"),
+        _ => sectors_form(name),
+    }
+}
+
+/// The form of a row of reads of some sectors.
+fn sectors_form(name: &str) -> Option<&'static str> {
+    match name {
+        "sectorpost" => Some(
+            "sectorpost,N,POST: the output of N sectors, 1 to 7, holds the bus for POST ns, 1 to 2^50 - 1",
+        ),
+        "sector" => Some(
+            "sector,BYTES: the bytes of a sector, 1 to 65535, at most those of a page",
+        ),
+        "sectors" => Some(
+            "sectors,REQUEST,N: read REQUEST, 0 to 7 by the order of their rows, puts out N sectors, 0 to 7; 0 is the page",
+        ),
+        "runsectors" => Some(
+            "runsectors,LUN,N..: so many sectors of each block that runs on the LUN, one to four numbers, 0 to 7",
+        ),
         _ => None,
     }
 }

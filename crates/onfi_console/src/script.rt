@@ -11,7 +11,7 @@ use csv::ByteRecord;
 use onfi_addr::GeometryFault;
 use onfi_param::PageFault;
 use onfi_problem::{LunState, Problem, ProblemFault};
-use onfi_request::RequestFault;
+use onfi_request::{RequestFault, Want};
 use onfi_script::{
     Purpose, Refusal, Row, ScriptFault, Setup, device_of, read_rows, script_len, set_up,
 };
@@ -151,6 +151,7 @@ fn plain_fault(fault: ScriptFault) -> &'static str {
             "the device has no such page, or an erase names a page other than 0",
         ScriptFault::Request(RequestFault::DataLength) =>
             "the data isn't as long as a page with its spare bytes",
+        ScriptFault::Request(RequestFault::Sectors) => "a page of the device has fewer sectors",
         _ => "the row can't be taken",
     }
 }
@@ -180,6 +181,9 @@ fn out_of_range(
     if is_op_too_many(refused.records, row) {
         return String::from_str(alloc, "a script has at most 10000 rows 'op'");
     }
+    if field(record, 0) == b"sector".as_slice() {
+        return String::from_str(alloc, "a page of the device has fewer bytes");
+    }
     if field(record, 0) == b"at".as_slice() {
         return String::from_str(alloc, "NS is less than that of an 'at' row above");
     }
@@ -197,14 +201,22 @@ fn is_shape_or_spans(name: &[u8]) -> bool {
     name == b"shape".as_slice() || name == b"spans".as_slice()
 }
 
+/// Whether a row of this name says how long outputs of sectors are, for a problem alone.
+fn is_sector_post(name: &[u8]) -> bool {
+    name == b"sectorpost".as_slice()
+}
+
 /// Whether a row of this name describes a device in the first form.
 fn is_of_first(name: &[u8]) -> bool {
-    is_shape_or_spans(name) || name == b"geometry".as_slice()
+    is_shape_or_spans(name) || is_sector_post(name) || name == b"geometry".as_slice()
 }
 
 /// Whether a row of this name describes a device in the second form.
 fn is_of_second(name: &[u8]) -> bool {
-    name == b"page".as_slice() || name == b"sheet".as_slice() || name == b"strobe".as_slice()
+    name == b"page".as_slice()
+        || name == b"sheet".as_slice()
+        || name == b"strobe".as_slice()
+        || name == b"sector".as_slice()
 }
 
 /// Whether a row of this name describes a device in either form.
@@ -233,7 +245,7 @@ fn not_here(alloc: Global, refused: &Refused<'_, '_>, name: &[u8]) -> Result<Str
             alloc,
             "'run' takes the first form behind a row 'geometry' alone",
         ),
-        CommandName::Run if !is_of_device(name) => String::from_str(
+        CommandName::Run if !is_of_device(name) || is_sector_post(name) => String::from_str(
             alloc,
             "'run' doesn't take this row; 'plan' and 'check' do",
         ),
@@ -264,7 +276,7 @@ fn taken(command: CommandName, name: &[u8]) -> &'static str {
     match command {
         CommandName::Run if name == b"at".as_slice() =>
             "--clock simulated, or a script without 'at' rows",
-        CommandName::Run if is_of_device(name) =>
+        CommandName::Run if is_of_device(name) && !is_sector_post(name) =>
             "'geometry', then 'shape' and 'spans' rows; or 'page' and 'sheet' rows",
         CommandName::Run =>
             "page, sheet, strict, channels, hosts, batch, choice, replanning, submitcap, postcap, op, fault, chipfail, notready, array; or geometry, shape and spans in place of page and sheet",
@@ -298,6 +310,7 @@ fn whole_message(alloc: Global, refused: &Refused<'_, '_>) -> Result<String, All
             )
         }
         ScriptFault::Problem(ProblemFault::BadLun) => bad_lun(alloc, refused),
+        ScriptFault::Problem(ProblemFault::NoLengths) => no_lengths(alloc, refused),
         fault => {
             let what = whole_fault(refused.command, fault);
             let more = advice(refused.command, fault);
@@ -394,7 +407,10 @@ fn missing(command: CommandName, records: &[ByteRecord]) -> &'static str {
         .iter()
         .any(|name| has_row(records, name.as_bytes(), b""));
     if !first {
-        return if has_row(records, b"sheet", b"") || has_strobes(records) {
+        return if ["sheet", "strobe", "sector"]
+            .iter()
+            .any(|name| has_row(records, name.as_bytes(), b""))
+        {
             "the device's 'page' rows"
         } else if command == CommandName::Run {
             "a device: 'page' and 'sheet' rows, or 'geometry', 'shape' and 'spans' rows"
@@ -431,6 +447,8 @@ fn whole_fault(command: CommandName, fault: ScriptFault) -> &'static str {
             "there are more than eight 'want' rows, and a plan is of at most eight requests",
         ScriptFault::Problem(ProblemFault::TooMany) =>
             "there are more than eight 'want' rows; plan eight requests at a time",
+        ScriptFault::Problem(ProblemFault::NoLengths) =>
+            "sectors are put out whose length isn't stated, or by something else than a read",
         ScriptFault::Problem(ProblemFault::Clock) =>
             "times might reach 2^62 ns; count them from a later zero",
         _ => "the script can't be taken",
@@ -497,6 +515,89 @@ fn bad_lun(alloc: Global, refused: &Refused<'_, '_>) -> Result<String, AllocErro
         "this is no running group: planes rise, the device groups its blocks, and NEXT has a phase before it and one left"
     };
     format!(in alloc; "onfi_sim: {name}:{line}: row {row} '{text}': {what}\n")
+}
+
+/// The message about sectors without a length.
+fn no_lengths(alloc: Global, refused: &Refused<'_, '_>) -> Result<String, AllocError> {
+    let (input, records) = (refused.input, refused.records);
+    let name = input.script_name();
+    let found = match read_rows(alloc, purpose_of(refused.command), input.text) {
+        Ok(rows) => unstated_row(alloc, rows.as_slice()),
+        Err(_) => None,
+    };
+    let (record, kind) = match found {
+        Some((at, kind)) => (records.get(at), kind),
+        None => (None, Kind::Read),
+    };
+    let (Some(record), Some((at, _))) = (record, found) else {
+        let what = whole_fault(refused.command, refused.fault);
+        return format!(in alloc; "onfi_sim: {name}: {what}\n");
+    };
+    let (row, line, text) = (
+        at.saturating_add(1),
+        line_of(input.text, record),
+        row_text(alloc, record)?,
+    );
+    let what = match kind {
+        Kind::Program | Kind::Erase => "reads alone put out sectors",
+        _ if has_row(records, b"page", b"") =>
+            "a page has fewer sectors, or no row 'sector' says how many bytes one has",
+        _ => "no row 'sectorpost' says how long an output of so many sectors is",
+    };
+    format!(in alloc; "onfi_sim: {name}:{line}: row {row} '{text}': {what}\n")
+}
+
+/// The first row, counted from 0, that has sectors put out without a length, and the kind of what is to put them out.
+fn unstated_row(alloc: Global, rows: &[Row]) -> Option<(usize, Kind)> {
+    let device = device_of(alloc, rows).ok()?;
+    let setup = set_up(alloc, rows, &device).ok()?;
+    for (at, row) in rows.iter().enumerate() {
+        if let Some(kind) = unstated(&setup, row) {
+            return Some((at, kind));
+        }
+    }
+    None
+}
+
+/// The kind of what this row has put out sectors without a length.
+fn unstated(setup: &Setup, row: &Row) -> Option<Kind> {
+    match row {
+        Row::Sectors { request, count } => {
+            let id = u64::from(*request);
+            let want = setup.wants.as_slice().iter().find(|want| want.id == id)?;
+            unstated_kind(setup, want.kind, *count)
+        }
+        Row::RunSectors(row) => {
+            let state = setup.luns.as_slice().get(usize::from(row.lun()))?;
+            match state {
+                LunState::Running { group, .. } => {
+                    unstated_member(setup, group.members(), row.counts())
+                }
+                LunState::Free { .. } => None,
+            }
+        }
+        _ => None,
+    }
+}
+
+/// The kind of the first member that is to put out so many sectors without a length.
+fn unstated_member(setup: &Setup, members: &[Want], counts: &[u8]) -> Option<Kind> {
+    for (member, count) in members.iter().zip(counts.iter()) {
+        let found = unstated_kind(setup, member.kind, *count);
+        if found.is_some() {
+            return found;
+        }
+    }
+    None
+}
+
+/// The kind, where it doesn't put out so many sectors, or no length of that is stated.
+fn unstated_kind(setup: &Setup, kind: Kind, count: u8) -> Option<Kind> {
+    let amiss = match kind {
+        Kind::Program | Kind::Erase => count > 0,
+        _ => !setup.timing.states(kind),
+    };
+    if amiss { Some(kind) } else { None }
 }
 
 /// The row, counted from 0, by which the rows set up no problem.

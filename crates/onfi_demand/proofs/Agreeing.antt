@@ -1,20 +1,18 @@
 -- Lengths that agree from a phase on: those of a group, and those that are known of what is left of it.
-use Rattle.std.proofs.Common.{◌≡◌, ℕ, zero, suc, ◌+◌, ◌*◌, ◌-◌, ◌≤◌, ◌<◌, inl, inr, List, [], ◌∷◌, ◌++◌, length, map, drop, replicate, get_or, Some, refl, sym, ap, ◌∙◌, subst, arith}
+use Rattle.std.proofs.Common.{◌≡◌, ℕ, zero, suc, ◌+◌, ◌*◌, ◌-◌, ◌≤◌, inl, inr, List, [], ◌∷◌, ◌++◌, length, map, drop, replicate, get_or, Some, refl, sym, ap, ◌∙◌, subst, arith}
 use Rattle.std.specs.Prelude.{slice_get, nat_lt, if◌then◌else◌, ◌==◌, IfSome}
 use Rattle.std.specs.List.{AllByRecursion as All, sum}
 use Rattle.std.proofs.lemmas.Bool.{cases_lt}
-use Rattle.std.proofs.lemmas.List.{length-map, length-drop, length-replicate, length-append, drop-map, drop-drop, get_or-drop}
-use Rattle.std.proofs.lemmas.List.Elements.{All-drop}
+use Rattle.std.proofs.lemmas.List.{length-map, length-drop, drop-map, drop-drop, get_or-drop}
 use Rattle.onfi_timing.specs.declared.kind.Kind.{Kind}
 use Rattle.onfi_timing.specs.declared.kind.Kind.TheVariants.{Read, Program, Erase, ReadSectors}
 use Rattle.onfi_timing.specs.declared.operation.Operation.{Operation}
 use Rattle.onfi_timing.specs.declared.timing.Timing.{Timing}
-use Rattle.onfi_timing.specs.Kinds.{operation_of, operation_spans, sectors_of, spans_of}
+use Rattle.onfi_timing.specs.Kinds.{operation_of, sectors_of, spans_of}
 use Rattle.onfi_timing.specs.Phases.{Lengths, phase_length, wait_before, posts_from}
 use Rattle.onfi_timing.proofs.Phases.{command_length, post_length}
 use Rattle.onfi_timing.proofs.Shared.{of_operation}
 use Rattle.onfi_request.specs.declared.want.Want.{Want}
-use Rattle.onfi_group.specs.declared.rules.Rules.{Rules}
 use Rattle.onfi_group.specs.Group.{group_operation, group_spans, kind_of}
 use Rattle.onfi_problem.specs.declared.lun_state.LunState.{LunState}
 use Rattle.onfi_problem.specs.declared.lun_state.LunState.TheVariants.{Free, Running}
@@ -86,9 +84,9 @@ module _ (k : ℕ) (a b : Lengths) where
       let tail = agree_tail n rest h in
       let next : from + phase_length a k n + wait_before a k (n + 1) ≡ from + phase_length b k n + wait_before b k (n + 1) = omega arith in
       let phase : group_phase a k rest n from ≡ group_phase b k rest n from =
-          ap (λ l. one from l (wait_before a k (n + 1) + chain_from a k (n + 1) + rest)) long ∙ ap (λ t. one from (phase_length b k n) t) tail in
+      ap (λ l. one from l (wait_before a k (n + 1) + chain_from a k (n + 1) + rest)) long ∙ ap (λ t. one from (phase_length b k n) t) tail in
       let more : group_left a k rest count (n + 1) (from + phase_length a k n + wait_before a k (n + 1)) ≡ group_left b k rest count (n + 1) (from + phase_length b k n + wait_before b k (n + 1)) =
-          ap (λ i. group_left a k rest count (n + 1) i) next ∙ agree_phases count (n + 1) rest (from + phase_length b k n + wait_before b k (n + 1)) (agree_later n (n + 1) (omega arith) h) in
+      ap (λ i. group_left a k rest count (n + 1) i) next ∙ agree_phases count (n + 1) rest (from + phase_length b k n + wait_before b k (n + 1)) (agree_later n (n + 1) (omega arith) h) in
       ap (λ p. p ∷ group_left a k rest count (n + 1) (from + phase_length a k n + wait_before a k (n + 1))) phase ∙ ap (λ ps. group_phase b k rest n from ∷ ps) more
     where
       one : ℕ → ℕ → ℕ → PhaseLeft
@@ -119,6 +117,11 @@ posts_of_operation timing operation (m ∷ ms) h =
     let more = posts_of_operation timing operation ms h.1 in
     ap (λ p. p ∷ map (λ m. (spans_of timing m.kind).post) ms) post ∙ ap (λ ps. post_of timing operation (sectors_of m.kind) ∷ ps) more
 
+each_drop : (P : Want → Type 0) (j : ℕ) (ms : List Want) → All P ms → All P (drop j ms)
+each_drop P zero ms h = h
+each_drop P (suc j) [] h = tt
+each_drop P (suc j) (m ∷ ms) h = each_drop P j ms h.1
+
 -- after the zeros of what is over comes what is left
 pub past_zeros : (k j : ℕ) (ps : List ℕ) → length ps ≡ k - j → drop j (replicate (k - length ps) 0 ++ ps) ≡ ps
 past_zeros k zero ps h = let none : k - length ps ≡ 0 = omega arith in rw none refl
@@ -137,7 +140,7 @@ agree_group timing g n alike =
     let j = n - length g in
     let posts = map (post_of timing (group_operation g)) (sectors_left g n) in
     let size : length posts ≡ length g - j = length-map (sectors_left g n) (post_of timing (group_operation g)) ∙ sectors_length g n in
-    let own = posts_of_operation timing (group_operation g) (drop j g) (All-drop (λ m. operation_of m.kind ≡ group_operation g) j g alike) in
+    let own = posts_of_operation timing (group_operation g) (drop j g) (each_drop (λ m. operation_of m.kind ≡ group_operation g) j g alike) in
     let count : length posts ≡ length (sectors_left g n) = length-map (sectors_left g n) (post_of timing (group_operation g)) in
     let past : drop j (posts_left timing (group_operation g) (length g) (sectors_left g n)) ≡ posts = subst (λ i. drop j (replicate (length g - i) 0 ++ posts) ≡ posts) count (past_zeros (length g) j posts size) in
     record {
@@ -152,7 +155,7 @@ pub agree_groups : (timing : Timing) (g g' : List Want) (n : ℕ) → IsAlike g 
 agree_groups timing g g' n own other operation size sectors =
     let there = agree_group timing g' n other in
     let same : lengths_left timing (group_operation g') (length g') (sectors_left g' n) ≡ lengths_left timing (group_operation g) (length g) (sectors_left g n) =
-        ap (λ o. lengths_left timing o (length g') (sectors_left g' n)) (sym operation) ∙ (ap (λ k. lengths_left timing (group_operation g) k (sectors_left g' n)) (sym size) ∙ ap (λ s. lengths_left timing (group_operation g) (length g) s) (sym sectors)) in
+    ap (λ o. lengths_left timing o (length g') (sectors_left g' n)) (sym operation) ∙ (ap (λ k. lengths_left timing (group_operation g) k (sectors_left g' n)) (sym size) ∙ ap (λ s. lengths_left timing (group_operation g) (length g) s) (sym sectors)) in
     let there' = subst (λ k. Agree k n (group_spans timing g') (lengths_left timing (group_operation g') (length g') (sectors_left g' n))) (sym size) there in
     agree_both (length g) n (group_spans timing g) (group_spans timing g') (lengths_left timing (group_operation g) (length g) (sectors_left g n)) (agree_group timing g n own) (subst (λ l. Agree (length g) n (group_spans timing g') l) same there')
 

@@ -1,16 +1,17 @@
 -- The demand of the lead bound, as it is worked out.
-use Rattle.std.proofs.Common.{◌≡◌, ℕ, ◌+◌, ◌-◌, ◌≤◌, ◌<◌, inl, inr, Bool, true, false, List, [], ◌∷◌, length, map, get_or, take, Option, Some, refl, sym, ap, ◌∙◌, subst, arith}
+use Rattle.std.proofs.Common.{◌≡◌, ℕ, ◌+◌, ◌*◌, ◌-◌, ◌≤◌, ◌<◌, inl, inr, Bool, true, false, List, [], ◌∷◌, length, map, get_or, take, Option, Some, refl, sym, ap, ◌∙◌, subst, arith}
 use Rattle.std.specs.Prelude.{slice_get, IfSome}
 use Rattle.std.specs.Option.{option_map}
 use Rattle.std.proofs.lemmas.Bool.{cases_lt, false≢true}
 use Rattle.std.proofs.lemmas.Option.{get_or_from_slice_get, slice_get_past}
 use Rattle.onfi_timing.specs.declared.timing.Timing.{Timing}
-use Rattle.onfi_timing.specs.Kinds.{spans_of}
+use Rattle.onfi_timing.specs.declared.operation.Operation.{Operation}
+use Rattle.onfi_timing.specs.Kinds.{operation_spans, spans_of}
 use Rattle.onfi_request.specs.declared.want.Want.{Want}
 use Rattle.onfi_group.specs.Words.{Has, total}
 use Rattle.onfi_problem.specs.declared.lun_state.LunState.{LunState}
 use Rattle.onfi_problem.specs.declared.lun_state.LunState.TheVariants.{Free, Running}
-use Rattle.onfi_problem.specs.Left.{post_time, want_post, all_posts}
+use Rattle.onfi_problem.specs.Left.{commands_left, waits_left, post_time, want_post, all_posts}
 use Rattle.onfi_problem.specs.Position.{waiting_of}
 use Rattle.onfi_problem.specs.Problem.{Problem, IsProblem}
 use Rattle.onfi_problem.proofs.Places.{get_within, within_get}
@@ -21,13 +22,13 @@ use Rattle.onfi_bound.proofs.Steps.{waiting_yes, waiting_no, summed}
 use Rattle.onfi_demand.specs.Left.{Idle, left_on, has_left, has_left_at}
 use Rattle.onfi_demand.specs.Demand.{before_post, lead_at, lead_demand, of_bus}
 use Rattle.onfi_demand.specs.Kept.{IsKept}
-use Rattle.onfi_demand.specs.Remaining.{posts_rest}
+use Rattle.onfi_demand.specs.Remaining.{posts_count, posts_rest, with_posts}
 use Rattle.onfi_demand.specs.Work.{left_of, IsWork}
 use Rattle.onfi_demand.proofs.Agreeing.{RunsAlike, runs_alike_at}
-use Rattle.onfi_demand.proofs.Sums.{post_by}
+use Rattle.onfi_demand.proofs.Sums.{post_by, post_rest}
 use Rattle.onfi_demand.specs.declared.demand.Demand.{Demand as Kept}
 use Rattle.onfi_demand.specs.declared.left.LunLeft.{LunLeft as KeptLeft}
-use Rattle.onfi_demand.specs.declared.left.LunLeft.TheVariants.{Idle as KeptIdle}
+use Rattle.onfi_demand.specs.declared.left.LunLeft.TheVariants.{Idle as KeptIdle, Rest as KeptRest}
 use Rattle.onfi_demand.specs.declared.left.LunWork.{LunWork}
 use Rattle.onfi_problem.proofs.Wants.{total-append}
 
@@ -55,6 +56,13 @@ idle_time p lun e left n timing work o ws w idle t l v f is =
     go : (y : LunState) → slice_get p.luns lun ≡ Some y → left_on y ≡ Idle → n ≡ lead_at p e (on_lun lun p.wants) (slice_get p.luns lun)
     go (Free a) at q = rw at (is ∙ rw (l, f, v, w.wants, t) refl)
     go (Running g k r) at q = cc
+
+pub rest_time : (p : Problem) (lun e left n rest k i : ℕ) (operation : Operation) (sectors : List ℕ) (timing : Timing) (work : LunWork) → IsWork p lun work → work.left ≡ KeptRest operation k i sectors → timing ≡ p.timing → left ≡ e - all_posts p → rest ≡ commands_left k i * (operation_spans timing operation).cmd + waits_left (with_posts (operation_spans timing operation) []) k i → n ≡ left - rest → n ≡ lead_at p e (on_lun lun p.wants) (slice_get p.luns lun)
+rest_time p lun e left n rest k i operation sectors timing work w runs t l r is =
+    let x = some_state (slice_get p.luns lun) (left_of work.left) w.left in
+    let post = post_rest p.timing (on_lun lun p.wants) x.0 operation k i (take (posts_count k i) sectors) (x.2 ∙ ap left_of runs) in
+    let r' = r ∙ ap (λ z. commands_left k i * (operation_spans z operation).cmd + waits_left (with_posts (operation_spans z operation) []) k i) t in
+    rw (x.1, post) (is ∙ rw (l, r') refl)
 
 -- a first post is there exactly where something is left
 post_left : (timing : Timing) (ws : List Want) (x : LunState) → has_left_at ws (Some x) ≡ true → (b : ℕ) × (to_post timing ws x ≡ Some b)

@@ -1,10 +1,7 @@
 -- The posts and the sectors of what is left, as they are kept.
-use Rattle.std.proofs.Common.{◌≡◌, ℕ, ◌+◌, ◌-◌, ◌^◌, ◌≤◌, ◌<◌, inl, inr, List, ◌++◌, length, map, take, drop, replicate, get_or, refl, sym, ap, ◌∙◌, subst, arith}
-use Rattle.std.specs.List.{AllByRecursion as All, sum}
+use Rattle.std.proofs.Common.{◌≡◌, ℕ, ◌+◌, ◌-◌, ◌≤◌, ◌<◌, inl, inr, List, ◌++◌, length, map, take, drop, replicate, get_or, sym, ap, ◌∙◌, subst, arith}
 use Rattle.std.proofs.lemmas.Bool.{cases_lt}
-use Rattle.std.proofs.lemmas.List.{ext_get_or, get_or-append-add, get_or-map, get_or-replicate, get_or-take, get_or_append_left, get_or-drop, length-append, length-drop, length-map, length-replicate, length-take-le, take-append-le, take_all, drop-append-le, drop_all}
-use Rattle.std.proofs.lemmas.List.Elements.{All-from_get_or}
-use Rattle.std.proofs.lemmas.List.Sums.{sum_by-drop_more}
+use Rattle.std.proofs.lemmas.List.{ext_get_or, get_or-append-add, get_or-map, get_or-replicate, get_or-take, get_or_append_left, get_or-drop, length-append, length-drop, length-map, length-replicate, length-take-le}
 use Rattle.onfi_timing.specs.declared.operation.Operation.{Operation}
 use Rattle.onfi_timing.specs.declared.timing.Timing.{Timing}
 use Rattle.onfi_timing.specs.Kinds.{sectors_of}
@@ -14,6 +11,9 @@ use Rattle.onfi_demand.specs.Left.{sectors_left}
 use Rattle.onfi_demand.specs.Remaining.{lengths_of, post_of, posts_count, posts_left}
 use Rattle.onfi_demand.specs.declared.group_lengths.GroupLengths.{GroupLengths}
 use Rattle.onfi_demand.proofs.Agreeing.{sectors_length}
+
+abbrev zeros : ℕ → List ℕ
+zeros n = replicate n 0
 
 -- the elements of two lists, one after the other
 pub first_part : {A : Type 0} (xs ys : List A) (i : ℕ) (d : A) → i < length xs → get_or (xs ++ ys) i d ≡ get_or xs i d
@@ -28,24 +28,9 @@ second_part xs ys i n d size h =
 pub kept_size : (kept : GroupLengths) → length (lengths_of kept).posts ≡ kept.members
 kept_size kept = let few = kept.few in let long = kept.long in length-take-le kept.members kept.posts (omega arith)
 
--- .. as it is kept
-pub kept_post : (kept : GroupLengths) (i : ℕ) → i < kept.members → get_or (lengths_of kept).posts i 0 ≡ get_or kept.posts i 0
-kept_post kept i h = get_or-take kept.members kept.posts i 0 h
-
--- one member's post, and those after it
-pub one_kept : (kept : GroupLengths) (i : ℕ) → i < kept.members → sum (drop i (lengths_of kept).posts) ≡ get_or kept.posts i 0 + sum (drop (i + 1) (lengths_of kept).posts)
-one_kept kept i h =
-    let size = kept_size kept in
-    let post = kept_post kept i h in
-    let more = sum_by-drop_more (λ x. x) (lengths_of kept).posts i 0 (omega arith) in
-    omega arith
-
-pub none_kept : (kept : GroupLengths) (i : ℕ) → kept.members ≤ i → sum (drop i (lengths_of kept).posts) ≡ 0
-none_kept kept i h = let size = kept_size kept in rw (drop_all i (lengths_of kept).posts (omega arith)) refl
-
 -- posts that were written one by one, where those before member j are over
 module _ (timing : Timing) (operation : Operation) (k n : ℕ) (sectors posts : List ℕ) where
-  left : List ℕ
+  abbrev left : List ℕ
   left = take (posts_count k n) sectors
 
   pub posts_are : k ≤ 4 → length sectors ≡ 4 → length posts ≡ 4 → ((i : ℕ) → i < n - k → get_or posts i 0 ≡ 0) → ((i : ℕ) → n - k ≤ i → i < k → get_or posts i 0 ≡ post_of timing operation (get_or sectors (i - (n - k)) 0)) → take k posts ≡ posts_left timing operation k (take (posts_count k n) sectors)
@@ -57,14 +42,14 @@ module _ (timing : Timing) (operation : Operation) (k n : ℕ) (sectors posts : 
       count : length left ≡ posts_count k n
       count = length-take-le (posts_count k n) sectors (omega arith)
 
-      zeros : length (replicate (k - length left) 0) ≡ k - length left
-      zeros = length-replicate (k - length left) 0
+      over_count : length (zeros (k - length left)) ≡ k - length left
+      over_count = length-replicate (k - length left) 0
 
       whole : length (posts_left timing operation k left) ≡ k
       whole =
-          let a = length-append (replicate (k - length left) 0) (map (post_of timing operation) left) in
+          let a = length-append (zeros (k - length left)) (map (post_of timing operation) left) in
           let b = length-map left (post_of timing operation) in
-          let c = zeros in
+          let c = over_count in
           let d = count in
           omega arith
 
@@ -73,15 +58,15 @@ module _ (timing : Timing) (operation : Operation) (k n : ℕ) (sectors posts : 
           let s = size in
           let own = get_or-take k posts i 0 (omega arith) in
           let c = count in
-          let z = zeros in
+          let z = over_count in
           elim (cases_lt i (k - length left)) [
             | inl less ↦ (
-                let first = first_part (replicate (k - length left) 0) (map (post_of timing operation) left) i 0 (omega arith) in
-                let none = get_or-replicate (k - length left) i 0 0 less in
+                let first = first_part (zeros (k - length left)) (map (post_of timing operation) left) i 0 (omega arith) in
+                let none : get_or (zeros (k - length left)) i 0 ≡ 0 = get_or-replicate (k - length left) i 0 0 less in
                 own ∙ (over i (omega arith) ∙ sym (first ∙ none)))
             | inr more ↦ (
                 let j = i - (k - length left) in
-                let second = second_part (replicate (k - length left) 0) (map (post_of timing operation) left) i (k - length left) 0 z more in
+                let second = second_part (zeros (k - length left)) (map (post_of timing operation) left) i (k - length left) 0 z more in
                 let post = get_or-map (post_of timing operation) left j 0 0 (omega arith) in
                 let sector = get_or-take (posts_count k n) sectors j 0 (omega arith) in
                 let same : i - (n - k) ≡ j = omega arith in
@@ -89,49 +74,32 @@ module _ (timing : Timing) (operation : Operation) (k n : ℕ) (sectors posts : 
           ]
 
 -- sectors that were written one by one
-pub sectors_are : (g : List Want) (n : ℕ) (sectors : List ℕ) → length g ≤ 4 → length sectors ≡ 4 → ((i : ℕ) → i + (n - length g) < length g → get_or sectors i 0 ≡ sectors_of (get_or g (i + (n - length g)) no_want).kind) → ((i : ℕ) → length g ≤ i + (n - length g) → get_or sectors i 0 ≡ 0) → sectors ≡ sectors_left g n ++ replicate (4 - posts_count (length g) n) 0
-sectors_are g n sectors few long there over = ext_get_or 0 sectors (sectors_left g n ++ replicate (4 - posts_count (length g) n) 0) (long ∙ sym whole) at
+pub sectors_are : (g : List Want) (n : ℕ) (sectors : List ℕ) → length g ≤ 4 → length sectors ≡ 4 → ((i : ℕ) → i + (n - length g) < length g → get_or sectors i 0 ≡ sectors_of (get_or g (i + (n - length g)) no_want).kind) → ((i : ℕ) → length g ≤ i + (n - length g) → get_or sectors i 0 ≡ 0) → sectors ≡ sectors_left g n ++ zeros (4 - posts_count (length g) n)
+sectors_are g n sectors few long there over = ext_get_or 0 sectors (sectors_left g n ++ zeros (4 - posts_count (length g) n)) (long ∙ sym whole) at
   where
-    zeros : length (replicate (4 - posts_count (length g) n) 0) ≡ 4 - posts_count (length g) n
-    zeros = length-replicate (4 - posts_count (length g) n) 0
+    over_count : length (zeros (4 - posts_count (length g) n)) ≡ 4 - posts_count (length g) n
+    over_count = length-replicate (4 - posts_count (length g) n) 0
 
-    whole : length (sectors_left g n ++ replicate (4 - posts_count (length g) n) 0) ≡ 4
+    whole : length (sectors_left g n ++ zeros (4 - posts_count (length g) n)) ≡ 4
     whole =
-        let a = length-append (sectors_left g n) (replicate (4 - posts_count (length g) n) 0) in
+        let a = length-append (sectors_left g n) (zeros (4 - posts_count (length g) n)) in
         let b = sectors_length g n in
-        let c = zeros in
+        let c = over_count in
         omega arith
 
-    at : (i : ℕ) → i < length sectors → get_or sectors i 0 ≡ get_or (sectors_left g n ++ replicate (4 - posts_count (length g) n) 0) i 0
+    at : (i : ℕ) → i < length sectors → get_or sectors i 0 ≡ get_or (sectors_left g n ++ zeros (4 - posts_count (length g) n)) i 0
     at i h =
         let size = sectors_length g n in
         elim (cases_lt i (posts_count (length g) n)) [
           | inl less ↦ (
-              let first = first_part (sectors_left g n) (replicate (4 - posts_count (length g) n) 0) i 0 (omega arith) in
+              let first = first_part (sectors_left g n) (zeros (4 - posts_count (length g) n)) i 0 (omega arith) in
               let count = length-drop (n - length g) g in
               let one = get_or-map (λ m. sectors_of m.kind) (drop (n - length g) g) i no_want 0 (omega arith) in
               let member = get_or-drop (n - length g) g i no_want in
               let same : i + (n - length g) ≡ n - length g + i = omega arith in
               there i (omega arith) ∙ (ap (λ j. sectors_of (get_or g j no_want).kind) same ∙ sym (first ∙ (one ∙ ap (λ (m : Want). sectors_of m.kind) member))))
           | inr more ↦ (
-              let second = second_part (sectors_left g n) (replicate (4 - posts_count (length g) n) 0) i (posts_count (length g) n) 0 size more in
-              let none = get_or-replicate (4 - posts_count (length g) n) (i - posts_count (length g) n) 0 0 (omega arith) in
+              let second = second_part (sectors_left g n) (zeros (4 - posts_count (length g) n)) i (posts_count (length g) n) 0 size more in
+              let none : get_or (zeros (4 - posts_count (length g) n)) (i - posts_count (length g) n) 0 ≡ 0 = get_or-replicate (4 - posts_count (length g) n) (i - posts_count (length g) n) 0 0 (omega arith) in
               over i (omega arith) ∙ sym (second ∙ none))
         ]
-
--- the sectors that are left, and the zeros after them
-pub padded_left : (g : List Want) (n : ℕ) (sectors : List ℕ) → sectors ≡ sectors_left g n ++ replicate (4 - posts_count (length g) n) 0 → take (posts_count (length g) n) sectors ≡ sectors_left g n
-padded_left g n sectors is =
-    let size = sectors_length g n in
-    let count = posts_count (length g) n in
-    ap (take count) is ∙ (take-append-le count (sectors_left g n) (replicate (4 - count) 0) (omega arith) ∙ take_all count (sectors_left g n) (omega arith))
-
-pub padded_zeros : (g : List Want) (n : ℕ) (sectors : List ℕ) → sectors ≡ sectors_left g n ++ replicate (4 - posts_count (length g) n) 0 → drop (posts_count (length g) n) sectors ≡ replicate (4 - posts_count (length g) n) 0
-padded_zeros g n sectors is =
-    let size = sectors_length g n in
-    let count = posts_count (length g) n in
-    ap (drop count) is ∙ (drop-append-le count (sectors_left g n) (replicate (4 - count) 0) (omega arith) ∙ ap (λ xs. xs ++ replicate (4 - count) 0) (drop_all count (sectors_left g n) (omega arith)))
-
--- numbers below a limit, one by one
-pub all_short : (posts : List ℕ) → ((i : ℕ) → get_or posts i 0 < 2 ^ 50) → All (λ t. t < 2 ^ 50) posts
-all_short posts h = All-from_get_or (λ t. t < 2 ^ 50) posts 0 (λ i k. h i)

@@ -109,6 +109,11 @@ post_alike timing ws (Free a) (Running g n r) e = cc
 post_alike timing ws (Running g n r) (Free b) e = cc
 post_alike timing ws (Running g n r) (Running g' n' r') e = to_post_by timing ws g n r ∙ (ap (rest_to_post timing) e ∙ sym (to_post_by timing ws g' n' r'))
 
+pub post_rest : (timing : Timing) (ws : List Want) (x : LunState) (operation : Operation) (k n : ℕ) (sectors : List ℕ) → left_on x ≡ Rest operation k sectors n → to_post timing ws x ≡ Some (commands_left k n * (operation_spans timing operation).cmd + waits_left (with_posts (operation_spans timing operation) []) k n)
+unfolding rest_to_post
+post_rest timing ws (Free a) operation k n sectors e = cc
+post_rest timing ws (Running g m r) operation k n sectors e = to_post_by timing ws g m r ∙ ap (rest_to_post timing) e
+
 -- what a LUN with something left takes after the time from which it may go on
 abbrev pub work_at : Timing → Rules → List Want → Option LunState → ℕ
 work_at timing rules ws (Some (Running g n r)) = chain_time timing (Running g n r) + wants_work timing rules ws

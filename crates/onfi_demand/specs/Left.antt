@@ -1,9 +1,9 @@
 -- What is left to a problem, whatever the times.
 use Rattle.std.specs.Prelude.{◌≡◌, ℕ, ◌-◌, Bool, true, false, List, [], ◌∷◌, length, map, drop, Option, Some, slice_get}
 use Rattle.onfi_timing.specs.declared.operation.Operation.{Operation}
-use Rattle.onfi_timing.specs.Kinds.{operation_of, sectors_of}
+use Rattle.onfi_timing.specs.Kinds.{sectors_of}
 use Rattle.onfi_request.specs.declared.want.Want.{Want}
-use Rattle.onfi_group.specs.Group.{group_operation, kind_of}
+use Rattle.onfi_group.specs.Group.{group_operation}
 use Rattle.onfi_problem.specs.declared.lun_state.LunState.{LunState}
 use Rattle.onfi_problem.specs.declared.lun_state.LunState.TheVariants.{Free, Running}
 use Rattle.onfi_problem.specs.Problem.{Problem}

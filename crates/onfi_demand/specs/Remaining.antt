@@ -5,7 +5,7 @@ use Rattle.onfi_timing.specs.declared.operation.Operation.{Operation}
 use Rattle.onfi_timing.specs.declared.operation.Operation.TheVariants.{Read, Program, Erase}
 use Rattle.onfi_timing.specs.declared.spans.Spans.{Spans}
 use Rattle.onfi_timing.specs.declared.timing.Timing.{Timing}
-use Rattle.onfi_timing.specs.Kinds.{operation_spans, sector_spans, stated}
+use Rattle.onfi_timing.specs.Kinds.{operation_spans, sector_spans}
 use Rattle.onfi_timing.specs.Phases.{Lengths, posts_from}
 use Rattle.onfi_demand.specs.declared.group_lengths.GroupLengths.{GroupLengths}
 use Rattle.onfi_demand.specs.Left.{LunLeft, Idle, Rest}

@@ -5,8 +5,8 @@
 mod asked;
 mod closings;
 mod demand;
-pub mod laws;
 mod group_lengths;
+pub mod laws;
 mod lead;
 mod left;
 mod lengths;

@@ -4,13 +4,14 @@ ghost use Rattle.std.specs.Prelude.{◌≡◌, ◌≤◌, ◌<◌, ◌↔◌, Is
 ghost use Rattle.onfi_group.specs.Words.{Pairs};
 ghost use Rattle.onfi_demand.specs.Demand.{Meets};
 ghost use Rattle.onfi_demand.specs.Left.{has_left, left_on, Rest};
+ghost use Rattle.onfi_demand.specs.Remaining.{posts_count};
 ghost use Rattle.onfi_demand.specs.Work.{left_of};
 ghost use Rattle.onfi_known_check.specs.Proves.{Describes, times_of};
 
 use arrayvec::ArrayVec;
 use onfi_demand::{LunLeft, has_left, left_on};
 use onfi_problem::Problem;
-use onfi_timing::Kind;
+use onfi_timing::Operation;
 
 /// An open node that was read: what was left there, and from when on each LUN with something left must go on, in ns, so
 /// that no schedule ends sooner.
@@ -56,25 +57,51 @@ fn is_same(one: LunLeft, other: LunLeft) -> bool
     match one {
         LunLeft::Idle => matches!(other, LunLeft::Idle),
         LunLeft::Rest {
-            kind,
+            operation,
             members,
             next,
-        } => is_rest(other, kind, members, next),
+            sectors,
+        } => is_rest(other, operation, members, next, &sectors),
     }
 }
 
 // Whether so much of a group is left.
-fn is_rest(left: LunLeft, kind: Kind, members: u8, next: u8) -> bool
-    ensures { IsTrue result ↔ (Rest kind members next ≡ left_of left) }
+fn is_rest(left: LunLeft, operation: Operation, members: u8, next: u8, sectors: &[u8; 4]) -> bool
+    ensures { IsTrue result ↔ (Rest operation members (take (posts_count members next) sectors.now) next ≡ left_of left) }
 {
     match left {
         LunLeft::Idle => false,
         LunLeft::Rest {
-            kind: of,
+            operation: of,
             members: size,
             next: phase,
-        } => { kind == of && members == size && next == phase }
+            sectors: others,
+        } => {
+            operation == of
+                && members == size
+                && next == phase
+                && are_same_sectors(sectors, &others, posts_count(members, next))
+        }
     }
+}
+
+// How many posts are left.
+fn posts_count(members: u8, next: u8) -> usize
+    ensures { result ≡ posts_count members next }
+{
+    members.saturating_sub(next.saturating_sub(members)) as usize
+}
+
+// Whether the first numbers of sectors are the same.
+fn are_same_sectors(sectors: &[u8; 4], others: &[u8; 4], count: usize) -> bool
+    ensures { IsTrue result ↔ (take count sectors.now ≡ take count others.now) }
+{
+    for i in 0..count.min(4) {
+        if sectors[i] != others[i] {
+            return false;
+        }
+    }
+    true
 }
 
 // Whether the same is left, LUN by LUN.

@@ -1,7 +1,7 @@
 -- What is written for an input, and with which status.
 use Rattle.std.specs.Prelude.{◌≡◌, ◌≢◌, codes, ℕ, ◌+◌, ◌++◌, ◌^◌, ◌<◌, ◌≤◌, ◌⊎◌, Bool, true, false, List, take, Option, Some, None, position, Result, Ok, Err, IfSome, MatchResult}
 use Rattle.std.specs.Io.KnownBytes.{Appends}
-use Rattle.onfi_problem.specs.Problem.{Problem, IsSmall, IsProblem}
+use Rattle.onfi_problem.specs.Problem.{Problem, HasLengths, IsSmall, IsProblem}
 use Rattle.onfi_problem.specs.Left.{horizon, InLimits}
 use Rattle.onfi_schedule.specs.Schedule.{Schedule, Legal, Optimal, finish}
 use Rattle.onfi_schedule.specs.Trace.{IsTrace}
@@ -34,7 +34,7 @@ use Rattle.onfi_script.specs.declared.command.Output.TheVariants.{Plan, Trace}
 use Rattle.onfi_script.specs.declared.command.PlanOptions.{PlanOptions}
 use Rattle.onfi_script.specs.declared.fault.ScriptFault.{ScriptFault}
 use Rattle.onfi_script.specs.declared.fault.ScriptFault.TheVariants.{OutOfRange, Problem as Fault}
-use Rattle.onfi_problem.specs.declared.fault.ProblemFault.TheVariants.{TooMany, BadLun, Clock}
+use Rattle.onfi_problem.specs.declared.fault.ProblemFault.TheVariants.{TooMany, BadLun, NoLengths, Clock}
 use Rattle.onfi_script.specs.declared.fault.Refusal.{Refusal}
 use Rattle.onfi_script.specs.declared.purpose.Purpose.TheVariants as for_a
 use Rattle.onfi_script.specs.declared.row.Row.{Row}
@@ -42,7 +42,7 @@ use Rattle.onfi_script.specs.Input.{TellsRows}
 use Rattle.onfi_script.specs.Script.{plan_text_of}
 use Rattle.onfi_script.specs.declared.device.Device.{Device}
 use Rattle.onfi_script.specs.Device.{TellsDevice}
-use Rattle.onfi_script.specs.Setup.{names_absent, SetsUp}
+use Rattle.onfi_script.specs.Setup.{asks_amiss, is_beyond, SetsUp}
 use Rattle.onfi_script.specs.PlanText.{plan_of, plan_within_of, schedule_of}
 use Rattle.onfi_script.specs.Text.{Answer, memory, refused, planned, over, accepted, within, legal_until, refused_for, refused_at, text_refused, known_text_refused}
 
@@ -187,21 +187,26 @@ AnswersCommand Tells (asked.PlanBy options) text p answer = AnswersPlan Tells op
 AnswersCommand Tells (asked.CheckBy planner) text p answer = AnswersCheck planner p text answer
 AnswersCommand Tells asked.Legal text p answer = AnswersLegal p text answer
 
--- a problem that is set up: its first fault, or the problem itself
-pub data TellsProblem (p : Problem) (told : Result Problem Refusal) : Type 0 where
-  is_too_many : (IsSmall p → ⊥) → told ≡ Err (whole (Fault TooMany)) → TellsProblem p told
-  is_bad_lun : IsSmall p → (IsProblem p → ⊥) → told ≡ Err (whole (Fault BadLun)) → TellsProblem p told
-  is_late : IsSmall p → IsProblem p → 2 ^ 62 ≤ horizon p → told ≡ Err (whole (Fault Clock)) → TellsProblem p told
-  is_problem : InLimits p → told ≡ Ok p → TellsProblem p told
+-- lengths are stated for all that is put out, and reads alone put out sectors
+pub record HasAllLengths (rows : List Row) (p : Problem) : Type 0 where
+  pub stated : HasLengths p
+  pub reads : asks_amiss rows p.wants ≡ false
 
--- rows that are each in order: why they describe no device, the first that names a LUN that isn't there, or the problem that
--- they set up
+-- a problem that is set up: its first fault, or the problem itself
+pub data TellsProblem (rows : List Row) (p : Problem) (told : Result Problem Refusal) : Type 0 where
+  is_too_many : (IsSmall p → ⊥) → told ≡ Err (whole (Fault TooMany)) → TellsProblem rows p told
+  is_bad_lun : IsSmall p → (IsProblem p → ⊥) → told ≡ Err (whole (Fault BadLun)) → TellsProblem rows p told
+  lacks_lengths : IsSmall p → IsProblem p → (HasAllLengths rows p → ⊥) → told ≡ Err (whole (Fault NoLengths)) → TellsProblem rows p told
+  is_late : IsSmall p → IsProblem p → HasAllLengths rows p → 2 ^ 62 ≤ horizon p → told ≡ Err (whole (Fault Clock)) → TellsProblem rows p told
+  is_problem : InLimits p → HasAllLengths rows p → told ≡ Ok p → TellsProblem rows p told
+
+-- rows that are each in order: why they describe no device, the first that goes beyond it, or the problem that they set up
 pub data TellsSetup (rows : List Row) (told : Result Problem Refusal) : Type 0 where
   has_no_device : (fault : ScriptFault) → TellsDevice rows (Err fault) → told ≡ Err (whole fault) → TellsSetup rows told
-  has_no_lun : (device : Device) (at : ℕ) → TellsDevice rows (Ok device) → position (names_absent device.luns) rows ≡ Some at
+  goes_beyond : (device : Device) (at : ℕ) → TellsDevice rows (Ok device) → position (is_beyond device) rows ≡ Some at
       → told ≡ Err (record { row = at + 1; fault = OutOfRange }) → TellsSetup rows told
-  has_problem : (device : Device) (p : Problem) → TellsDevice rows (Ok device) → position (names_absent device.luns) rows ≡ None → SetsUp rows device p
-      → TellsProblem p told → TellsSetup rows told
+  has_problem : (device : Device) (p : Problem) → TellsDevice rows (Ok device) → position (is_beyond device) rows ≡ None → SetsUp rows device p
+      → TellsProblem rows p told → TellsSetup rows told
 
 -- the script of an input: the first refusal of its rows, or what they set up
 pub data TellsScript (input : List ℕ) (told : Result Problem Refusal) : Type 0 where

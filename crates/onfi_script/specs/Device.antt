@@ -1,5 +1,5 @@
 -- The device of a script: how many LUNs it has, what may be grouped, and its phase lengths.
-use Rattle.std.specs.Prelude.{◌≡◌, ℕ, ◌<◌, ◌≤◌, ◌||◌, Bool, true, false, IsTrue, List, [], length, Option, Some, None, is_none, option_and_then, IsSomeAnd, Result, Ok, Err, MatchResult, MatchBool}
+use Rattle.std.specs.Prelude.{◌≡◌, ℕ, ◌<◌, ◌≤◌, ◌||◌, Bool, true, false, IsTrue, List, [], length, map, Option, Some, None, is_none, option_and_then, IsSomeAnd, Result, Ok, Err, MatchResult, MatchBool}
 use Rattle.std.specs.List.{flat_map, list_any}
 use Rattle.onfi_param.specs.declared.fault.PageFault.TheVariants.{Short, NoCopy}
 use Rattle.onfi_param.specs.Copies.{IsPageCopy, IsFirstCopy, copy_at}
@@ -11,18 +11,18 @@ use Rattle.onfi_timing.specs.declared.kind.Kind.TheVariants.{Read, Program, Eras
 use Rattle.onfi_timing.specs.declared.sheet.Sheet.{Sheet as SheetOf}
 use Rattle.onfi_timing.specs.declared.spans.Spans.{Spans as Lengths}
 use Rattle.onfi_timing.specs.declared.timing.Timing.{Timing}
-use Rattle.onfi_timing.specs.Kinds.{spans_of}
+use Rattle.onfi_timing.specs.SectorPosts.{HasPosts, IsSectorTiming, IsStrobedSectorTiming, counts}
 use Rattle.onfi_timing.specs.declared.strobe_fault.StrobeFault.{StrobeFault}
 use Rattle.onfi_timing.specs.declared.strobe_fault.StrobeFault.TheVariants as in_strobes
 use Rattle.onfi_timing.specs.declared.strobes.Strobes.{Strobes}
-use Rattle.onfi_timing.specs.Strobes.{IsStrobedFault, IsStrobedTiming}
-use Rattle.onfi_timing.specs.Table.{IsTiming, IsTimingFault}
+use Rattle.onfi_timing.specs.Strobes.{IsStrobedFault}
+use Rattle.onfi_timing.specs.Table.{IsTimingFault}
 use Rattle.onfi_script.specs.declared.device.Device.{Device}
 use Rattle.onfi_script.specs.declared.device.PageDevice.{PageDevice}
 use Rattle.onfi_script.specs.declared.fault.ScriptFault.{ScriptFault}
 use Rattle.onfi_script.specs.declared.fault.ScriptFault.TheVariants as fault
 use Rattle.onfi_script.specs.declared.row.Row.{Row}
-use Rattle.onfi_script.specs.declared.row.Row.TheVariants.{Shape, Spans, Page}
+use Rattle.onfi_script.specs.declared.row.Row.TheVariants.{Shape, Spans, Page, SectorPost, Sector}
 use Rattle.onfi_script.specs.declared.row.Row.TheVariants as row_of
 use Rattle.onfi_script.specs.declared.row.Subject.TheVariants as on
 use Rattle.onfi_script.specs.declared.row_name.Form.{Form}
@@ -63,9 +63,24 @@ pub record HasLengths (row : SpansRow) (spans : Lengths) : Type 0 where
   pub array : spans.array ≡ row.array
   pub post : spans.post ≡ row.post
 
--- the lengths of each kind are those that its row gives
-abbrev pub HasTiming : List Row → Timing → Type 0
-HasTiming rows timing = (kind : Kind) → IsSomeAnd (spans_in kind rows) (λ row. HasLengths row (spans_of timing kind))
+-- the post of so many sectors that a row gives; 0 where none does
+abbrev pub sector_post_from : Option Row → ℕ
+sector_post_from (Some (SectorPost row)) = row.post
+sector_post_from _ = 0
+
+abbrev pub sector_post_at : List Row → ℕ → ℕ
+sector_post_at rows count = sector_post_from (row_on (on.SectorPost count) rows)
+
+-- .. of one to seven
+abbrev pub sector_posts_in : List Row → List ℕ
+sector_posts_in rows = map (sector_post_at rows) counts
+
+-- the lengths of each kind are those that its row gives, and so are the posts of sectors
+pub record HasTiming (rows : List Row) (timing : Timing) : Type 0 where
+  pub read : IsSomeAnd (spans_in Read rows) (λ row. HasLengths row timing.read)
+  pub program : IsSomeAnd (spans_in Program rows) (λ row. HasLengths row timing.program)
+  pub erase : IsSomeAnd (spans_in Erase rows) (λ row. HasLengths row timing.erase)
+  pub sectors : HasPosts timing (sector_posts_in rows)
 
 -- the rows `shape` and `spans` describe this device
 pub record IsShaped (rows : List Row) (device : Device) : Type 0 where
@@ -89,10 +104,18 @@ bytes_in _ = []
 abbrev pub page_bytes : List Row → List ℕ
 page_bytes rows = flat_map bytes_in rows
 
--- the phase lengths are those of page and sheet, by strobes where there are any
-abbrev pub IsTimed : List ℕ → Geometry → SheetOf → Option Strobes → Timing → Type 0
-IsTimed page g sheet None t = IsTiming page g sheet t
-IsTimed page g sheet (Some strobes) t = IsStrobedTiming page g sheet strobes t
+-- the bytes of a sector; 0 where no row says
+abbrev pub sector_from : Option Row → ℕ
+sector_from (Some (Sector bytes)) = bytes
+sector_from _ = 0
+
+abbrev pub sector_in : List Row → ℕ
+sector_in rows = sector_from (row_on on.Sector rows)
+
+-- the phase lengths are those of page and sheet, by strobes where there are any, for sectors of so many bytes
+abbrev pub IsTimed : List ℕ → Geometry → SheetOf → Option Strobes → ℕ → Timing → Type 0
+IsTimed page g sheet None sector t = IsSectorTiming page g sheet sector t
+IsTimed page g sheet (Some strobes) sector t = IsStrobedSectorTiming page g sheet strobes sector t
 
 -- why there are none: what is wrong with the sheet, or with the strobes beside a sheet that is right
 abbrev pub IsUntimed : SheetOf → Option Strobes → StrobeFault → Type 0
@@ -101,12 +124,12 @@ IsUntimed sheet None _ = ⊥
 IsUntimed sheet (Some strobes) f = IsStrobedFault sheet strobes f
 
 -- page, sheet and strobes describe chips of this geometry and timing
-pub record IsPageDevice (bytes : List ℕ) (sheet : SheetOf) (strobes : Option Strobes) (g : Geometry) (t : Timing) : Type 0 where
+pub record IsPageDevice (bytes : List ℕ) (sheet : SheetOf) (strobes : Option Strobes) (sector : ℕ) (g : Geometry) (t : Timing) : Type 0 where
   pub page : List ℕ
   pub copy : IsFirstCopy bytes page
   pub sound : NoFault page
   pub layout : IsGeometryOf page g
-  pub timing : IsTimed page g sheet strobes t
+  pub timing : IsTimed page g sheet strobes sector t
 
 -- why they describe none: no page, no geometry, or no phase lengths
 abbrev pub IsUndescribed : List ℕ → SheetOf → Option Strobes → ScriptFault → Type 0
@@ -118,13 +141,13 @@ IsUndescribed bytes sheet strobes (fault.Strobe (in_strobes.Sheet f)) = ⊥
 IsUndescribed bytes sheet strobes (fault.Strobe f) = (page : List ℕ) × IsFirstCopy bytes page × NoFault page × IsUntimed sheet strobes f
 IsUndescribed bytes sheet strobes _ = ⊥
 
-abbrev pub TellsPageDevice : List ℕ → SheetOf → Option Strobes → Result PageDevice ScriptFault → Type 0
-TellsPageDevice bytes sheet strobes told = MatchResult told (λ d. IsPageDevice bytes sheet strobes d.geometry d.timing) (IsUndescribed bytes sheet strobes)
+abbrev pub TellsPageDevice : List ℕ → SheetOf → Option Strobes → ℕ → Result PageDevice ScriptFault → Type 0
+TellsPageDevice bytes sheet strobes sector told = MatchResult told (λ d. IsPageDevice bytes sheet strobes sector d.geometry d.timing) (IsUndescribed bytes sheet strobes)
 
 -- the chips that page, sheet and strobes of the rows describe, or why they describe none: without bytes of a page a row is missing
 abbrev pub TellsPaged : List Row → Result PageDevice ScriptFault → Type 0
 TellsPaged rows told =
-    MatchBool (list_any is_page rows) (TellsPageDevice (page_bytes rows) (seen rows).sheet (seen rows).strobes told) (told ≡ Err fault.Missing)
+    MatchBool (list_any is_page rows) (TellsPageDevice (page_bytes rows) (seen rows).sheet (seen rows).strobes (sector_in rows) told) (told ≡ Err fault.Missing)
 
 -- the chips that the rows `shape`, `geometry` and `spans` describe
 pub record HasChips (rows : List Row) (chips : PageDevice) : Type 0 where

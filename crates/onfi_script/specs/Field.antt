@@ -51,6 +51,13 @@ page text = number 0 4095 text
 abbrev pub weight : List ℕ → Result ℕ ScriptFault
 weight text = number 1 65535 text
 
+abbrev pub sector_bytes : List ℕ → Result ℕ ScriptFault
+sector_bytes text = number 1 65535 text
+
+-- how many sectors are put out; 0 is all of a page
+abbrev pub sectors : List ℕ → Result ℕ ScriptFault
+sectors text = number 0 7 text
+
 -- a length or a wait in ns, below 2^50
 abbrev pub span : ℕ → List ℕ → Result ℕ ScriptFault
 span least text = number least 1125899906842623 text

@@ -3,6 +3,7 @@ pub mod Field
 pub mod RowParts
 pub mod RowName
 pub mod Row
+pub mod SectorRow
 pub mod RunRow
 pub mod Subject
 pub mod ArraysTold

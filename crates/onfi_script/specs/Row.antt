@@ -58,9 +58,13 @@ bus_row row = given (time (field row 1)) (λ bus_free. Ok (Bus bus_free))
 abbrev pub free_row : Record → Result Row ScriptFault
 free_row row = given (lun (field row 1)) (λ lun. given (time (field row 2)) (λ since. Ok (Free lun since)))
 
+-- each of these fields
+abbrev pub each_of : (List ℕ → Result ℕ ScriptFault) → List (List ℕ) → Result (List ℕ) ScriptFault
+each_of read [] = Ok []
+each_of read (text ∷ texts) = given (read text) (λ x. given (each_of read texts) (λ xs. Ok (x ∷ xs)))
+
 abbrev pub blocks_of : List (List ℕ) → Result (List ℕ) ScriptFault
-blocks_of [] = Ok []
-blocks_of (text ∷ texts) = given (block text) (λ block. given (blocks_of texts) (λ blocks. Ok (block ∷ blocks)))
+blocks_of texts = each_of block texts
 
 abbrev pub running_row : Record → Result Row ScriptFault
 running_row row =

@@ -1,5 +1,6 @@
 -- The names of rows, what they are taken for, and how many fields each has.
 use Rattle.std.specs.Prelude.{ℕ, ◌==◌, ◌&&◌, ◌||◌, not, nat_le, if◌then◌else◌, Bool, true, false, List, length, Option, Some, None, is_some, codes}
+use Rattle.std.specs.Option.{option_or}
 use Rattle.std.specs.Str.{bytes_eq}
 use Rattle.onfi_script.specs.Field.{field}
 use Rattle.onfi_script.specs.declared.purpose.Purpose.{Purpose}
@@ -7,7 +8,7 @@ use Rattle.onfi_script.specs.declared.purpose.Purpose.TheVariants.{Problem, Run,
 use Rattle.onfi_script.specs.declared.row_name.Form.{Form}
 use Rattle.onfi_script.specs.declared.row_name.Form.TheVariants.{First, Second}
 use Rattle.onfi_script.specs.declared.row_name.RowName.{RowName}
-use Rattle.onfi_script.specs.declared.row_name.RowName.TheVariants.{Shape, Spans, Page, Sheet, Strobe, Bus, Free, Running, Want, Weight, Strict, Channels, Hosts, Batch, SubmitCap, PostCap, Choice, Replanning, Op, Fault, ChipFail, NotReady, Array, At, Geometry}
+use Rattle.onfi_script.specs.declared.row_name.RowName.TheVariants.{Shape, Spans, Page, Sheet, Strobe, Bus, Free, Running, Want, Weight, SectorPost, Sector, Sectors, RunSectors, Strict, Channels, Hosts, Batch, SubmitCap, PostCap, Choice, Replanning, Op, Fault, ChipFail, NotReady, Array, At, Geometry}
 
 -- the rows that are taken for a run alone
 abbrev pub run_name_of : List ℕ → Option RowName
@@ -28,6 +29,15 @@ run_name_of text =
     else (if bytes_eq text (codes "geometry") then Some Geometry
     else None)))))))))))))
 
+-- the rows of reads of some sectors
+abbrev pub sectors_name_of : List ℕ → Option RowName
+sectors_name_of text =
+    if bytes_eq text (codes "sectorpost") then Some SectorPost
+    else (if bytes_eq text (codes "sector") then Some Sector
+    else (if bytes_eq text (codes "sectors") then Some Sectors
+    else (if bytes_eq text (codes "runsectors") then Some RunSectors
+    else None)))
+
 abbrev pub name_of : List ℕ → Option RowName
 name_of text =
     if bytes_eq text (codes "shape") then Some Shape
@@ -41,7 +51,7 @@ name_of text =
     else (if bytes_eq text (codes "want") then Some Want
     else (if bytes_eq text (codes "weight") then Some Weight
     else (if bytes_eq text (codes "strict") then Some Strict
-    else run_name_of text))))))))))
+    else option_or (sectors_name_of text) (run_name_of text)))))))))))
 
 -- the rows that are taken for a problem alone
 abbrev pub is_of_problem : RowName → Bool
@@ -50,6 +60,9 @@ is_of_problem Free = true
 is_of_problem Running = true
 is_of_problem Want = true
 is_of_problem Weight = true
+is_of_problem SectorPost = true
+is_of_problem Sectors = true
+is_of_problem RunSectors = true
 is_of_problem _ = false
 
 -- .. and for a run too
@@ -59,6 +72,7 @@ is_of_both Spans = true
 is_of_both Page = true
 is_of_both Sheet = true
 is_of_both Strobe = true
+is_of_both Sector = true
 is_of_both Strict = true
 is_of_both _ = false
 
@@ -77,9 +91,11 @@ abbrev pub form_of : RowName → Option Form
 form_of Shape = Some First
 form_of Spans = Some First
 form_of Geometry = Some First
+form_of SectorPost = Some First
 form_of Page = Some Second
 form_of Sheet = Some Second
 form_of Strobe = Some Second
+form_of Sector = Some Second
 form_of _ = None
 
 abbrev pub is_form : Form → Form → Bool
@@ -120,6 +136,10 @@ has_fields Free row = length row == 3
 has_fields Running row = nat_le 7 (length row) && nat_le (length row) 10
 has_fields Want row = length row == 5
 has_fields Weight row = length row == 3
+has_fields SectorPost row = length row == 3
+has_fields Sector row = length row == 2
+has_fields Sectors row = length row == 3
+has_fields RunSectors row = nat_le 3 (length row) && nat_le (length row) 6
 has_fields Strict row = length row == 2
 has_fields Channels row = length row == 2
 has_fields Hosts row = length row == 2

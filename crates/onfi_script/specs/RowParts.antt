@@ -17,6 +17,16 @@ pub record SpansRow : Type 0 where
   pub array : ℕ
   pub post : ℕ
 
+-- how long an output of so many sectors holds the bus, in ns
+pub record SectorPostRow : Type 0 where
+  pub count : ℕ
+  pub post : ℕ
+
+-- how many sectors the members of what runs on a LUN put out, in the order of its blocks
+pub record RunSectorsRow : Type 0 where
+  pub lun : ℕ
+  pub counts : List ℕ
+
 -- how many blocks a LUN has, how many pages a block, how many bytes a page, and may pages be programmed in any order
 pub record GeometryRow : Type 0 where
   pub blocks : ℕ

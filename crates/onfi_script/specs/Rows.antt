@@ -8,13 +8,14 @@ use Rattle.onfi_script.specs.declared.fault.Refusal.{Refusal}
 use Rattle.onfi_script.specs.declared.row.Row.{Row}
 use Rattle.onfi_script.specs.declared.row.Subject.{Subject}
 use Rattle.onfi_script.specs.declared.row_name.RowName.{RowName}
-use Rattle.onfi_script.specs.declared.row_name.RowName.TheVariants.{Shape, Spans, Page, Sheet, Strobe, Bus, Free, Running, Want, Weight, Strict, Channels, Hosts, Batch, SubmitCap, PostCap, Choice, Replanning, Op, Fault, ChipFail, NotReady, Array, At, Geometry}
+use Rattle.onfi_script.specs.declared.row_name.RowName.TheVariants.{Shape, Spans, Page, Sheet, Strobe, Bus, Free, Running, Want, Weight, SectorPost, Sector, Sectors, RunSectors, Strict, Channels, Hosts, Batch, SubmitCap, PostCap, Choice, Replanning, Op, Fault, ChipFail, NotReady, Array, At, Geometry}
 use Rattle.onfi_script.specs.Field.{given, field}
 use Rattle.onfi_script.specs.RowName.{name_of, is_taken, stands, has_fields}
 use Rattle.onfi_script.specs.Row.{Record, shape_row, spans_row, page_row, sheet_row, strobe_row, bus_row, free_row, running_row, want_row, weight_row, strict_row}
 use Rattle.onfi_script.specs.declared.seen.Seen.{Seen}
 use Rattle.onfi_script.specs.Seen.{seen}
 use Rattle.onfi_script.specs.RunRow.{array_row, at_row, geometry_row, channels_row, hosts_row, batch_row, submit_cap_row, post_cap_row, op_row, fault_row, chip_fail_row, not_ready_row, choice_row, replanning_row}
+use Rattle.onfi_script.specs.SectorRow.{sector_post_row, sector_row, sectors_row, run_sectors_row}
 use Rattle.onfi_script.specs.Subject.{subject_of, settles, is_op}
 
 -- what row number `number` of that name says; a row of the sheet or of strobes is read with those before it
@@ -29,6 +30,10 @@ said Free seen number row = free_row row
 said Running seen number row = running_row row
 said Want seen number row = want_row row
 said Weight seen number row = weight_row row
+said SectorPost seen number row = sector_post_row row
+said Sector seen number row = sector_row row
+said Sectors seen number row = sectors_row row
+said RunSectors seen number row = run_sectors_row row
 said Strict seen number row = strict_row row
 said Channels seen number row = channels_row row
 said Hosts seen number row = hosts_row row

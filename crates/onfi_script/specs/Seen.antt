@@ -5,7 +5,7 @@ use Rattle.onfi_timing.specs.declared.sheet.Sheet.{Sheet as SheetOf}
 use Rattle.onfi_timing.specs.Sheet.{nothing}
 use Rattle.onfi_timing.specs.declared.strobes.Strobes.{Strobes}
 use Rattle.onfi_script.specs.declared.row.Row.{Row}
-use Rattle.onfi_script.specs.declared.row.Row.TheVariants.{Shape, Spans, Page, Sheet, Strobe, At, Geometry}
+use Rattle.onfi_script.specs.declared.row.Row.TheVariants.{Shape, Spans, Page, Sheet, Strobe, SectorPost, Sector, At, Geometry}
 use Rattle.onfi_script.specs.declared.row_name.Form.{Form}
 use Rattle.onfi_script.specs.declared.row_name.Form.TheVariants.{First, Second}
 use Rattle.onfi_script.specs.declared.seen.Seen.{Seen}
@@ -16,9 +16,11 @@ abbrev pub form_in : Row → Option Form
 form_in (Shape row) = Some First
 form_in (Spans row) = Some First
 form_in (Geometry row) = Some First
+form_in (SectorPost row) = Some First
 form_in (Page bytes) = Some Second
 form_in (Sheet sheet) = Some Second
 form_in (Strobe strobes) = Some Second
+form_in (Sector bytes) = Some Second
 form_in _ = None
 
 -- the sheet of a row of it

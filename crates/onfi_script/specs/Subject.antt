@@ -3,7 +3,7 @@ use Rattle.std.specs.Prelude.{◌==◌, ◌&&◌, Bool, true, false, List, Optio
 use Rattle.onfi_timing.specs.declared.kind.Kind.{Kind}
 use Rattle.onfi_timing.specs.declared.kind.Kind.TheVariants.{Read, Program, Erase}
 use Rattle.onfi_script.specs.declared.row.Row.{Row}
-use Rattle.onfi_script.specs.declared.row.Row.TheVariants.{Shape, Spans, Page, Sheet, Strobe, Bus, Free, Running, Want, Weight, Strict, Channels, Hosts, Batch, SubmitCap, PostCap, Choice, Replanning, Op, Fault, ChipFail, NotReady, Array, At, Geometry}
+use Rattle.onfi_script.specs.declared.row.Row.TheVariants.{Shape, Spans, Page, Sheet, Strobe, Bus, Free, Running, Want, Weight, SectorPost, Sector, Sectors, RunSectors, Strict, Channels, Hosts, Batch, SubmitCap, PostCap, Choice, Replanning, Op, Fault, ChipFail, NotReady, Array, At, Geometry}
 use Rattle.onfi_script.specs.declared.row.Subject.{Subject}
 use Rattle.onfi_script.specs.declared.row.Subject.TheVariants as on
 
@@ -18,6 +18,10 @@ subject_of (Free lun since) = Some (on.Lun lun)
 subject_of (Running row) = Some (on.Lun row.lun)
 subject_of (Want kind lun block page) = None
 subject_of (Weight request weight) = Some (on.Weight request)
+subject_of (SectorPost row) = Some (on.SectorPost row.count)
+subject_of (Sector bytes) = Some on.Sector
+subject_of (Sectors request count) = Some (on.Sectors request)
+subject_of (RunSectors row) = Some (on.RunSectors row.lun)
 subject_of (Strict strict) = Some on.Strict
 subject_of (Channels count) = Some on.Channels
 subject_of (Hosts count) = Some on.Hosts
@@ -51,6 +55,10 @@ is_subject (on.Spans kind) (on.Spans other) = is_kind kind other
 is_subject on.Bus on.Bus = true
 is_subject (on.Lun lun) (on.Lun other) = lun == other
 is_subject (on.Weight request) (on.Weight other) = request == other
+is_subject (on.SectorPost count) (on.SectorPost other) = count == other
+is_subject on.Sector on.Sector = true
+is_subject (on.Sectors request) (on.Sectors other) = request == other
+is_subject (on.RunSectors lun) (on.RunSectors other) = lun == other
 is_subject on.Strict on.Strict = true
 is_subject on.Channels on.Channels = true
 is_subject on.Hosts on.Hosts = true

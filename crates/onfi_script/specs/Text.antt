@@ -12,7 +12,7 @@ use Rattle.onfi_timing.specs.declared.fault.SheetFault.TheVariants as sheet
 use Rattle.onfi_timing.specs.declared.strobe_fault.StrobeFault.{StrobeFault}
 use Rattle.onfi_timing.specs.declared.strobe_fault.StrobeFault.TheVariants as strobe
 use Rattle.onfi_problem.specs.declared.fault.ProblemFault.{ProblemFault}
-use Rattle.onfi_problem.specs.declared.fault.ProblemFault.TheVariants.{TooMany, BadLun, Clock, Memory}
+use Rattle.onfi_problem.specs.declared.fault.ProblemFault.TheVariants.{TooMany, BadLun, NoLengths, Clock, Memory}
 use Rattle.onfi_request.specs.declared.checking.RequestFault.{RequestFault}
 use Rattle.onfi_request.specs.declared.checking.RequestFault.TheVariants as request
 use Rattle.onfi_schedule.specs.Schedule.{Placed, Schedule}
@@ -82,6 +82,7 @@ strobe_name strobe.Memory = codes "Strobe Memory"
 abbrev pub problem_name : ProblemFault → List ℕ
 problem_name TooMany = codes "Problem TooMany"
 problem_name BadLun = codes "Problem BadLun"
+problem_name NoLengths = codes "Problem NoLengths"
 problem_name Clock = codes "Problem Clock"
 problem_name Memory = codes "Problem Memory"
 
@@ -90,6 +91,7 @@ request_name request.Lun = codes "Request Lun"
 request_name request.Block = codes "Request Block"
 request_name request.Page = codes "Request Page"
 request_name request.DataLength = codes "Request DataLength"
+request_name request.Sectors = codes "Request Sectors"
 
 abbrev pub name_of : ScriptFault → List ℕ
 name_of NoEnd = codes "NoEnd"

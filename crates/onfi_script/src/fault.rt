@@ -105,6 +105,7 @@ fn problem_name(fault: ProblemFault) -> &'static str
     match fault {
         ProblemFault::TooMany => "Problem TooMany",
         ProblemFault::BadLun => "Problem BadLun",
+        ProblemFault::NoLengths => "Problem NoLengths",
         ProblemFault::Clock => "Problem Clock",
         ProblemFault::Memory => "Problem Memory",
     }
@@ -118,6 +119,7 @@ fn request_name(fault: RequestFault) -> &'static str
         RequestFault::Block => "Request Block",
         RequestFault::Page => "Request Page",
         RequestFault::DataLength => "Request DataLength",
+        RequestFault::Sectors => "Request Sectors",
     }
 }
 

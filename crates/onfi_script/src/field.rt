@@ -58,6 +58,13 @@ fn short(text: &[u8], least: u16, most: u16) -> Result<u16, ScriptFault>
     Ok(value as u16)
 }
 
+/// A number from 1 in two bytes.
+fn some_short(text: &[u8]) -> Result<u16, ScriptFault>
+    ensures { result ≡ spec.number 1 65535 text.now }
+{
+    short(text, 1, 65535)
+}
+
 /// 0 or 1.
 pub fn flag(text: &[u8]) -> Result<bool, ScriptFault>
     ensures { result ≡ spec.flag text.now }
@@ -106,7 +113,21 @@ pub fn page(text: &[u8]) -> Result<u16, ScriptFault>
 pub fn weight(text: &[u8]) -> Result<u16, ScriptFault>
     ensures { result ≡ spec.weight text.now }
 {
-    short(text, 1, 65535)
+    some_short(text)
+}
+
+/// The bytes of a sector, at least 1.
+pub fn sector_bytes(text: &[u8]) -> Result<u16, ScriptFault>
+    ensures { result ≡ spec.sector_bytes text.now }
+{
+    some_short(text)
+}
+
+/// How many sectors are put out; 0 is all of a page.
+pub fn sectors(text: &[u8]) -> Result<u8, ScriptFault>
+    ensures { result ≡ spec.sectors text.now }
+{
+    small(text, 0, 7)
 }
 
 /// A length or a wait in ns, below 2^50.

@@ -1,6 +1,6 @@
 //! The device of a script, in either form.
-ghost use Rattle.std.specs.Prelude.{◌≡◌, IsTrue, IsSomeAnd, IfOk, MatchOption, MatchResult, option_map, Ok, Err, None, false};
-ghost use Rattle.std.specs.List.{list_any};
+ghost use Rattle.std.specs.Prelude.{◌≡◌, ◌<◌, ◌^◌, IsTrue, IsSomeAnd, IfOk, MatchOption, MatchResult, option_map, Ok, Err, None, false};
+ghost use Rattle.std.specs.List.{AllByRecursion as Each, list_any};
 ghost use Rattle.onfi_script.specs.Device as spec;
 ghost use Rattle.onfi_script.specs.Seen.{seen as spec_seen};
 ghost use Rattle.onfi_script.specs.Stop.{IfFault, Tells};
@@ -55,14 +55,42 @@ fn spans(rows: &[Row], kind: Kind) -> Option<Spans>
     }
 }
 
-/// The lengths of each kind.
+/// The post of so many sectors; 0 where no row gives one.
+fn sector_post(rows: &[Row], count: u8) -> u64
+    ensures value { result ≡ spec.sector_post_at rows.now count }
+    ensures short { result < 2 ^ 50 }
+{
+    match row_on(rows, Subject::SectorPost(count)) {
+        Some(Row::SectorPost(row)) => row.post(),
+        _ => 0,
+    }
+}
+
+/// The posts of one to seven sectors.
+fn sector_posts(rows: &[Row]) -> [u64; 7]
+    ensures value { result ≡ spec.sector_posts_in rows.now }
+    ensures short { Each (λ post. post < 2 ^ 50) result }
+{
+    [
+        sector_post(rows, 1),
+        sector_post(rows, 2),
+        sector_post(rows, 3),
+        sector_post(rows, 4),
+        sector_post(rows, 5),
+        sector_post(rows, 6),
+        sector_post(rows, 7),
+    ]
+}
+
+/// The lengths of each kind, and of reads of some sectors.
 fn timing(rows: &[Row]) -> Option<Timing>
     ensures { MatchOption result (IsTrue (spec.lacks_spans rows.now)) (λ timing. (spec.lacks_spans rows.now ≡ false) × spec.HasTiming rows.now timing) }
 {
     let read = spans(rows, Kind::Read)?;
     let program = spans(rows, Kind::Program)?;
     let erase = spans(rows, Kind::Erase)?;
-    Some(Timing::new(read, program, erase))
+    let timing = Timing::new(read, program, erase);
+    Some(timing.with_posts(&sector_posts(rows)))
 }
 
 /// The device of a script of the first form.
@@ -105,18 +133,29 @@ pub fn page_bytes(alloc: Global, rows: &[Row]) -> Result<Vec<u8>, AllocError>
     Ok(bytes)
 }
 
-/// The phase lengths by page and sheet, and by strobes where there are any.
+/// The bytes of a sector; 0 where no row says.
+fn sector_bytes(rows: &[Row]) -> u16
+    ensures { result ≡ spec.sector_in rows.now }
+{
+    match row_on(rows, Subject::Sector) {
+        Some(Row::Sector { bytes }) => *bytes,
+        _ => 0,
+    }
+}
+
+/// The phase lengths by page and sheet, and by strobes where there are any, for sectors of so many bytes.
 fn timed(
     page: &ParamPage,
     geometry: &Geometry,
     sheet: &Sheet,
     strobes: Option<Strobes>,
+    sector: u16,
 ) -> Result<Timing, StrobeFault>
-    ensures { MatchResult result (spec.IsTimed page.now geometry.now sheet.now strobes) (spec.IsUntimed sheet.now strobes) }
+    ensures { MatchResult result (spec.IsTimed page.now geometry.now sheet.now strobes sector) (spec.IsUntimed sheet.now strobes) }
 {
     match strobes {
-        Some(strobes) => Timing::of_strobes(page, geometry, sheet, &strobes),
-        None => match Timing::of(page, geometry, sheet) {
+        Some(strobes) => Timing::of_strobed_sectors(page, geometry, sheet, &strobes, sector),
+        None => match Timing::of_sectors(page, geometry, sheet, sector) {
             Ok(timing) => Ok(timing),
             Err(fault) => Err(StrobeFault::Sheet(fault)),
         },
@@ -128,8 +167,9 @@ fn described(
     bytes: &[u8],
     sheet: &Sheet,
     strobes: Option<Strobes>,
+    sector: u16,
 ) -> Result<PageDevice, ScriptFault>
-    ensures { spec.TellsPageDevice bytes.now sheet.now strobes result }
+    ensures { spec.TellsPageDevice bytes.now sheet.now strobes sector result }
 {
     let page = match read_page(bytes) {
         Ok(page) => page,
@@ -139,7 +179,7 @@ fn described(
         Ok(geometry) => geometry,
         Err(fault) => return Err(ScriptFault::Geometry(fault)),
     };
-    match timed(&page, &geometry, sheet, strobes) {
+    match timed(&page, &geometry, sheet, strobes, sector) {
         Ok(timing) => Ok(PageDevice { geometry, timing }),
         Err(StrobeFault::Sheet(fault)) => Err(ScriptFault::Sheet(fault)),
         Err(fault) => Err(ScriptFault::Strobe(fault)),
@@ -157,7 +197,8 @@ fn paged_chips(alloc: Global, rows: &[Row], seen: &Seen) -> Result<PageDevice, R
     let Ok(bytes) = page_bytes(alloc, rows) else {
         return Err(RowStop::Memory);
     };
-    let device = described(bytes.as_slice(), &seen.sheet, seen.strobes)?;
+    let sector = sector_bytes(rows);
+    let device = described(bytes.as_slice(), &seen.sheet, seen.strobes, sector)?;
     Ok(device)
 }
 

@@ -34,6 +34,8 @@ mod row_name;
 mod rows;
 mod run_row;
 mod script;
+mod sector_row;
+mod sectors;
 mod seen;
 mod setup;
 mod text;

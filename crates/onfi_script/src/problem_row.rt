@@ -1,13 +1,15 @@
 //! The rows of a problem: its bus, its LUNs, its requests and how they are grouped and weighed.
-ghost use Rattle.std.specs.Prelude.{◌≡◌, ◌≤◌, length, drop, IfOk, MatchResult};
+ghost use Rattle.std.specs.Prelude.{◌≡◌, ◌≤◌, length, drop, take, IfOk, MatchResult};
+ghost use Rattle.std.specs.List.{list_any};
 ghost use Rattle.csv.specs.Records.{fields_of};
 ghost use Rattle.onfi_script.specs.Row as spec;
-ghost use Rattle.onfi_script.specs.Setup.{members};
+ghost use Rattle.onfi_script.specs.Setup.{is_amiss, members};
 ghost use Rattle.onfi_problem.specs.declared.lun_state.LunState.TheVariants.{Running};
 
 use crate::fault::ScriptFault;
 use crate::field::{block, field, flag, kind, lun, page, small, time, weight};
 use crate::row::Row;
+use crate::sectors::is_amiss;
 use csv::ByteRecord;
 use onfi_addr::plane_at;
 use onfi_group::Group;
@@ -46,6 +48,17 @@ impl RunningRow {
         ensures { result ≡ self.now.lun }
     {
         self.lun
+    }
+
+    /// Whether one of its members is to put out sectors and is no read.
+    pub fn is_amiss(&self, counts: &[u8]) -> bool
+        ensures { result ≡ list_any (λ count. is_amiss count self.now.kind) (take (length self.now.blocks) counts.now) }
+    {
+        let kind = self.kind;
+        counts
+            .iter()
+            .take(self.blocks.len())
+            .any(|count| is_amiss(*count, kind))
     }
 
     /// The group that runs.

@@ -13,7 +13,8 @@ use crate::purpose::Purpose;
 use crate::row::Row;
 use crate::rows::rows;
 use crate::script::script_len;
-use crate::setup::{Setup, absent, set_up};
+use crate::sectors::asks_amiss;
+use crate::setup::{Setup, beyond, set_up};
 use crate::weights::weights;
 use onfi_early::Weights;
 use onfi_problem::{Problem, ProblemFault};
@@ -52,8 +53,8 @@ fn refused(fault: ProblemFault) -> Stop
 }
 
 /// The problem of what was set up.
-fn made(alloc: Global, setup: &Setup) -> Result<Problem, Stop>
-    ensures told { Tells IfRefused (λ p. p.problem) result (TellsProblem (problem_of setup.now)) }
+fn made(alloc: Global, rows: &[Row], setup: &Setup) -> Result<Problem, Stop>
+    ensures told { Tells IfRefused (λ p. p.problem) result (TellsProblem rows.now (problem_of setup.now)) }
     ensures begun { IfOk result (λ p. p.all ≡ p.problem.wants) }
 {
     let made = Problem::new(
@@ -64,13 +65,16 @@ fn made(alloc: Global, setup: &Setup) -> Result<Problem, Stop>
         setup.luns.as_slice(),
         setup.wants.as_slice(),
     );
+    let is_amiss = asks_amiss(rows, setup.wants.as_slice());
     match made {
+        Ok(_) | Err(ProblemFault::Clock) if is_amiss => Err(refused(ProblemFault::NoLengths)),
         Ok(problem) => {
             problem.in_limits();
             Ok(problem)
         }
         Err(ProblemFault::TooMany) => Err(refused(ProblemFault::TooMany)),
         Err(ProblemFault::BadLun) => Err(refused(ProblemFault::BadLun)),
+        Err(ProblemFault::NoLengths) => Err(refused(ProblemFault::NoLengths)),
         Err(ProblemFault::Clock) => Err(refused(ProblemFault::Clock)),
         Err(ProblemFault::Memory) => Err(Stop::Memory),
     }
@@ -85,13 +89,13 @@ fn problem_in(alloc: Global, rows: &[Row]) -> Result<Problem, Stop>
         Ok(device) => device,
         Err(stop) => return Err(stop.at(0)),
     };
-    if let Some(at) = absent(rows, device.luns) {
+    if let Some(at) = beyond(rows, &device) {
         return Err(RowStop::Fault(ScriptFault::OutOfRange).at(at as u64 + 1));
     }
     let Ok(setup) = set_up(alloc, rows, &device) else {
         return Err(Stop::Memory);
     };
-    made(alloc, &setup)
+    made(alloc, rows, &setup)
 }
 
 /// What the script of an input says.

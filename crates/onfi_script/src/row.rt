@@ -2,17 +2,19 @@
 ghost use Rattle.std.specs.Prelude.{◌≡◌, ◌≤◌};
 ghost use Rattle.onfi_script.specs.Seen.{form_in, moment_in, sheet_in, strobes_in};
 ghost use Rattle.onfi_script.specs.Device.{bytes_in, is_page};
-ghost use Rattle.onfi_script.specs.Setup.{names_absent, want_in};
+ghost use Rattle.onfi_script.specs.Setup.{is_beyond, names_absent, want_in};
 ghost use Rattle.onfi_script.specs.Subject.{subject_of, settles, is_subject, is_kind, is_op};
 
 use crate::choosing::Choosing;
 use crate::count::Count;
+use crate::device::Device;
 use crate::device_row::{PageRow, ShapeRow, SpansRow};
 use crate::layout::GeometryRow;
 use crate::operation::Operation;
 use crate::problem_row::RunningRow;
 use crate::replans::Replans;
 use crate::row_name::Form;
+use crate::sector_row::{RunSectorsRow, SectorPostRow};
 use onfi_addr::plane_at;
 use onfi_request::{Fault, Want};
 use onfi_timing::{Kind, Sheet, Strobes};
@@ -47,6 +49,19 @@ pub enum Row {
         request: u8,
         weight: u16,
     },
+    /// How long an output of some sectors holds the bus.
+    SectorPost(SectorPostRow),
+    /// How many bytes a sector has.
+    Sector {
+        bytes: u16,
+    },
+    /// How many sectors the read of that number puts out, 0 to 7 in the order of their rows; 0 is all of a page.
+    Sectors {
+        request: u8,
+        count: u8,
+    },
+    /// .. the members of what runs on a LUN.
+    RunSectors(RunSectorsRow),
     Strict {
         strict: bool,
     },
@@ -118,6 +133,13 @@ pub enum Subject {
     Lun(u8),
     /// The weight of a want.
     Weight(u8),
+    /// The post of so many sectors.
+    SectorPost(u8),
+    Sector,
+    /// The sectors of a want.
+    Sectors(u8),
+    /// The sectors of what runs on a LUN.
+    RunSectors(u8),
     Strict,
     Channels,
     Hosts,
@@ -145,6 +167,10 @@ impl Row {
             Row::Running(row) => Some(Subject::Lun(row.lun())),
             Row::Want { .. } => None,
             Row::Weight { request, .. } => Some(Subject::Weight(*request)),
+            Row::SectorPost(row) => Some(Subject::SectorPost(row.count())),
+            Row::Sector { .. } => Some(Subject::Sector),
+            Row::Sectors { request, .. } => Some(Subject::Sectors(*request)),
+            Row::RunSectors(row) => Some(Subject::RunSectors(row.lun())),
             Row::Strict { .. } => Some(Subject::Strict),
             Row::Channels { .. } => Some(Subject::Channels),
             Row::Hosts { .. } => Some(Subject::Hosts),
@@ -195,7 +221,9 @@ impl Row {
     {
         match self {
             Row::Shape(_) | Row::Spans(_) | Row::Geometry(_) => Some(Form::First),
+            Row::SectorPost(_) => Some(Form::First),
             Row::Page(_) | Row::Sheet(_) | Row::Strobe(_) => Some(Form::Second),
+            Row::Sector { .. } => Some(Form::Second),
             _ => None,
         }
     }
@@ -271,6 +299,18 @@ impl Row {
         }
     }
 
+    /// Whether it names a LUN that the device lacks, or a sector with more bytes than its page.
+    pub fn is_beyond(&self, device: &Device) -> bool
+        ensures { result ≡ is_beyond device.now self.now }
+    {
+        match self {
+            Row::Sector { .. } => !device
+                .timing
+                .states(Kind::ReadSectors { first: 0, count: 1 }),
+            _ => self.names_absent(device.luns),
+        }
+    }
+
     /// Whether it settles that.
     pub fn settles(&self, subject: Subject) -> bool
         ensures { result ≡ settles subject self.now }
@@ -290,6 +330,7 @@ impl Subject {
         match (self, other) {
             (Subject::Shape, Subject::Shape)
             | (Subject::Bus, Subject::Bus)
+            | (Subject::Sector, Subject::Sector)
             | (Subject::Strict, Subject::Strict)
             | (Subject::Channels, Subject::Channels)
             | (Subject::Hosts, Subject::Hosts)
@@ -302,6 +343,9 @@ impl Subject {
             (Subject::Spans(kind), Subject::Spans(other)) => is_kind(kind, other),
             (Subject::Lun(lun), Subject::Lun(other)) => lun == other,
             (Subject::Weight(request), Subject::Weight(other)) => request == other,
+            (Subject::SectorPost(count), Subject::SectorPost(other)) => count == other,
+            (Subject::Sectors(request), Subject::Sectors(other)) => request == other,
+            (Subject::RunSectors(lun), Subject::RunSectors(other)) => lun == other,
             (
                 Subject::Array {
                     channel,

@@ -19,6 +19,10 @@ pub enum RowName {
     Running,
     Want,
     Weight,
+    SectorPost,
+    Sector,
+    Sectors,
+    RunSectors,
     Strict,
     Channels,
     Hosts,
@@ -85,7 +89,24 @@ impl RowName {
         } else if is_word(text, "strict") {
             Some(RowName::Strict)
         } else {
-            RowName::of_run(text)
+            RowName::of_sectors(text).or(RowName::of_run(text))
+        }
+    }
+
+    /// The name of a row of reads of some sectors.
+    fn of_sectors(text: &[u8]) -> Option<RowName>
+        ensures { result ≡ spec.sectors_name_of text.now }
+    {
+        if is_word(text, "sectorpost") {
+            Some(RowName::SectorPost)
+        } else if is_word(text, "sector") {
+            Some(RowName::Sector)
+        } else if is_word(text, "sectors") {
+            Some(RowName::Sectors)
+        } else if is_word(text, "runsectors") {
+            Some(RowName::RunSectors)
+        } else {
+            None
         }
     }
 
@@ -132,7 +153,14 @@ impl RowName {
     {
         matches!(
             self,
-            RowName::Bus | RowName::Free | RowName::Running | RowName::Want | RowName::Weight
+            RowName::Bus
+                | RowName::Free
+                | RowName::Running
+                | RowName::Want
+                | RowName::Weight
+                | RowName::SectorPost
+                | RowName::Sectors
+                | RowName::RunSectors
         )
     }
 
@@ -147,6 +175,7 @@ impl RowName {
                 | RowName::Page
                 | RowName::Sheet
                 | RowName::Strobe
+                | RowName::Sector
                 | RowName::Strict
         )
     }
@@ -175,7 +204,9 @@ impl RowName {
     {
         match self {
             RowName::Shape | RowName::Spans | RowName::Geometry => Some(Form::First),
+            RowName::SectorPost => Some(Form::First),
             RowName::Page | RowName::Sheet | RowName::Strobe => Some(Form::Second),
+            RowName::Sector => Some(Form::Second),
             _ => None,
         }
     }
@@ -218,6 +249,7 @@ impl RowName {
         match self {
             RowName::Page
             | RowName::Bus
+            | RowName::Sector
             | RowName::Strict
             | RowName::Channels
             | RowName::Hosts
@@ -231,12 +263,15 @@ impl RowName {
             | RowName::Strobe
             | RowName::Free
             | RowName::Weight
+            | RowName::SectorPost
+            | RowName::Sectors
             | RowName::ChipFail
             | RowName::NotReady => count == 3,
             RowName::Shape | RowName::Want | RowName::Fault | RowName::Array | RowName::Geometry =>
                 count == 5,
             RowName::Spans => count == 6,
             RowName::Running => 7 <= count && count <= 10,
+            RowName::RunSectors => 3 <= count && count <= 6,
             RowName::Op => count == op_fields(row),
         }
     }

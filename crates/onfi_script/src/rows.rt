@@ -21,6 +21,7 @@ use crate::run_row::{
     array_row, at_row, batch_row, channels_row, chip_fail_row, choice_row, fault_row, hosts_row,
     not_ready_row, op_row, post_cap_row, replanning_row, submit_cap_row,
 };
+use crate::sector_row::{run_sectors_row, sector_post_row, sector_row, sectors_row};
 use crate::seen::Seen;
 use csv::ByteRecord;
 use std::alloc::{AllocError, Global};
@@ -47,6 +48,10 @@ fn said(
         RowName::Running => Ok(running_row(alloc, fields)?),
         RowName::Want => Ok(want_row(fields)?),
         RowName::Weight => Ok(weight_row(fields)?),
+        RowName::SectorPost => Ok(sector_post_row(fields)?),
+        RowName::Sector => Ok(sector_row(fields)?),
+        RowName::Sectors => Ok(sectors_row(fields)?),
+        RowName::RunSectors => Ok(run_sectors_row(alloc, fields)?),
         RowName::Strict => Ok(strict_row(fields)?),
         RowName::Channels => Ok(channels_row(fields)?),
         RowName::Hosts => Ok(hosts_row(fields)?),

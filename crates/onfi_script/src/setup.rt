@@ -8,6 +8,7 @@ ghost use Rattle.onfi_script.specs.declared.row.Subject.TheVariants as on;
 use crate::device::Device;
 use crate::forms::row_on;
 use crate::row::{Row, Subject};
+use crate::sectors::{asked, run_asked};
 use onfi_group::Rules;
 use onfi_problem::LunState;
 use onfi_request::Want;
@@ -50,11 +51,12 @@ fn state(alloc: Global, rows: &[Row], plane_bits: u8, lun: u8) -> LunState
     requires { plane_bits ≤ 2 }
     ensures { result ≡ spec.state_at plane_bits rows.now lun }
 {
-    match row_on(rows, Subject::Lun(lun)) {
+    let state = match row_on(rows, Subject::Lun(lun)) {
         Some(Row::Free { since, .. }) => LunState::Free { since: *since },
         Some(Row::Running(row)) => row.state(alloc, plane_bits),
         _ => LunState::Free { since: 0 },
-    }
+    };
+    run_asked(alloc, rows, lun, state)
 }
 
 /// What each LUN does.
@@ -90,11 +92,11 @@ fn wants(alloc: Global, rows: &[Row], plane_bits: u8) -> Result<Vec<Want>, Alloc
     Ok(wants)
 }
 
-/// The first row that names a LUN that isn't there, counted from 0.
-pub fn absent(rows: &[Row], luns: u8) -> Option<usize>
-    ensures { result ≡ position (spec.names_absent luns) rows.now }
+/// The first row that names a LUN that isn't there, or a sector longer than a page, counted from 0.
+pub fn beyond(rows: &[Row], device: &Device) -> Option<usize>
+    ensures { result ≡ position (spec.is_beyond device.now) rows.now }
 {
-    rows.iter().position(|row| row.names_absent(luns))
+    rows.iter().position(|row| row.is_beyond(device))
 }
 
 /// What the rows set up on the device.
@@ -103,6 +105,7 @@ pub fn set_up(alloc: Global, rows: &[Row], device: &Device) -> Result<Setup, All
 {
     let luns = states(alloc, rows, device.plane_bits, device.luns)?;
     let wants = wants(alloc, rows, device.plane_bits)?;
+    let wants = asked(alloc, rows, wants.as_slice())?;
     Ok(Setup {
         timing: device.timing,
         rules: Rules::new(

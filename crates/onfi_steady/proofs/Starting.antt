@@ -65,16 +65,16 @@ none_ready (w ∷ ws) h =
     some_operation Programs a b c = false≢true (sym b)
     some_operation Erases a b c = false≢true (sym c)
 
-same_operation : (a b : Operation) → (operation_rank a == operation_rank b) ≡ true → a ≡ b
-same_operation Reads Reads h = refl
-same_operation Programs Programs h = refl
-same_operation Erases Erases h = refl
-same_operation Reads Programs h = absurd (false≢true h)
-same_operation Reads Erases h = absurd (false≢true h)
-same_operation Programs Reads h = absurd (false≢true h)
-same_operation Programs Erases h = absurd (false≢true h)
-same_operation Erases Reads h = absurd (false≢true h)
-same_operation Erases Programs h = absurd (false≢true h)
+of_one_rank : (a b : Operation) → (operation_rank a == operation_rank b) ≡ true → a ≡ b
+of_one_rank Reads Reads h = refl
+of_one_rank Programs Programs h = refl
+of_one_rank Erases Erases h = refl
+of_one_rank Reads Programs h = absurd (false≢true h)
+of_one_rank Reads Erases h = absurd (false≢true h)
+of_one_rank Programs Reads h = absurd (false≢true h)
+of_one_rank Programs Erases h = absurd (false≢true h)
+of_one_rank Erases Reads h = absurd (false≢true h)
+of_one_rank Erases Programs h = absurd (false≢true h)
 
 -- members that share with a request what members share are a group
 all_go : (rules : Rules) (head : Want) (g : List Want) → 1 ≤ length g → length g ≤ 4 → All (GoesWith rules head) g →
@@ -180,7 +180,7 @@ module _ (rules : Rules) (waiting : List Waiter) (lun : ℕ) (small : All (λ w.
     goes_by : (m : Want) → m.lun ≡ head.want.lun → goes_with rules head.want m ≡ true → GoesWith rules head.want m
     goes_by m at h = elim (cases_Bool (operation_rank (operation_of m.kind) == operation_rank (operation_of head.want.kind))) [
       | inl k ↦ elim (cases_Bool (is_same_page head.want m)) [
-        | inl q ↦ (let r : is_same_row rules head.want m ≡ true = rw (k, q) at h in record { operation = same_operation (operation_of m.kind) (operation_of head.want.kind) k; lun = at; page = λ n. by_page n q; strict = λ y. by_row y r })
+        | inl q ↦ (let r : is_same_row rules head.want m ≡ true = rw (k, q) at h in record { operation = of_one_rank (operation_of m.kind) (operation_of head.want.kind) k; lun = at; page = λ n. by_page n q; strict = λ y. by_row y r })
         | inr q ↦ (let bad : false ≡ true = rw (k, q) at h in absurd (false≢true bad))
       ]
       | inr k ↦ (let bad : false ≡ true = rw k at h in absurd (false≢true bad))
@@ -188,7 +188,7 @@ module _ (rules : Rules) (waiting : List Waiter) (lun : ℕ) (small : All (λ w.
       where
         by_page : operation_of head.want.kind ≢ Erases → is_same_page head.want m ≡ true → m.page ≡ head.want.page
         by_page n q = elim (cases_Bool (operation_rank (operation_of head.want.kind) == operation_rank Erases)) [
-          | inl e ↦ absurd (n (same_operation (operation_of head.want.kind) Erases e))
+          | inl e ↦ absurd (n (of_one_rank (operation_of head.want.kind) Erases e))
           | inr e ↦ (let r : (m.page == head.want.page) ≡ true = rw e at q in eqb-true m.page head.want.page r)
         ]
 

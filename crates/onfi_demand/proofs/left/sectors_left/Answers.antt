@@ -8,5 +8,5 @@ pub returns-clause-left : goal.returns-clause-left
 returns-clause-left c =
     let g = c.args.members.now in
     let over : c.saturating_sub-over.result ≡ c.args.next - length g = c.saturating_sub-over.ensures in
-    let end = c.loop-at.auto.at-end in
+    let within = c.loop-at.invariant.within in
     sectors_are g c.args.next c.loop-at.sectors c.requires c.loop-at.invariant.long (λ i h. c.loop-at.invariant.left i (omega arith) ∙ ap (λ o. sectors_of (get_or g (i + o) no_want).kind) over) (λ i h. c.loop-at.invariant.rest i (omega arith))

@@ -1,4 +1,4 @@
-use Rattle.std.proofs.Common.{◌≡◌, ◌*◌, ◌-◌, ap, subst, ◌∙◌}
+use Rattle.std.proofs.Common.{◌≡◌, ◌*◌, ◌-◌, subst}
 use Rattle.onfi_demand.specs.Look.{nothing_seen, Sees}
 use Rattle.onfi_demand.specs.Remaining.{lengths_of}
 use Rattle.onfi_demand.specs.Window.{chain_from, group_left, phases_left_on}
