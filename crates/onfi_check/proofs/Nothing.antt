@@ -4,6 +4,7 @@ use Rattle.std.specs.Prelude.{slice_get, ◌==◌}
 use Rattle.std.specs.List.{AllByRecursion as All}
 use Rattle.std.proofs.lemmas.Bool.{eqb-true}
 use Rattle.onfi_request.specs.declared.want.Want.{Want}
+use Rattle.onfi_group.proofs.Placing.{one_is_group}
 use Rattle.onfi_problem.specs.Moves.{Next as NextPhase, Start as StartGroup, IsDone, AreMoves}
 use Rattle.onfi_problem.specs.declared.lun_state.LunState.{LunState}
 use Rattle.onfi_problem.specs.declared.lun_state.LunState.TheVariants.{Free, Running}
@@ -25,7 +26,7 @@ no_moves p ip are = record { wants = go p.wants refl; free = λ l g n r at. are.
           since,
           at,
           record {
-            group = record { some = omega arith; few = omega arith; kind = (refl, tt); lun = (refl, tt); planes = (tt, tt); page = λ n. (refl, tt); rule = λ h. absurd (omega arith); strict = λ s. (refl, tt) };
+            group = one_is_group p.rules w;
             first = (rw e (rw (on_own_block w) refl), tt);
           },
         )
