@@ -77,6 +77,10 @@ is_amiss count (ReadSectors first sectors) = false
 is_amiss count Program = nat_lt 0 count
 is_amiss count Erase = nat_lt 0 count
 
+-- .. as a request
+abbrev pub want_amiss : List Row → WantOf → Bool
+want_amiss rows want = is_amiss (sectors_at rows want.id) want.kind
+
 -- .. of what runs on a LUN
 abbrev pub runs_amiss : List Row → Row → Bool
 runs_amiss rows (Running row) = list_any (λ count. is_amiss count row.kind) (take (length row.blocks) (run_sectors_at rows row.lun))
@@ -84,7 +88,7 @@ runs_amiss rows _ = false
 
 -- .. of these wants, or of what runs
 abbrev pub asks_amiss : List Row → List WantOf → Bool
-asks_amiss rows wants = list_any (λ want. is_amiss (sectors_at rows want.id) want.kind) wants || list_any (runs_amiss rows) rows
+asks_amiss rows wants = list_any (want_amiss rows) wants || list_any (runs_amiss rows) rows
 
 -- a member of the group that a row names
 abbrev pub member : ℕ → RunningRow → ℕ → WantOf

@@ -120,12 +120,25 @@ fn runs_amiss(rows: &[Row], row: &Row) -> bool
     }
 }
 
-/// Whether rows have something else than a read put out sectors, of these wants or of what runs.
-pub fn asks_amiss(rows: &[Row], wants: &[Want]) -> bool
-    ensures { result ≡ spec.asks_amiss rows.now wants.now }
+/// Whether one of these wants is to put out sectors and is no read.
+fn wants_amiss(rows: &[Row], wants: &[Want]) -> bool
+    ensures { result ≡ list_any (spec.want_amiss rows.now) wants.now }
 {
     wants
         .iter()
         .any(|want| is_amiss(sectors_of(rows, want.id), want.kind))
-        || rows.iter().any(|row| runs_amiss(rows, row))
+}
+
+/// Whether something that runs is to put out sectors and is no read.
+fn any_runs_amiss(rows: &[Row]) -> bool
+    ensures { result ≡ list_any (spec.runs_amiss rows.now) rows.now }
+{
+    rows.iter().any(|row| runs_amiss(rows, row))
+}
+
+/// Whether rows have something else than a read put out sectors, of these wants or of what runs.
+pub fn asks_amiss(rows: &[Row], wants: &[Want]) -> bool
+    ensures { result ≡ spec.asks_amiss rows.now wants.now }
+{
+    wants_amiss(rows, wants) || any_runs_amiss(rows)
 }
