@@ -1,5 +1,5 @@
 /* What the mock board of examples/c says of a row of phases in which one was broken on purpose, a line each. */
-#include "firmware.h"
+#include "firmware_board.h"
 
 #include <stdio.h>
 #include <string.h>
@@ -98,10 +98,9 @@ static call spoil(call c, const spoilt *how)
 
 static setup two_luns(void)
 {
-    static const device TLC = {"tlc", 16384 + 2048, 2, {75000, 800000, 10000000}};
     setup of;
     memset(&of, 0, sizeof of);
-    of.made_of = TLC;
+    of.made_of = *device_of("tlc");
     of.byte = 2;
     of.luns = 2;
     of.least_array = of.most_array = 1;

@@ -1,10 +1,9 @@
 /*
  * Parts of the simulator of examples/simulator/rolling alone, a line each: what the judge says of phases that were broken on purpose, how a
- * run ends whose way is bad, and what is chosen of requests that wait.
+ * run ends whose way is bad, and how many requests greedy ways look at.
  */
 #include "rolling.h"
 
-#include <inttypes.h>
 #include <string.h>
 
 enum { PHASES = 7, WANTS = 4 };
@@ -187,34 +186,17 @@ static void print_runs(void)
     print_run(8, &idle);
 }
 
-static void print_choice(const char *name, choice *choose, const machine *m)
-{
-    batch chosen;
-    choose(m, &chosen);
-    printf("%s:", name);
-    for (size_t at = 0; at < chosen.count; at++)
-        printf(" %" PRIu64, m->waiting[chosen.place[at]].want.id);
-    printf("\n");
-}
-
-/* Seven programs of LUN 0, which runs one; then requests of LUN 1 and LUN 2, which are free. */
+/* Of fifteen requests. */
 static void print_choices(void)
 {
-    static const struct { unsigned kind, lun, block, page; } waits[] = {
-        {ONFI_PROGRAM, 1, 0, 0}, {ONFI_READ, 1, 0, 0}, {ONFI_READ, 1, 5, 3}, {ONFI_READ, 2, 0, 4},
-        {ONFI_READ, 2, 1, 4}, {ONFI_READ, 2, 2, 9}, {ONFI_READ, 2, 6, 4}, {ONFI_READ, 2, 3, 4},
-    };
-    setup setup = setup_of(3);
+    setup setup = setup_of(1);
     machine m = {.setup = &setup};
-    m.lun[0] = (lun_state){.members = 1, .next = 1, .member = {{.want = {.kind = ONFI_PROGRAM}}}, .ready = 800000, .real = 800000};
-    for (unsigned page = 0; page < 7; page++)
+    batch all, eight;
+    for (unsigned page = 0; page < 15; page++)
         accept_request(&m, (onfi_want){.id = page, .kind = ONFI_PROGRAM, .page = (uint16_t)page}, 0);
-    for (size_t at = 0; at < sizeof waits / sizeof *waits; at++)
-        accept_request(&m, (onfi_want){.id = 7 + at, .kind = (uint8_t)waits[at].kind, .lun = (uint8_t)waits[at].lun,
-                                       .block = (uint16_t)waits[at].block, .page = (uint16_t)waits[at].page}, 0);
-    print_choice("everything", everything, &m);
-    print_choice("first eight", first_eight, &m);
-    print_choice("by LUN, one kind", by_lun_one_kind, &m);
+    everything(&m, &all);
+    first_eight(&m, &eight);
+    printf("everything: %zu up to %zu\nfirst eight: %zu up to %zu\n", all.count, all.place[all.count - 1], eight.count, eight.place[eight.count - 1]);
 }
 
 int main(void)
