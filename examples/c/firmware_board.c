@@ -6,7 +6,7 @@
 
 #include <string.h>
 
-void board_open(board *b, const setup *of)
+void board_open(board *b, const simulation *of)
 {
     memset(b, 0, sizeof *b);
     b->of = of;

@@ -28,7 +28,7 @@ typedef struct {
     double seconds;            /* where not 0: how much time passes before it ends, in place of requests */
     uint64_t seed;
     planning plans;
-} setup;
+} simulation;
 
 /* What a LUN does in truth. */
 typedef struct {
@@ -42,7 +42,7 @@ typedef struct {
 } chip;
 
 typedef struct {
-    const setup *of;
+    const simulation *of;
     uint64_t cycle, page; /* how long a command or address cycle takes, and the bytes of a page */
     chip lun[ONFI_LUNS];
     uint16_t programmed[ONFI_LUNS][BLOCKS]; /* how many pages of each block */
@@ -51,7 +51,7 @@ typedef struct {
     const char *wrong; /* what was wrong first; null: nothing */
 } board;
 
-void board_open(board *b, const setup *of);
+void board_open(board *b, const simulation *of);
 /* Its bus. */
 struct onfi_bus board_bus(board *b);
 /* When R/B# of a LUN rises next before its stated time; NEVER where none does. */

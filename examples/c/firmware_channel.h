@@ -91,6 +91,9 @@ typedef struct {
 bool find_next(const onfi_channel *channel, const onfi_lun *lun, unsigned luns, const onfi_want *want, size_t count, const rule *by, unsigned turn,
                candidate *best);
 
+/* Puts the bytes that begin and end a phase (ONFI 4.2) of that kind and number, of so many members. */
+void put_bytes(onfi_phase *phase);
+
 /* The choice. */
 
 /* Chooses requests of one kind for each LUN, of at most MOST_WAITING, by their places; gives a status. */

@@ -30,19 +30,6 @@ static onfi_lun lun_of(const driver *d, const candidate *c)
     return lun;
 }
 
-/* The bytes that begin and end a phase (ONFI 4.2). */
-static void put_bytes(onfi_phase *phase)
-{
-    static const uint8_t OPENER[KINDS] = {0x00, 0x80, 0x60}, LAST[KINDS] = {0x30, 0x10, 0xD0}, NOT_LAST[KINDS] = {0x32, 0x11, 0xD1};
-    bool is_last = phase->number + 1 == phase->members;
-    phase->opener = OPENER[phase->kind];
-    phase->closer = is_last ? LAST[phase->kind] : NOT_LAST[phase->kind];
-    if (phase->is_post) {
-        phase->opener = phase->kind == ONFI_READ ? 0x06 : 0x78;
-        phase->closer = phase->kind == ONFI_READ ? 0xE0 : 0;
-    }
-}
-
 /* The next phase of a LUN that runs a group. */
 static bool put_phase(driver *d, const onfi_lun *lun, uint64_t start, onfi_phase *phase)
 {

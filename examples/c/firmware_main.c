@@ -64,7 +64,7 @@ typedef struct {
 } latencies;
 
 typedef struct {
-    const setup *of;
+    const simulation *of;
     way has;
     driver firmware;
     board mock;
@@ -118,7 +118,7 @@ static void print_costs(const run *r)
 }
 #endif
 
-static onfi_geometry geometry_of(const setup *of)
+static onfi_geometry geometry_of(const simulation *of)
 {
     onfi_geometry geometry;
     memset(&geometry, 0, sizeof geometry);
@@ -136,7 +136,7 @@ static onfi_geometry geometry_of(const setup *of)
     return geometry;
 }
 
-static void open_run(run *r, const setup *of, const way *has)
+static void open_run(run *r, const simulation *of, const way *has)
 {
     memset(r, 0, sizeof *r);
     r->of = of;
@@ -338,7 +338,7 @@ static void print_run(const run *r)
 }
 
 /* Whether all went well by a way. */
-static bool run_way(run *r, const setup *of, const way *has)
+static bool run_way(run *r, const simulation *of, const way *has)
 {
     open_run(r, of, has);
     while (!r->wrong && !is_over(r))
@@ -506,9 +506,9 @@ static planning planning_of(const words *w)
     return made;
 }
 
-static setup setup_of(const words *w)
+static simulation setup_of(const words *w)
 {
-    setup made;
+    simulation made;
     made.made_of = *device_of(CHOSEN[DEVICE].value[w->chosen[DEVICE]]);
     made.byte = w->number[BYTE];
     made.luns = (unsigned)w->number[LUNS];
@@ -538,7 +538,7 @@ int main(int count, char **texts)
     }
     if (!put_words(count, texts, &w))
         return 2;
-    setup of = setup_of(&w);
+    simulation of = setup_of(&w);
     bool is_well = true;
     for (unsigned at = 0; at < WAYS && is_well; at++)
         if (IS_ASKED_FOR[w.chosen[WAY]][at])

@@ -96,9 +96,9 @@ static call spoil(call c, const spoilt *how)
     return c;
 }
 
-static setup two_luns(void)
+static simulation two_luns(void)
 {
-    setup of;
+    simulation of;
     memset(&of, 0, sizeof of);
     of.made_of = *device_of("tlc");
     of.byte = 2;
@@ -108,7 +108,7 @@ static setup two_luns(void)
     return of;
 }
 
-static void print_judgement(const setup *of, const spoilt *how)
+static void print_judgement(const simulation *of, const spoilt *how)
 {
     static board mock;
     board_open(&mock, of);
@@ -122,7 +122,7 @@ static void print_judgement(const setup *of, const spoilt *how)
 }
 
 /* Data of another page, and of a row that has another count of cycles. */
-static void print_others(const setup *of)
+static void print_others(const simulation *of)
 {
     static board mock;
     uint8_t page[SHOWN];
@@ -140,7 +140,7 @@ static void print_others(const setup *of)
 
 int main(void)
 {
-    setup of = two_luns();
+    simulation of = two_luns();
     for (size_t at = 0; at < sizeof SPOILT / sizeof *SPOILT; at++)
         print_judgement(&of, &SPOILT[at]);
     print_others(&of);

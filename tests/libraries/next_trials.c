@@ -153,7 +153,7 @@ int main(int count, char **texts)
     if (count != 12)
         return 2;
     setup setup = setup_of(texts);
-    if (!put_device(texts[2], strtod(texts[4], NULL), &setup.channel) || !put_workload(texts[3], &setup.workload))
+    if (!put_device(texts[2], strtod(texts[4], NULL), &setup) || !put_workload(texts[3], &setup.workload))
         return 2;
     print_setup(&setup);
     const char *wrong = figures_begin(&figures, &setup) ? simulate(&setup, strcmp(texts[1], "plans") ? &phases : &plans, NULL, &figures) : "no memory";

@@ -24,24 +24,15 @@ PROCESSOR_TIME = ("planning_us", "planning_longest_us")
 EXACT = ("plan", "plan-by-lun", "plan-reads-first")
 PARTS = """\
 nothing spoilt: legal
-accepted later: a request begins before it is accepted
 data output 1 ns sooner: the bus isn't free
 command 1 ns sooner: the LUN isn't ready
 array 1 ns sooner: the LUN isn't ready
 longer: a phase of another length than its kind has
-post for command: a post before all commands of its group
-command for post: a command behind the last of its group
-another request: a phase of another request than comes next
-another page: a group of several pages
-another kind: a group of another LUN or of several kinds
-falling planes: the planes of a group don't rise
-five members: a group has more members than there are planes
+another request: a post of another page than comes next
+another kind: a phase of another length than its kind has
 later on a block: a request begins before an earlier one on its block
 once more: a request begins that doesn't wait
-begins while its LUN runs: a group begins on a LUN that runs one
-goes on while its LUN is free: a LUN goes on that runs no group
-no LUN: no such LUN
-no groups of reads: a group of several of a kind that may have none
+accepted later: a request begins before it is accepted
 as it should be: legal
 too soon on the bus: the bus isn't free
 never: requests are left, and nothing is done

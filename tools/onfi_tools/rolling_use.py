@@ -18,7 +18,7 @@ from onfi_tools.rolling_ways import WAYS
 ROOT = Path(__file__).resolve().parent.parent.parent
 SOURCES = ROOT / "examples/simulator/rolling"
 # What it shares with the driver of examples/c; and what of both calls the library.
-SHARED = ("firmware_choice.c", "firmware_host.c", "firmware_rule.c")
+SHARED = ("firmware_board.c", "firmware_choice.c", "firmware_host.c", "firmware_rule.c")
 OF_THE_LIBRARY = ("firmware_choice.c", "library.c")
 STRICT = ("-std=c99", "-O2", "-Wall", "-Wextra", "-Werror", "-pedantic")
 

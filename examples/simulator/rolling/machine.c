@@ -156,6 +156,8 @@ static phase next_phase(const machine *m, unsigned number, uint64_t start)
     const onfi_want *want = &lun->member[is_post ? lun->next - lun->members : lun->next].want;
     const onfi_spans *spans = spans_of(&m->setup->channel.timing, want->kind);
     phase p = {.start = start, .end = start + (is_post ? spans->post : spans->cmd), .lun = number, .is_post = is_post, .want = *want};
+    p.number = lun->next;
+    p.members = lun->members;
     p.opens = lun->next ? 0 : lun->members;
     for (size_t at = 0; at < p.opens; at++)
         p.member[at] = lun->member[at].want;

@@ -56,7 +56,7 @@ static void put_steps(const problem *problem, const onfi_schedule *schedule, pla
 }
 
 /* Notes how much processor time a plan took since `begun`. */
-static void note_plan(planning *planning, clock_t begun, uint32_t status, const onfi_planned *planned)
+static void note_plan(costs *planning, clock_t begun, uint32_t status, const onfi_planned *planned)
 {
     double seconds = (double)(clock() - begun) / CLOCKS_PER_SEC;
     planning->plans++;

@@ -1,10 +1,10 @@
 /*
  * One channel in rolling use: requests come while others run, and a way says again and again what has the bus next. Devices, requests and
- * the greedy way are those of the driver of examples/c (firmware_channel.h).
+ * the greedy way are those of the driver of examples/c (firmware_channel.h), and its mock of a board judges each phase.
  *
  *   source.c    words of devices and requests, and all requests of a run
  *   machine.c   the channel as it stands, and what a phase changes of it
- *   judge.c     whether a phase is legal, by books of its own
+ *   judge.c     whether a phase is legal: what waits, by books of its own, and the board
  *   greedy.c    ways that take of what can start soonest what ranks first
  *   planned.c   ways that plan a batch, and follow the plan until there is something new
  *   library.c   the library's choices, planners, and phase by phase
@@ -17,7 +17,7 @@
 #ifndef ROLLING_H
 #define ROLLING_H
 
-#include "../../c/firmware_channel.h"
+#include "../../c/firmware_board.h"
 
 #include <stdio.h>
 
@@ -27,6 +27,8 @@ enum { OF_THE_WAY = UINT16_MAX, PLAN_STEPS = ONFI_LUNS * ONFI_STARTS + 2 * ONFI_
 
 typedef struct {
     onfi_channel channel; /* its timing is what is stated; its bus_free isn't looked at */
+    device made_of;       /* what that is stated of, and how long a byte has the bus */
+    double byte;
     unsigned luns, workload;
     size_t outstanding; /* how many requests may be accepted and not answered */
     double load; /* the share of the bus that arriving requests ask for; 0: a new one comes with each answer */
@@ -39,7 +41,7 @@ typedef struct {
 } setup;
 
 /* Puts timing and rules of a device by name, at so many ns a byte; false where there is no such device. */
-bool put_device(const char *name, double byte, onfi_channel *channel);
+bool put_device(const char *name, double byte, setup *setup);
 /* The workload of that name; false where there is none. */
 bool put_workload(const char *name, unsigned *workload);
 
@@ -91,6 +93,7 @@ typedef struct {
     unsigned lun;
     bool is_post;
     onfi_want want; /* whose command or post it is */
+    unsigned number, members; /* its number in a group of so many */
     size_t opens; /* of how many members the group is that it begins; 0: it begins none */
     onfi_want member[ONFI_MEMBERS];
     uint64_t array; /* where it is a group's last command: how long the array takes in truth */
@@ -123,13 +126,7 @@ void say(const machine *m, const size_t *place, size_t count, said *said);
 /* Runs a step: what is on the bus, and of which request it was where it is a post. */
 phase run_step(machine *m, const step *step, request *answered);
 
-/* Legality, by books of its own. */
-
-typedef struct {
-    onfi_want member[ONFI_MEMBERS];
-    size_t members, commands, posts; /* posts: how many have ended */
-    uint64_t may; /* from when on its next phase may start */
-} judged_lun;
+/* Legality. */
 
 typedef struct {
     onfi_want want;
@@ -137,15 +134,14 @@ typedef struct {
 } accepted;
 
 typedef struct {
-    const setup *setup;
-    uint64_t bus_free;
-    judged_lun lun[ONFI_LUNS];
+    simulation of;
+    board board;
     accepted waiting[MOST_WAITING]; /* in order of acceptance */
     size_t waiting_count;
     uint64_t answered;
 } judge;
 
-judge judge_of(const setup *setup);
+void judge_open(judge *j, const setup *setup);
 void judge_acceptance(judge *j, const onfi_want *want, uint64_t since);
 /* Null where the phase is legal, which it is taken for then; else what it breaks. */
 const char *judge_phase(judge *j, const phase *p);
@@ -193,7 +189,7 @@ typedef struct {
 typedef struct {
     uint64_t plans, over, nodes;
     double seconds, longest; /* processor time of all plans, and of the longest */
-} planning;
+} costs;
 
 /* What a firmware that goes phase by phase by the library keeps of its channel. */
 typedef struct {
@@ -210,7 +206,7 @@ typedef struct {
     bool has_begun, has_run; /* of phase by phase: whether it has begun, and whether the step that it gave last has run */
     kept now, after; /* how the channel stands, and how after that step */
     plan plan;
-    planning planning;
+    costs planning;
     uint32_t refused; /* the status of a call that failed otherwise than by being over */
 } mind;
 
@@ -242,7 +238,7 @@ typedef struct figures {
     uint64_t busy; /* how long the bus was busy in between */
     uint64_t groups, grouped; /* how many groups began, and of how many requests */
     uint64_t erases, erasing, erasing_until; /* how long the erases took together, how long any LUN erased, and up to when */
-    planning planning;
+    costs planning;
 } figures;
 
 bool figures_begin(figures *figures, const setup *setup);

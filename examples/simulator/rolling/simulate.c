@@ -139,7 +139,8 @@ const char *simulate(const setup *setup, const way *way, FILE *trace, figures *f
     run *r = malloc(sizeof *r);
     if (!r)
         return "no memory";
-    *r = (run){.way = way, .trace = trace, .host = host_of(setup), .judge = judge_of(setup), .figures = figures};
+    *r = (run){.way = way, .trace = trace, .host = host_of(setup), .figures = figures};
+    judge_open(&r->judge, setup);
     r->machine.setup = setup;
     while (!r->wrong && r->answered < setup->requests)
         turn(r);

@@ -4,12 +4,15 @@
 #include <inttypes.h>
 #include <string.h>
 
-bool put_device(const char *name, double byte, onfi_channel *channel)
+bool put_device(const char *name, double byte, setup *setup)
 {
     const device *device = device_of(name);
-    if (device)
-        *channel = channel_of(device, byte);
-    return device;
+    if (!device)
+        return false;
+    setup->made_of = *device;
+    setup->byte = byte;
+    setup->channel = channel_of(device, byte);
+    return true;
 }
 
 bool put_workload(const char *name, unsigned *workload)
