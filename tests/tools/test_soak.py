@@ -144,8 +144,8 @@ class Soak(unittest.TestCase):
     def test_what_is_no_difference(self) -> None:
         """Answers as the model has them, a choice that stands in each script, a channel that is over within a few nodes."""
         may_be_over = over('"--limit" in sys.argv and "--within" not in sys.argv', "sys.argv[-1]")
-        for spoilt, words in (("", []), (NAMED, ["--choice", "by-lun"]), (may_be_over, [])):
-            status, said = soaked(spoilt, *words)
+        for spoilt, words in (("", ""), (NAMED, "--choice by-lun"), (may_be_over, "")):
+            status, said = soaked(spoilt, *words.split())
             self.assertEqual((status, said.splitlines()[-1]), (0, PASSED), spoilt)
             self.assertRegex(said, r"\n?[1-9]\d+ operations, 0 differences")
 

@@ -61,7 +61,8 @@ def calls_of(counts: str) -> Iterator[Cost]:
     """The calls alone, by names without what the compiler adds to them."""
     for cost in costs_of(counts):
         if cost.callee:
-            yield Cost(*(re.split(r"[.']", name)[0] for name in cost[:2]), cost.instructions)
+            caller, callee = (re.split(r"[.']", name)[0] for name in (cost.caller, cost.callee))
+            yield Cost(caller, callee, cost.instructions)
 
 
 class Turns(NamedTuple):
