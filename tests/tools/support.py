@@ -67,3 +67,23 @@ def run_shell(command: str) -> str:
     """What a command of a page prints, with the built program for `bin/onfi_sim`."""
     line = command.replace("bin/onfi_sim", shlex.quote(str(program())))
     return subprocess.run(line, shell=True, capture_output=True, text=True, cwd=ROOT).stdout
+
+
+def make(*words: str) -> "subprocess.CompletedProcess[str]":
+    return subprocess.run(["make", "--no-print-directory", *words], cwd=ROOT, env=plain_environment(), capture_output=True, text=True)
+
+
+def executable(folder: str, text: str) -> str:
+    """A program of that text."""
+    program = Path(folder) / "program"
+    program.write_text(text)
+    program.chmod(0o755)
+    return str(program)
+
+
+def compiled(folder: str, text: str, *options: str) -> str:
+    """A program of that text in C."""
+    source, made = Path(folder) / "program.c", str(Path(folder) / "program")
+    source.write_text(text)
+    subprocess.run(["cc", *options, "-o", made, str(source)], check=True)
+    return made

@@ -2,12 +2,9 @@
 
 from __future__ import annotations
 
-import os
-import stat
 import sys
 import tempfile
 import unittest
-from pathlib import Path
 
 import support
 
@@ -55,10 +52,8 @@ RIGHT = REFUSES + ANSWERS
 def fuzzed(body: str, inputs: int = 40) -> "tuple[int, str]":
     """Status and output of the tool on a program with this body."""
     with tempfile.TemporaryDirectory() as folder:
-        program = Path(folder) / "program"
-        program.write_text(PROGRAM.format(python=sys.executable, body=body))
-        os.chmod(program, stat.S_IRWXU)
-        said = support.run_tool("fuzz", "600", str(program), "--inputs", str(inputs))
+        program = support.executable(folder, PROGRAM.format(python=sys.executable, body=body))
+        said = support.run_tool("fuzz", "600", program, "--inputs", str(inputs))
     return said.returncode, said.stdout
 
 

@@ -5,7 +5,6 @@ from __future__ import annotations
 import subprocess
 import tempfile
 import unittest
-from pathlib import Path
 
 import support
 
@@ -42,10 +41,7 @@ WRONG_WORDS = r'write(2, "error: a word\n", 14); return 5;'
 
 def said_of_program(text: str, *ways: str, case: str = CASE) -> "subprocess.CompletedProcess[str]":
     with tempfile.TemporaryDirectory() as folder:
-        source, made = Path(folder) / "program.c", Path(folder) / "program"
-        source.write_text(text)
-        subprocess.run(["cc", "-O0", "-w", "-o", str(made), str(source)], check=True)
-        return support.run_tool("refuse-memory", *ways, str(made), case)
+        return support.run_tool("refuse-memory", *ways, support.compiled(folder, text, "-O0", "-w"), case)
 
 
 def said_of(where_refused: str, answer: str = PLANS, case: str = CASE) -> "subprocess.CompletedProcess[str]":

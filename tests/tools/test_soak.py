@@ -2,13 +2,10 @@
 
 from __future__ import annotations
 
-import os
 import random
-import stat
 import sys
 import tempfile
 import unittest
-from pathlib import Path
 from typing import Any, List, Tuple
 
 import support
@@ -81,10 +78,8 @@ def over(where: str, count: str) -> str:
 def soaked(spoilt: str, *words: str, scripts: int = 30) -> Tuple[int, str]:
     """Status and output of the tool on a program that does this with its lines before it prints them."""
     with tempfile.TemporaryDirectory() as folder:
-        program = Path(folder) / "program"
-        program.write_text(PROGRAM.format(python=sys.executable, tools=str(support.ROOT / "tools"), spoilt=spoilt))
-        os.chmod(program, stat.S_IRWXU)
-        said = support.run_tool("soak", "1", str(program), "--scripts", str(scripts), *words)
+        program = support.executable(folder, PROGRAM.format(python=sys.executable, tools=str(support.ROOT / "tools"), spoilt=spoilt))
+        said = support.run_tool("soak", "1", program, "--scripts", str(scripts), *words)
     return said.returncode, said.stdout + said.stderr
 
 
