@@ -3,11 +3,12 @@
 from __future__ import annotations
 
 import os
+import re
 import shlex
 import subprocess
 import sys
 from pathlib import Path
-from typing import Dict, List, Optional
+from typing import Dict, Iterator, List, Optional
 
 ROOT = Path(__file__).resolve().parent.parent.parent
 sys.path.insert(0, str(ROOT / "tools"))
@@ -26,6 +27,13 @@ HANDED_ON = ("MAKEFLAGS", "MAKELEVEL", "MFLAGS", "PREFIX", "DESTDIR", "TARGET")
 
 def plain_environment() -> Dict[str, str]:
     return {name: value for name, value in os.environ.items() if name not in HANDED_ON}
+
+
+def cells_of(text: str) -> Iterator[List[str]]:
+    """The rows of a page's tables, with their heads and without the lines below these."""
+    for line in text.splitlines():
+        if line.startswith("|") and not re.match(r"\|[\s:|-]+\|$", line):
+            yield [cell.strip() for cell in line.strip("| ").split(" | ")]
 
 
 SCRIPTS = {

@@ -7,7 +7,7 @@ import subprocess
 import tempfile
 import unittest
 from pathlib import Path
-from typing import Iterator, List, Set
+from typing import List, Set
 
 import support
 from definitions import Definitions, Key, is_code
@@ -36,12 +36,6 @@ def is_there(target: Path, anchor: str) -> bool:
         count = len(target.read_text().splitlines())
         return 1 <= int(lines[1]) <= int(lines[2] or lines[1]) <= count
     return not anchor or anchor in anchors_of(target)
-
-
-def cells_of(text: str) -> Iterator[List[str]]:
-    for line in text.splitlines():
-        if line.startswith("|") and not re.match(r"\|[\s:|-]+\|$", line):
-            yield [cell.strip() for cell in line.strip("| ").split(" | ")]
 
 
 class Links(unittest.TestCase):
@@ -77,7 +71,7 @@ class Links(unittest.TestCase):
 class Cells(unittest.TestCase):
     def test_cells_are_short(self) -> None:
         for page in (ROOT / "README.md", ROOT / "docs/READ-FIRST.md"):
-            for cells in cells_of(page.read_text()):
+            for cells in support.cells_of(page.read_text()):
                 for cell in cells:
                     words = re.sub(r"\]\([^)]*\)", "]", cell).split()
                     self.assertLessEqual(len(words), 30, f"{page.name}: {cell}")
@@ -206,7 +200,7 @@ class Refusals(unittest.TestCase):
 
 
 def rows_of(page: str, heading: str) -> List[List[str]]:
-    return list(cells_of(re.split(r"\n##+ ", page.split(f"## {heading}\n")[1])[0]))[1:]
+    return list(support.cells_of(re.split(r"\n##+ ", page.split(f"## {heading}\n")[1])[0]))[1:]
 
 
 class Testing(unittest.TestCase):
