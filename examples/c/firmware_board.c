@@ -2,11 +2,11 @@
  * A mock of a board. It takes from a phase what goes over the wires, and judges it by its own books: bus free, LUN ready, waits and
  * lengths, groups, rows, data, and that pages of a block are programmed in order. A request's number gives the array time alone.
  */
-#include "firmware.h"
+#include "firmware_board.h"
 
 #include <string.h>
 
-void board_open(board *b, const setup *of)
+void board_open(board *b, const simulation *of)
 {
     memset(b, 0, sizeof *b);
     b->of = of;
@@ -54,8 +54,7 @@ static uint64_t pass(board *b, chip *c, uint64_t start, uint64_t length, uint64_
 /* How long an array takes in truth. */
 static uint64_t array_time(const board *b, const chip *c, uint64_t stated)
 {
-    uint64_t state = b->of->seed * UINT64_C(0x2545F4914F6CDD1D) ^ c->first << 20;
-    double share = b->of->least_array + (b->of->most_array - b->of->least_array) * next_share(&state);
+    double share = b->of->least_array + (b->of->most_array - b->of->least_array) * share_of(b->of->seed, c->first);
     return (uint64_t)((double)stated * share);
 }
 

@@ -1,10 +1,56 @@
-/* The host: which requests come, and when. One seed gives the same ones in the same order, whatever is done with them. */
-#include "firmware.h"
+/* Devices, and the host: which requests come, and when. One seed gives the same ones in the same order, whatever is done with them. */
+#include "firmware_channel.h"
 
 #include <math.h>
 #include <string.h>
 
 enum { READ_BLOCKS = 512, PROGRAM_BLOCKS = 400, FIRST_PROGRAMMED = 1000, ERASE_BLOCKS = 64, FIRST_ERASED = 3000 };
+
+static const device DEVICES[] = {
+    {"tlc", 16384 + 2048, 2, {75000, 800000, 10000000}},
+    {"slc", 4096 + 224, 1, {25000, 250000, 2000000}},
+    {"qlc", 16384 + 2048, 2, {140000, 2500000, 15000000}},
+};
+
+const device *device_of(const char *name)
+{
+    for (size_t at = 0; at < sizeof DEVICES / sizeof *DEVICES; at++)
+        if (!strcmp(DEVICES[at].name, name))
+            return &DEVICES[at];
+    return NULL;
+}
+
+/* What stands between the cycles, in ns. */
+enum { SHORT_BUSY = 600, BEGINS_BUSY = 100, COLUMN_CHANGE = 500, ADDRESS_TO_DATA = 400, STATUS = 80, TURN = 100 };
+
+static onfi_spans lengths_of(uint64_t command, uint64_t array, uint64_t post)
+{
+    onfi_spans spans;
+    spans.cmd = command;
+    spans.gap = SHORT_BUSY;
+    spans.array = BEGINS_BUSY + array;
+    spans.post = post;
+    return spans;
+}
+
+onfi_channel channel_of(const device *of, double byte)
+{
+    uint64_t cycle = byte >= 20 ? 20 : 25, page = (uint64_t)(of->bytes * byte + 0.5); /* a cycle of commands and addresses */
+    uint64_t status = 4 * cycle + STATUS + cycle + TURN;
+    onfi_channel channel;
+    memset(&channel, 0, sizeof channel);
+    channel.timing.read = lengths_of(7 * cycle, of->array[ONFI_READ], 7 * cycle + COLUMN_CHANGE + page + TURN);
+    channel.timing.program = lengths_of(7 * cycle + ADDRESS_TO_DATA + page, of->array[ONFI_PROGRAM], status);
+    channel.timing.erase = lengths_of(5 * cycle, of->array[ONFI_ERASE], status);
+    channel.rules.read = channel.rules.write = true;
+    channel.rules.plane_bits = of->plane_bits;
+    return channel;
+}
+
+const onfi_spans *spans_of(const onfi_timing *timing, unsigned kind)
+{
+    return kind == ONFI_READ ? &timing->read : kind == ONFI_PROGRAM ? &timing->program : &timing->erase;
+}
 
 /* The next of a row of random numbers (splitmix64). */
 static uint64_t next_number(uint64_t *state)
@@ -15,13 +61,18 @@ static uint64_t next_number(uint64_t *state)
     return mixed ^ mixed >> 31;
 }
 
-/* From 0 to below 1. */
 double next_share(uint64_t *state)
 {
     return (double)(next_number(state) >> 11) / 9007199254740992.0;
 }
 
-unsigned next_below(uint64_t *state, unsigned below)
+double share_of(uint64_t seed, uint64_t id)
+{
+    uint64_t state = seed * UINT64_C(0x2545F4914F6CDD1D) ^ id << 20;
+    return next_share(&state);
+}
+
+static unsigned next_below(uint64_t *state, unsigned below)
 {
     return (unsigned)((next_number(state) >> 32) * below >> 32);
 }
@@ -40,22 +91,22 @@ static onfi_want want_of(unsigned kind, unsigned lun, uint64_t block, uint64_t p
 /* A read of any page of the blocks that are only read. */
 static onfi_want random_read(host *h)
 {
-    unsigned lun = next_below(&h->wants, h->of->luns), block = next_below(&h->wants, READ_BLOCKS * h->planes);
+    unsigned lun = next_below(&h->wants, h->luns), block = next_below(&h->wants, READ_BLOCKS * h->planes);
     return want_of(ONFI_READ, lun, block, next_below(&h->wants, PAGES));
 }
 
 /* The next page of a run over the planes first, then the LUNs, then the pages. */
 static onfi_want next_program(host *h)
 {
-    uint64_t place = h->programs++, row = place / h->planes / h->of->luns;
-    unsigned lun = (unsigned)(place / h->planes % h->of->luns);
+    uint64_t place = h->programs++, row = place / h->planes / h->luns;
+    unsigned lun = (unsigned)(place / h->planes % h->luns);
     return want_of(ONFI_PROGRAM, lun, (FIRST_PROGRAMMED + row / PAGES % PROGRAM_BLOCKS) * h->planes + place % h->planes, row % PAGES);
 }
 
 /* An erase on plane 0; those of the other planes come after it. */
 static onfi_want first_erase(host *h)
 {
-    unsigned lun = next_below(&h->wants, h->of->luns);
+    unsigned lun = next_below(&h->wants, h->luns);
     h->mate = want_of(ONFI_ERASE, lun, (FIRST_ERASED + next_below(&h->wants, ERASE_BLOCKS)) * h->planes, 0);
     h->mates = h->planes - 1;
     return h->mate;
@@ -69,16 +120,16 @@ static onfi_want next_mate(host *h)
 }
 
 /* The share of each kind in the requests. */
-static const double SHARES[][KINDS] = {{0.7, 0.3, 0}, {1, 0, 0}, {0, 1, 0}, {0.65, 0.3, 0.05}};
+static const double SHARES[WORKLOADS][KINDS] = {{0.7, 0.3, 0}, {1, 0, 0}, {0, 1, 0}, {0.65, 0.3, 0.05}};
 
 onfi_want host_want(host *h)
 {
-    const double *shares = SHARES[h->of->workload];
+    const double *shares = SHARES[h->workload];
     if (h->mates)
         return next_mate(h);
-    if (h->of->workload == RANDOM_READS)
+    if (h->workload == RANDOM_READS)
         return random_read(h);
-    if (h->of->workload == SEQUENTIAL)
+    if (h->workload == SEQUENTIAL)
         return next_program(h);
     double share = next_share(&h->wants), erases = shares[ONFI_ERASE] / h->planes;
     if (share < erases)
@@ -92,23 +143,28 @@ void host_arrival(host *h)
     h->next_arrival += 1 + (uint64_t)(-log(1 - next_share(&h->arrivals)) * h->mean_time);
 }
 
-static double bus_time(const onfi_spans *spans)
+/* How long requests have the bus in the mean. */
+static double mean_bus_time(const double shares[KINDS], const onfi_timing *timing)
 {
-    return (double)(spans->cmd + spans->post);
+    double mean = 0;
+    for (unsigned at = 0; at < KINDS; at++) {
+        static const unsigned ORDER[KINDS] = {ONFI_READ, ONFI_ERASE, ONFI_PROGRAM};
+        const onfi_spans *spans = spans_of(timing, ORDER[at]);
+        mean += shares[ORDER[at]] * (double)(spans->cmd + spans->post);
+    }
+    return mean;
 }
 
-void host_open(host *h, const setup *of, const onfi_timing *timing)
+void host_open(host *h, unsigned workload, unsigned luns, const onfi_channel *channel, double load, uint64_t seed)
 {
-    const double *shares = SHARES[of->workload];
     memset(h, 0, sizeof *h);
-    h->of = of;
-    h->planes = 1u << of->made_of.plane_bits;
-    h->wants = 2 * of->seed;
-    h->arrivals = 2 * of->seed + 1;
-    if (of->load <= 0)
+    h->workload = workload;
+    h->luns = luns;
+    h->planes = 1u << channel->rules.plane_bits;
+    h->wants = 2 * seed;
+    h->arrivals = 2 * seed + 1;
+    if (load <= 0)
         return;
-    h->mean_time = shares[ONFI_READ] * bus_time(&timing->read) + shares[ONFI_ERASE] * bus_time(&timing->erase);
-    h->mean_time += shares[ONFI_PROGRAM] * bus_time(&timing->program);
-    h->mean_time /= of->load;
+    h->mean_time = mean_bus_time(SHARES[workload], &channel->timing) / load;
     host_arrival(h);
 }

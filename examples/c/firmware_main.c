@@ -28,9 +28,9 @@
  *   ends      yes prints when each request ends; no      no
  *
  * The first tenth isn't measured. The exit status is 0, 1 where a call refuses or the board is misused, 2 where a word can't be
- * read. Devices, workloads and the greedy way are those of examples/simulator/rolling.
+ * read. Devices, workloads and the greedy way are those of examples/simulator/rolling too.
  */
-#include "firmware.h"
+#include "firmware_board.h"
 
 #include <inttypes.h>
 #include <math.h>
@@ -64,7 +64,7 @@ typedef struct {
 } latencies;
 
 typedef struct {
-    const setup *of;
+    const simulation *of;
     way has;
     driver firmware;
     board mock;
@@ -73,7 +73,7 @@ typedef struct {
     uint64_t now;
     uint64_t delays; /* a state of random numbers */
     size_t outstanding;
-    sent owed[QUEUE]; /* in order of acceptance */
+    sent owed[MOST_WAITING]; /* in order of acceptance */
     uint64_t answered;
     latencies latency[KINDS];
     uint64_t from, to; /* what is measured */
@@ -118,35 +118,7 @@ static void print_costs(const run *r)
 }
 #endif
 
-/* What is stated of the device, in ns. */
-
-enum { SHORT_BUSY = 600, BEGINS_BUSY = 100, COLUMN_CHANGE = 500, ADDRESS_TO_DATA = 400, STATUS = 80, TURN = 100 };
-
-static onfi_spans spans_of(uint64_t command, uint64_t array, uint64_t post)
-{
-    onfi_spans spans;
-    spans.cmd = command;
-    spans.gap = SHORT_BUSY;
-    spans.array = BEGINS_BUSY + array;
-    spans.post = post;
-    return spans;
-}
-
-static onfi_channel channel_of(const setup *of)
-{
-    uint64_t cycle = of->byte >= 20 ? 20 : 25, page = (uint64_t)(of->made_of.bytes * of->byte + 0.5); /* of commands and addresses */
-    uint64_t status = 4 * cycle + STATUS + cycle + TURN;
-    onfi_channel channel;
-    memset(&channel, 0, sizeof channel);
-    channel.timing.read = spans_of(7 * cycle, of->made_of.array[ONFI_READ], 7 * cycle + COLUMN_CHANGE + page + TURN);
-    channel.timing.program = spans_of(7 * cycle + ADDRESS_TO_DATA + page, of->made_of.array[ONFI_PROGRAM], status);
-    channel.timing.erase = spans_of(5 * cycle, of->made_of.array[ONFI_ERASE], status);
-    channel.rules.read = channel.rules.write = true;
-    channel.rules.plane_bits = of->made_of.plane_bits;
-    return channel;
-}
-
-static onfi_geometry geometry_of(const setup *of)
+static onfi_geometry geometry_of(const simulation *of)
 {
     onfi_geometry geometry;
     memset(&geometry, 0, sizeof geometry);
@@ -164,7 +136,7 @@ static onfi_geometry geometry_of(const setup *of)
     return geometry;
 }
 
-static void open_run(run *r, const setup *of, const way *has)
+static void open_run(run *r, const simulation *of, const way *has)
 {
     memset(r, 0, sizeof *r);
     r->of = of;
@@ -174,9 +146,9 @@ static void open_run(run *r, const setup *of, const way *has)
     r->firmware.bus = &r->bus;
     r->firmware.plans = of->plans;
     r->firmware.luns = of->luns;
-    r->firmware.channel = channel_of(of);
+    r->firmware.channel = channel_of(&of->made_of, of->byte);
     r->firmware.geometry = geometry_of(of);
-    host_open(&r->sender, of, &r->firmware.channel.timing);
+    host_open(&r->sender, of->workload, of->luns, &r->firmware.channel, of->load, of->seed);
 }
 
 /* What comes in. */
@@ -366,7 +338,7 @@ static void print_run(const run *r)
 }
 
 /* Whether all went well by a way. */
-static bool run_way(run *r, const setup *of, const way *has)
+static bool run_way(run *r, const simulation *of, const way *has)
 {
     open_run(r, of, has);
     while (!r->wrong && !is_over(r))
@@ -404,12 +376,6 @@ static const struct {
     {"told", {"yes", "no", "", "", ""}},          {"way", {"phases", "plans", "greedy", "both", "all"}},
     {"choice", {"by-lun", "in-order", "reads-first", "one-kind", ""}}, {"plan", {"early", "within", "rule", "", ""}},
     {"weights", {"age", "equal", "reads", "", ""}}, {"ends", {"no", "yes", "", "", ""}},
-};
-
-static const device DEVICES[] = {
-    {"tlc", 16384 + 2048, 2, {75000, 800000, 10000000}},
-    {"slc", 4096 + 224, 1, {25000, 250000, 2000000}},
-    {"qlc", 16384 + 2048, 2, {140000, 2500000, 15000000}},
 };
 
 /* Which ways a value of `way` names. */
@@ -540,10 +506,10 @@ static planning planning_of(const words *w)
     return made;
 }
 
-static setup setup_of(const words *w)
+static simulation setup_of(const words *w)
 {
-    setup made;
-    made.made_of = DEVICES[w->chosen[DEVICE]];
+    simulation made;
+    made.made_of = *device_of(CHOSEN[DEVICE].value[w->chosen[DEVICE]]);
     made.byte = w->number[BYTE];
     made.luns = (unsigned)w->number[LUNS];
     made.workload = w->chosen[WORKLOAD];
@@ -572,7 +538,7 @@ int main(int count, char **texts)
     }
     if (!put_words(count, texts, &w))
         return 2;
-    setup of = setup_of(&w);
+    simulation of = setup_of(&w);
     bool is_well = true;
     for (unsigned at = 0; at < WAYS && is_well; at++)
         if (IS_ASKED_FOR[w.chosen[WAY]][at])

@@ -4,6 +4,7 @@
  * time, and after a phase that took longer than is stated. A plan takes memory and far more time than a phase of firmware.c.
  */
 #include "firmware.h"
+#include "firmware_channel.h"
 
 #include <string.h>
 
@@ -21,7 +22,7 @@ static uint32_t call_choice(const driver *d, uint64_t now, size_t place[ONFI_WAN
     onfi_channel channel = d->channel;
     channel.bus_free = later_of(channel.bus_free, now);
     if (d->plans.choice == ONE_KIND)
-        return choose_one_kind(d, &channel, place, count);
+        return choose_one_kind(&channel, d->lun, d->luns, d->queue, d->queued, place, count);
     return onfi_choose(&channel, d->lun, d->luns, d->queue, d->queued, d->accepted, d->plans.choice, ONFI_WANTS, place, count);
 }
 

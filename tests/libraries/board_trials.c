@@ -1,5 +1,5 @@
 /* What the mock board of examples/c says of a row of phases in which one was broken on purpose, a line each. */
-#include "firmware.h"
+#include "firmware_board.h"
 
 #include <stdio.h>
 #include <string.h>
@@ -96,12 +96,11 @@ static call spoil(call c, const spoilt *how)
     return c;
 }
 
-static setup two_luns(void)
+static simulation two_luns(void)
 {
-    static const device TLC = {"tlc", 16384 + 2048, 2, {75000, 800000, 10000000}};
-    setup of;
+    simulation of;
     memset(&of, 0, sizeof of);
-    of.made_of = TLC;
+    of.made_of = *device_of("tlc");
     of.byte = 2;
     of.luns = 2;
     of.least_array = of.most_array = 1;
@@ -109,7 +108,7 @@ static setup two_luns(void)
     return of;
 }
 
-static void print_judgement(const setup *of, const spoilt *how)
+static void print_judgement(const simulation *of, const spoilt *how)
 {
     static board mock;
     board_open(&mock, of);
@@ -123,7 +122,7 @@ static void print_judgement(const setup *of, const spoilt *how)
 }
 
 /* Data of another page, and of a row that has another count of cycles. */
-static void print_others(const setup *of)
+static void print_others(const simulation *of)
 {
     static board mock;
     uint8_t page[SHOWN];
@@ -141,7 +140,7 @@ static void print_others(const setup *of)
 
 int main(void)
 {
-    setup of = two_luns();
+    simulation of = two_luns();
     for (size_t at = 0; at < sizeof SPOILT / sizeof *SPOILT; at++)
         print_judgement(&of, &SPOILT[at]);
     print_others(&of);

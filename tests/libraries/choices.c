@@ -2,14 +2,14 @@
  * Batches that onfi_choose takes, worked by hand: by which LUN comes free first, by kind, round by round, and of what is passed over.
  * Its contract doesn't say in which order LUNs give, so these show it.
  */
-#include <onfi.h>
+#include "../../examples/c/firmware_channel.h"
 
 #include <stdio.h>
 #include <stdlib.h>
 
 static unsigned tried, failed;
 
-enum { LUNS = 2, MOST = 6 };
+enum { LUNS = 2, MOST = 7 };
 
 /* Two LUNs, and what waits: of each request its kind, LUN and block. */
 typedef struct {
@@ -37,6 +37,9 @@ static unsigned digits_of(const size_t *places, size_t count)
     return digits;
 }
 
+/* By a choice of the library; by ONE_KIND so many as are shown. */
+enum { ONE_KIND = 255 };
+
 static void expect(const char *what, const queue *q, uint8_t choice, uint8_t batch, unsigned wanted)
 {
     const onfi_channel channel = {
@@ -44,7 +47,8 @@ static void expect(const char *what, const queue *q, uint8_t choice, uint8_t bat
         .rules = {.read = true, .write = true, .plane_bits = 1}, .bus_free = q->bus_free,
     };
     size_t chosen[ONFI_WANTS], count = 0;
-    uint32_t status = onfi_choose(&channel, q->luns, LUNS, q->wants, q->count, q->accepted, choice, batch, chosen, &count);
+    uint32_t status = choice == ONE_KIND ? choose_one_kind(&channel, q->luns, LUNS, q->wants, q->count, chosen, &count)
+                                         : onfi_choose(&channel, q->luns, LUNS, q->wants, q->count, q->accepted, choice, batch, chosen, &count);
     size_t full = batch < q->count ? batch : q->count;
     tried++;
     if (status != ONFI_DONE || count != full || digits_of(chosen, count) != wanted) {
@@ -130,12 +134,26 @@ static void passed_over(void)
     expect("by either choice", &q, ONFI_READS_FIRST, 1, 0);
 }
 
+/* LUN 0 has programs alone. Of LUN 1 a program waits, the read after it on its block, an erase, and two other reads. */
+static void one_kind(void)
+{
+    queue q = waiting(MOST);
+    q.luns[0] = running(ONFI_PROGRAM, 0, 1, 200200);
+    q.wants[1].block = q.wants[3].block = 0, q.wants[4].block = 5, q.wants[6].page = q.wants[4].page;
+    q.wants[2].block = 0, q.wants[5].page = 0, q.wants[5].kind = ONFI_ERASE;
+    q.wants[0].kind = q.wants[1].kind = q.wants[2].kind = ONFI_PROGRAM;
+    for (size_t at = 2; at < MOST; at++)
+        q.wants[at].lun = 1;
+    expect("programs of LUN 0, and of LUN 1 reads alone", &q, ONE_KIND, 4, 146);
+}
+
 int main(void)
 {
     luns();
     rounds_and_kinds();
     groups();
     passed_over();
+    one_kind();
     printf("%u tried, %u failed\n", tried, failed);
     return failed ? EXIT_FAILURE : EXIT_SUCCESS;
 }

@@ -81,16 +81,16 @@ static bool print_next(const way *way, mind *mind, const machine *m, const batch
 
 static void print_problem(const problem *problem)
 {
-    printf("4 %" PRIu64 " %zu", problem->channel.bus_free, problem->luns);
+    printf("4 %" PRIu64 " %zu", problem->now.channel.bus_free, problem->luns);
     for (size_t at = 0; at < problem->luns; at++) {
-        const onfi_lun *lun = &problem->lun[at];
+        const onfi_lun *lun = &problem->now.lun[at];
         printf(" %" PRIu64 " %u %u", lun->since, lun->next, lun->members);
         for (unsigned member = 0; member < lun->members; member++)
-            print_want(&problem->channel.rules, &lun->member[member]);
+            print_want(&problem->now.channel.rules, &lun->member[member]);
     }
     printf(" %zu", problem->wants);
     for (size_t at = 0; at < problem->wants; at++)
-        print_want(&problem->channel.rules, &problem->want[at]);
+        print_want(&problem->now.channel.rules, &problem->now.want[at]);
 }
 
 static void print_numbers(const uint64_t *number, size_t count)
@@ -153,7 +153,7 @@ int main(int count, char **texts)
     if (count != 12)
         return 2;
     setup setup = setup_of(texts);
-    if (!put_device(texts[2], strtod(texts[4], NULL), &setup.channel) || !put_workload(texts[3], &setup.workload))
+    if (!put_device(texts[2], strtod(texts[4], NULL), &setup) || !put_workload(texts[3], &setup.workload))
         return 2;
     print_setup(&setup);
     const char *wrong = figures_begin(&figures, &setup) ? simulate(&setup, strcmp(texts[1], "plans") ? &phases : &plans, NULL, &figures) : "no memory";

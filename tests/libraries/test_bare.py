@@ -18,7 +18,6 @@ STRICT = ["-Wall", "-Wextra", "-Werror"]
 CROSS, QEMU = "aarch64-linux-gnu-gcc", "qemu-system-aarch64"
 FLAGS = ["-std=c99", "-O2", "-ffreestanding", "-static", "-nostdlib", "-Wl,--build-id=none"]
 MACHINE = [QEMU, "-M", "virt", "-cpu", "cortex-a53", "-display", "none", "-serial", "stdio", "-semihosting"]
-FIRMWARE = ["firmware.c", "firmware_board.c", "firmware_choice.c", "firmware_greedy.c", "firmware_host.c", "firmware_main.c", "firmware_plans.c"]
 # Words of the driver: each way, both searches, each kind of request, arrivals by themselves, a word that can't be read.
 RUNS = [
     "requests 200 way all",
@@ -95,7 +94,7 @@ class Bare(unittest.TestCase):
             return
         (self.room / "numbers.c").write_text(NUMBERS)
         numbers = [str(self.room / "numbers.c")]
-        for names, runs in ((["batch.c"], [""]), (FIRMWARE, RUNS), (numbers, [""])):
+        for names, runs in ((["batch.c"], [""]), (sorted(it.name for it in EXAMPLES.glob("firmware*.c")), RUNS), (numbers, [""])):
             here, on_arm = self.here(names), self.on_arm([*names, "pool.c"])
             for words in runs:
                 wanted = subprocess.run([here, *words.split()], stdout=subprocess.PIPE, stderr=subprocess.STDOUT, text=True)

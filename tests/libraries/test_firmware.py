@@ -23,7 +23,6 @@ EXAMPLES, TRIALS = ROOT / "examples/c", ROOT / "tests/libraries"
 STRICT = ["-Wall", "-Wextra", "-Werror", "-Wpedantic", "-Wconversion"]
 SANE = ["-fsanitize=address,undefined", "-fno-sanitize-recover=all", "-g"]
 C99, CXX = ("cc", "-std=c99", "-xc"), ("c++", "-std=c++17", "-xc++")
-FIRMWARE = ["firmware.c", "firmware_board.c", "firmware_choice.c", "firmware_greedy.c", "firmware_host.c", "firmware_main.c", "firmware_plans.c"]
 SSD = ROOT / "examples/python/ssd.py"
 WAYS = ["phases", "plans", "greedy"]
 # Runs by each way, whose plans are more than 10,000 together: what a loop, a device, a choice and a planner can be.
@@ -104,7 +103,7 @@ def compiled(name: str, compiler: Sequence[str], options: Sequence[str], sources
 
 
 def firmware(name: str, compiler: Sequence[str] = C99, options: Sequence[str] = ("-O2", "-g"), pool: int = 0) -> str:
-    return compiled(name, compiler, options, [EXAMPLES / source for source in FIRMWARE], pool)
+    return compiled(name, compiler, options, sorted(EXAMPLES.glob("firmware*.c")), pool)
 
 
 def sane() -> str:

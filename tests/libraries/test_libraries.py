@@ -43,11 +43,11 @@ def tearDownModule() -> None:
 C11, CXX = ("cc", "-std=c11", "-xc"), ("c++", "-std=c++17", "-xc++")
 
 
-def build(source: Path, compiler: Sequence[str] = C11) -> str:
-    """A program with the archive, under the sanitizers."""
+def build(source: Path, compiler: Sequence[str] = C11, *more: Path) -> str:
+    """A program with the archive, under the sanitizers; of other sources too."""
     made = Path(BUILT.name) / f"{source.stem}{compiler[-1]}"
     if not made.is_file():
-        line = [*compiler, *STRICT, *SANE, f"-I{ROOT / 'include'}", str(source), "-xnone", str(LIBRARY / "libonfi.a"), "-o", str(made)]
+        line = [*compiler, *STRICT, *SANE, f"-I{ROOT / 'include'}", str(source), *map(str, more), "-xnone", str(LIBRARY / "libonfi.a"), "-o", str(made)]
         told = run(*line)
         if told.returncode:
             raise AssertionError(told.stderr.decode())
@@ -164,8 +164,8 @@ class Refusals(unittest.TestCase):
 
 class Choices(unittest.TestCase):
     def test_batches_by_hand(self) -> None:
-        told = run(build(ROOT / "tests/libraries/choices.c"))
-        self.assertEqual((told.returncode, told.stderr, told.stdout), (0, b"", b"39 tried, 0 failed\n"))
+        told = run(build(ROOT / "tests/libraries/choices.c", C11, ROOT / "examples/c/firmware_choice.c"))
+        self.assertEqual((told.returncode, told.stderr, told.stdout), (0, b"", b"40 tried, 0 failed\n"))
 
     def test_whole_groups_by_hand(self) -> None:
         told = run(build(ROOT / "tests/libraries/wholes.c"))

@@ -15,7 +15,7 @@ sys.dont_write_bytecode = True
 sys.path[:0] = [str(ROOT / "tools"), str(Path(__file__).resolve().parent)]
 
 from next_model import Reader  # noqa: E402
-from onfi_tools.rolling_use import SOURCES, STRICT  # noqa: E402
+from onfi_tools.rolling_use import SOURCES, STRICT, sources_of  # noqa: E402
 
 LIBRARY = Path(os.environ.get("ONFI_LIBRARIES", ROOT / "lib")).resolve()
 # Phases or plans; device, workload, ns a byte, LUNs, outstanding, load, arrays at least and at most, requests, seed.
@@ -55,7 +55,7 @@ class Alike(unittest.TestCase):
         asked: Counter[str] = Counter()
         with tempfile.TemporaryDirectory() as room:
             made = str(Path(room) / "next_trials")
-            sources = [str(it) for it in (ROOT / "tests/libraries/next_trials.c", *sorted(SOURCES.glob("*.c"))) if it.name != "main.c"]
+            sources = [str(it) for it in (ROOT / "tests/libraries/next_trials.c", *sources_of(True)) if it.name != "main.c"]
             line = ["cc", *STRICT, f"-I{SOURCES}", f"-I{ROOT / 'include'}", *sources, str(LIBRARY / "libonfi.a"), "-lm", "-o", made]
             subprocess.run(line, check=True)
             for words in RUNS:

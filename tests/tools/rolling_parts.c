@@ -1,10 +1,9 @@
 /*
  * Parts of the simulator of examples/simulator/rolling alone, a line each: what the judge says of phases that were broken on purpose, how a
- * run ends whose way is bad, and what is chosen of requests that wait.
+ * run ends whose way is bad, and how many requests greedy ways look at. What the board says of a broken phase is in board_trials.c.
  */
 #include "rolling.h"
 
-#include <inttypes.h>
 #include <string.h>
 
 enum { PHASES = 7, WANTS = 4 };
@@ -13,7 +12,7 @@ static setup setup_of(unsigned luns)
 {
     setup made = {.luns = luns, .workload = SEQUENTIAL, .outstanding = 64, .requests = 100, .seed = 1};
     made.least_array = made.most_array = 1;
-    put_device("tlc", 2, &made.channel);
+    put_device("tlc", 2, &made);
     return made;
 }
 
@@ -29,100 +28,45 @@ static const onfi_want WANT[WANTS] = {
 static void put_phases(phase *p)
 {
     const phase legal[PHASES] = {
-        {.start = 0, .end = 175, .lun = 0, .want = WANT[0], .opens = 2, .member = {WANT[0], WANT[1]}},
-        {.start = 175, .end = 350, .lun = 1, .want = WANT[2], .opens = 1, .member = {WANT[2]}, .array = 75100},
-        {.start = 775, .end = 950, .lun = 0, .want = WANT[1], .array = 75100},
-        {.start = 75450, .end = 113089, .lun = 1, .is_post = true, .want = WANT[2]},
-        {.start = 113089, .end = 150728, .lun = 0, .is_post = true, .want = WANT[0]},
-        {.start = 150728, .end = 188367, .lun = 0, .is_post = true, .want = WANT[1]},
-        {.start = 188367, .end = 225806, .lun = 1, .want = WANT[3], .opens = 1, .member = {WANT[3]}, .array = 800100},
+        {.start = 0, .end = 175, .want = WANT[0], .members = 2, .opens = 2, .member = {WANT[0], WANT[1]}},
+        {.start = 175, .end = 350, .lun = 1, .want = WANT[2], .members = 1, .opens = 1, .member = {WANT[2]}},
+        {.start = 775, .end = 950, .want = WANT[1], .number = 1, .members = 2},
+        {.start = 75450, .end = 113089, .lun = 1, .is_post = true, .want = WANT[2], .number = 1, .members = 1},
+        {.start = 113089, .end = 150728, .is_post = true, .want = WANT[0], .number = 2, .members = 2},
+        {.start = 150728, .end = 188367, .is_post = true, .want = WANT[1], .number = 3, .members = 2},
+        {.start = 188367, .end = 225806, .lun = 1, .want = WANT[3], .members = 1, .opens = 1, .member = {WANT[3]}},
     };
     memcpy(p, legal, sizeof legal);
 }
 
-static void one_ns_sooner(phase *p)
-{
-    p->start--;
-    p->end--;
-}
-
-static void longer(phase *p)
-{
-    p->end++;
-}
-
-static void turned_round(phase *p)
-{
-    p->is_post = !p->is_post;
-}
-
-static void of_another_request(phase *p)
-{
-    p->want = WANT[1];
-}
-
-static void of_another_page(phase *p)
-{
-    p->member[1].page++;
-}
-
-static void of_another_kind(phase *p)
-{
-    p->member[1].kind = ONFI_ERASE;
-}
-
-static void of_falling_planes(phase *p)
-{
-    p->member[0] = WANT[1];
-    p->member[1] = WANT[0];
-}
-
-static void of_five(phase *p)
-{
-    p->opens = 5;
-}
-
-static void of_the_later_on_a_block(phase *p)
-{
-    p->want = p->member[0] = WANT[3];
-}
-
-static void of_one_that_has_run(phase *p)
-{
-    p->want = p->member[0] = WANT[2];
-}
-
-static void beginning(phase *p)
-{
-    p->opens = 1;
-    p->member[0] = p->want;
-}
-
-static void going_on(phase *p)
-{
-    p->opens = 0;
-}
-
-static void of_no_lun(phase *p)
-{
-    p->lun = 2;
-}
-
+/* A phase that is broken on purpose: so much later, so much longer, of another request, which may begin with it. */
 typedef struct {
     const char *name;
     unsigned phase;
-    void (*spoil)(phase *p);
+    int later, longer;
+    const onfi_want *want;
+    bool begins;
 } spoilt;
 
-/* What the judge says of the legal phases with that one broken on purpose; null where it finds nothing. */
+static void spoil(phase *p, const spoilt *how)
+{
+    p->start += (uint64_t)how->later;
+    p->end += (uint64_t)(how->later + how->longer);
+    if (how->want)
+        p->want = *how->want;
+    if (how->begins)
+        p->member[0] = *how->want;
+}
+
+/* What the judge says of the legal phases with one broken on purpose; null where it finds nothing. */
 static const char *judged(const setup *setup, uint64_t since, const spoilt *spoilt)
 {
+    static judge j;
     phase p[PHASES];
-    judge j = judge_of(setup);
     const char *breach = NULL;
     put_phases(p);
-    if (spoilt)
-        spoilt->spoil(&p[spoilt->phase]);
+    spoil(&p[spoilt->phase], spoilt);
+    judge_open(&j, setup);
     for (unsigned want = 0; want < WANTS; want++)
         judge_acceptance(&j, &WANT[want], since);
     for (unsigned at = 0; at < PHASES && !breach; at++)
@@ -138,20 +82,14 @@ static void print_judgement(const char *name, const char *breach)
 static void print_judgements(void)
 {
     static const spoilt all[] = {
-        {"data output 1 ns sooner", 4, one_ns_sooner}, {"command 1 ns sooner", 2, one_ns_sooner}, {"array 1 ns sooner", 3, one_ns_sooner},
-        {"longer", 4, longer}, {"post for command", 2, turned_round}, {"command for post", 4, turned_round},
-        {"another request", 4, of_another_request}, {"another page", 0, of_another_page}, {"another kind", 0, of_another_kind},
-        {"falling planes", 0, of_falling_planes}, {"five members", 0, of_five}, {"later on a block", 1, of_the_later_on_a_block},
-        {"once more", 6, of_one_that_has_run}, {"begins while its LUN runs", 2, beginning}, {"goes on while its LUN is free", 1, going_on},
-        {"no LUN", 1, of_no_lun},
+        {"nothing spoilt", 0, 0, 0, NULL, false}, {"data output 1 ns sooner", 4, -1, 0, NULL, false}, {"command 1 ns sooner", 2, -1, 0, NULL, false},
+        {"array 1 ns sooner", 3, -1, 0, NULL, false}, {"longer", 4, 0, 1, NULL, false}, {"another request", 4, 0, 0, &WANT[1], false},
+        {"another kind", 0, 0, 0, &WANT[3], false}, {"later on a block", 1, 0, 0, &WANT[3], true}, {"once more", 6, 0, 0, &WANT[2], true},
     };
     setup setup = setup_of(2);
-    print_judgement("nothing spoilt", judged(&setup, 0, NULL));
-    print_judgement("accepted later", judged(&setup, 1, NULL));
     for (size_t at = 0; at < sizeof all / sizeof *all; at++)
         print_judgement(all[at].name, judged(&setup, 0, &all[at]));
-    setup.channel.rules.read = false;
-    print_judgement("no groups of reads", judged(&setup, 0, NULL));
+    print_judgement("accepted later", judged(&setup, 1, &all[0]));
 }
 
 /* Once the bus has been used, starts 1 ns before it or the LUN is free. */
@@ -187,34 +125,17 @@ static void print_runs(void)
     print_run(8, &idle);
 }
 
-static void print_choice(const char *name, choice *choose, const machine *m)
-{
-    batch chosen;
-    choose(m, &chosen);
-    printf("%s:", name);
-    for (size_t at = 0; at < chosen.count; at++)
-        printf(" %" PRIu64, m->waiting[chosen.place[at]].want.id);
-    printf("\n");
-}
-
-/* Seven programs of LUN 0, which runs one; then requests of LUN 1 and LUN 2, which are free. */
+/* Of fifteen requests. */
 static void print_choices(void)
 {
-    static const struct { unsigned kind, lun, block, page; } waits[] = {
-        {ONFI_PROGRAM, 1, 0, 0}, {ONFI_READ, 1, 0, 0}, {ONFI_READ, 1, 5, 3}, {ONFI_READ, 2, 0, 4},
-        {ONFI_READ, 2, 1, 4}, {ONFI_READ, 2, 2, 9}, {ONFI_READ, 2, 6, 4}, {ONFI_READ, 2, 3, 4},
-    };
-    setup setup = setup_of(3);
+    setup setup = setup_of(1);
     machine m = {.setup = &setup};
-    m.lun[0] = (lun_state){.members = 1, .next = 1, .member = {{.want = {.kind = ONFI_PROGRAM}}}, .ready = 800000, .real = 800000};
-    for (unsigned page = 0; page < 7; page++)
+    batch all, eight;
+    for (unsigned page = 0; page < 15; page++)
         accept_request(&m, (onfi_want){.id = page, .kind = ONFI_PROGRAM, .page = (uint16_t)page}, 0);
-    for (size_t at = 0; at < sizeof waits / sizeof *waits; at++)
-        accept_request(&m, (onfi_want){.id = 7 + at, .kind = (uint8_t)waits[at].kind, .lun = (uint8_t)waits[at].lun,
-                                       .block = (uint16_t)waits[at].block, .page = (uint16_t)waits[at].page}, 0);
-    print_choice("everything", everything, &m);
-    print_choice("first eight", first_eight, &m);
-    print_choice("by LUN, one kind", by_lun_one_kind, &m);
+    everything(&m, &all);
+    first_eight(&m, &eight);
+    printf("everything: %zu up to %zu\nfirst eight: %zu up to %zu\n", all.count, all.place[all.count - 1], eight.count, eight.place[eight.count - 1]);
 }
 
 int main(void)

@@ -3,11 +3,12 @@
 from __future__ import annotations
 
 import os
+import re
 import shlex
 import subprocess
 import sys
 from pathlib import Path
-from typing import Dict, List, Optional
+from typing import Dict, Iterator, List, Optional
 
 ROOT = Path(__file__).resolve().parent.parent.parent
 sys.path.insert(0, str(ROOT / "tools"))
@@ -26,6 +27,13 @@ HANDED_ON = ("MAKEFLAGS", "MAKELEVEL", "MFLAGS", "PREFIX", "DESTDIR", "TARGET")
 
 def plain_environment() -> Dict[str, str]:
     return {name: value for name, value in os.environ.items() if name not in HANDED_ON}
+
+
+def cells_of(text: str) -> Iterator[List[str]]:
+    """The rows of a page's tables, with their heads and without the lines below these."""
+    for line in text.splitlines():
+        if line.startswith("|") and not re.match(r"\|[\s:|-]+\|$", line):
+            yield [cell.strip() for cell in line.strip("| ").split(" | ")]
 
 
 SCRIPTS = {
@@ -67,3 +75,23 @@ def run_shell(command: str) -> str:
     """What a command of a page prints, with the built program for `bin/onfi_sim`."""
     line = command.replace("bin/onfi_sim", shlex.quote(str(program())))
     return subprocess.run(line, shell=True, capture_output=True, text=True, cwd=ROOT).stdout
+
+
+def make(*words: str) -> "subprocess.CompletedProcess[str]":
+    return subprocess.run(["make", "--no-print-directory", *words], cwd=ROOT, env=plain_environment(), capture_output=True, text=True)
+
+
+def executable(folder: str, text: str) -> str:
+    """A program of that text."""
+    program = Path(folder) / "program"
+    program.write_text(text)
+    program.chmod(0o755)
+    return str(program)
+
+
+def compiled(folder: str, text: str, *options: str) -> str:
+    """A program of that text in C."""
+    source, made = Path(folder) / "program.c", str(Path(folder) / "program")
+    source.write_text(text)
+    subprocess.run(["cc", *options, "-o", made, str(source)], check=True)
+    return made

@@ -4,10 +4,11 @@ from __future__ import annotations
 
 import re
 import unittest
-from typing import Dict, List
+from typing import Dict
 
 import support
-from onfi_tools.calls import crates_below, exported, lines_below
+from onfi_tools.calls import exported
+from onfi_tools.crates import crates_below, lines_below
 
 CRATES = (support.ROOT / "crates.txt").read_text()
 PAGE = (support.ROOT / "docs/CALLS.md").read_text()
@@ -50,14 +51,15 @@ class Page(unittest.TestCase):
 
 class Below(unittest.TestCase):
     def test_lines_of_a_crate_and_those_below(self) -> None:
-        lines = lines_below(CRATES, "onfi_timing")
-        self.assertEqual([line.split(":")[0] for line in lines], ["onfi_param", "onfi_addr", "onfi_timing"])
+        below = lines_below(CRATES, "onfi_timing")
+        lines = list(below.values())
+        self.assertEqual(list(below), ["onfi_param", "onfi_addr", "onfi_timing"])
         self.assertTrue(all(line in CRATES.splitlines() for line in lines))
         self.assertEqual(support.run_tool("list-calls", "--below", "onfi_timing").stdout.splitlines(), lines)
         self.assertEqual(support.run_tool("list-calls", "--below", "onfi_nothing").returncode, 2)
 
     def test_all_is_below_the_program(self) -> None:
-        names: List[str] = [line.split(":")[0].split()[0] for line in lines_below(CRATES, "onfi_program")]
+        names = lines_below(CRATES, "onfi_program")
         for name in names:
             self.assertTrue(all(it in names for it in crates_below(CRATES)[name] if it.startswith("onfi_")), name)
 

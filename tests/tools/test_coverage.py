@@ -3,7 +3,6 @@
 from __future__ import annotations
 
 import shutil
-import subprocess
 import tempfile
 import unittest
 from pathlib import Path
@@ -92,10 +91,8 @@ class Texts(unittest.TestCase):
 class Programs(unittest.TestCase):
     def measured(self, *cases: Case) -> Tuple[Dict[str, Tuple[int, int]], List[str]]:
         with tempfile.TemporaryDirectory() as folder:
-            source, program = Path(folder) / "program.c", Path(folder) / "program"
-            source.write_text(PROGRAM)
-            subprocess.run(["cc", "-O1", "-o", str(program), str(source)], check=True)
-            functions, differences = COVERAGE.measured(str(program.resolve()), cases, 2)
+            program = Path(support.compiled(folder, PROGRAM, "-O1")).resolve()
+            functions, differences = COVERAGE.measured(str(program), cases, 2)
         return {it.name: (it.ran, it.whole) for it in functions}, differences
 
     def test_each_function_is_told_by_what_ran(self) -> None:

@@ -2,12 +2,9 @@
 
 from __future__ import annotations
 
-import os
-import stat
 import sys
 import tempfile
 import unittest
-from pathlib import Path
 
 import support
 
@@ -55,20 +52,42 @@ RIGHT = REFUSES + ANSWERS
 def fuzzed(body: str, inputs: int = 40) -> "tuple[int, str]":
     """Status and output of the tool on a program with this body."""
     with tempfile.TemporaryDirectory() as folder:
-        program = Path(folder) / "program"
-        program.write_text(PROGRAM.format(python=sys.executable, body=body))
-        os.chmod(program, stat.S_IRWXU)
-        said = support.run_tool("fuzz", "600", str(program), "--inputs", str(inputs))
+        program = support.executable(folder, PROGRAM.format(python=sys.executable, body=body))
+        said = support.run_tool("fuzz", "600", program, "--inputs", str(inputs))
     return said.returncode, said.stdout
 
 
-class Fuzz(unittest.TestCase):
-    def assert_missed(self, body: str, told: str, inputs: int = 40) -> None:
-        status, said = fuzzed(body, inputs)
-        self.assertEqual(status, 1)
-        self.assertIn(told, said)
-        self.assertNotIn(" 0 failed", said.splitlines()[-1])
+OTHER_FINISH = RIGHT.replace(REMEMBERED, REMEMBERED.replace("finish 7", "finish 6"))
+FAR = NEAR.replace("finish 7", "finish 9").replace("below 6", "below 8")
+MESSAGE = 'sys.stderr.write("onfi_sim: row 1\\n  expected: another\\n")\n'
+OTHER_PLAN = "ONFIPLAN 1\\nfinish 7\\nONFICERT 1\\nL\\n"
+# What a program does that is a miss, what is said of it, and on how many inputs it shows.
+MISSES = {
+    "a status of another command": ('say("refused finish\\n", 2)', "status 2", 40),
+    "a crash": ("import os\nos.abort()", "status -6", 40),
+    "an answer of no form": ('say("script refused\\n", 1)', "status 1", 40),
+    "a word on standard error": ('sys.stderr.write("oh")\nsay("script refused 0 NoEnd\\n", 1)', "standard error b'oh'", 40),
+    "a message beside an answer": (REFUSES + MESSAGE + ANSWERS, "standard error b'onfi_sim: row 1", 40),
+    "a plan that is refused": (RIGHT.replace("accepted 7", "refused 1 Illegal").replace(", 0) if", ", 2) if"), "['check'] doesn't accept the plan", 40),
+    "a plan that is refused with the other header": (RIGHT.replace("if remembers", "if 0", 1), "['check', '--remember'] doesn't accept the plan", 40),
+    "another finish of a plan that remembers": (
+        OTHER_FINISH.replace('say("accepted 7\\n", 0)', 'say("accepted 6\\n" if remembers else "accepted 7\\n", 0)'),
+        "of a plan that remembers is another than that of the plan", 100),
+    "a sooner finish that is accepted": (RIGHT.replace('say("refused plan 1\\n", 2)', 'say("accepted 6\\n", 0)'), "another finish than that of the plan", 40),
+    "a time above the optimum": (
+        RIGHT.replace(NEAR, FAR).replace("within 7 6", "within 9 8"), "nothing ends before 8, and a legal schedule ends at 9; the plan at 7", 100),
+    "a plan that is judged otherwise": (RIGHT.replace("within 7 6", "within 7 5"), "check --within says b'within 7 5", 100),
+    "a legal schedule that ends sooner": (RIGHT.replace("legal 7", "legal 6"), "a schedule is legal that ends at 6, sooner than the plan at 7", 40),
+    "another plan by several workers": (REFUSES + f'if split: say("{OTHER_PLAN}", 0)' + ANSWERS, f"another plan b'{OTHER_PLAN}'", 100),
+    "a reply twice": (RIGHT.replace("closed", "reply,0,0,1,done\\nreply,0,0,1,done\\nclosed"), "replies that don't rise", 40),
+    "a stopped channel with another status": (RIGHT.replace("closed", "stopped,0,Bus\\nclosed"), "status 0 of the report", 40),
+    "a command line that is refused without a word": (RIGHT.replace("error: a word", ""), "status 5", 100),
+    "a command line that is refused with an answer": (RIGHT.replace("sys.exit(5)", 'say("refused\\n", 5)'), "status 5", 100),
+    "words that are refused though nothing changed them": (RIGHT.replace("if form", "if remembers or form"), "status 5", 40),
+}
 
+
+class Fuzz(unittest.TestCase):
     def test_a_program_that_answers_rightly_passes(self) -> None:
         status, said = fuzzed(RIGHT, 100)
         self.assertEqual((status, said.splitlines()[-1]), (0, "100 passed, 0 failed"))
@@ -76,69 +95,17 @@ class Fuzz(unittest.TestCase):
         for told in ("plan --within near", "check --within within", "check accepted", "check --remember accepted", "check --legal legal", *plans):
             self.assertRegex(said, rf"[1-9]\d* {told}\b")
 
-    def test_a_status_of_another_command_is_a_miss(self) -> None:
-        self.assert_missed('say("refused finish\\n", 2)', "status 2")
-
-    def test_a_crash_is_a_miss(self) -> None:
-        self.assert_missed('import os\nos.abort()', "status -6")
-
-    def test_an_answer_of_no_form_is_a_miss(self) -> None:
-        self.assert_missed('say("script refused\\n", 1)', "status 1")
-
-    def test_a_word_on_standard_error_is_a_miss(self) -> None:
-        self.assert_missed('sys.stderr.write("oh")\nsay("script refused 0 NoEnd\\n", 1)', "standard error b'oh'")
-
-    def test_a_message_passes_beside_a_refusal_and_not_beside_an_answer(self) -> None:
-        message = 'sys.stderr.write("onfi_sim: row 1\\n  expected: another\\n")\n'
-        status, said = fuzzed(REFUSES + message + 'say("script refused 1 UnknownRow\\n", 1)', 20)
+    def test_a_message_passes_beside_a_refusal(self) -> None:
+        status, said = fuzzed(REFUSES + MESSAGE + 'say("script refused 1 UnknownRow\\n", 1)', 20)
         self.assertEqual((status, said.splitlines()[-1]), (0, "20 passed, 0 failed"))
-        self.assert_missed(REFUSES + message + ANSWERS, "standard error b'onfi_sim: row 1")
 
-    def test_a_plan_that_is_refused_is_a_miss(self) -> None:
-        body = RIGHT.replace("accepted 7", "refused 1 Illegal").replace(", 0) if", ", 2) if")
-        self.assert_missed(body, "['check'] doesn't accept the plan")
-
-    def test_a_plan_that_is_refused_with_the_other_header_is_a_miss(self) -> None:
-        self.assert_missed(RIGHT.replace("if remembers", "if 0", 1), "['check', '--remember'] doesn't accept the plan")
-
-    def test_another_finish_of_a_plan_that_remembers_is_a_miss(self) -> None:
-        body = RIGHT.replace(REMEMBERED, REMEMBERED.replace("finish 7", "finish 6"))
-        body = body.replace('say("accepted 7\\n", 0)', 'say("accepted 6\\n" if remembers else "accepted 7\\n", 0)')
-        self.assert_missed(body, "of a plan that remembers is another than that of the plan", 100)
-
-    def test_a_sooner_finish_that_is_accepted_is_a_miss(self) -> None:
-        body = RIGHT.replace('say("refused plan 1\\n", 2)', 'say("accepted 6\\n", 0)')
-        self.assert_missed(body, "another finish than that of the plan")
-
-    def test_a_time_above_the_optimum_is_a_miss(self) -> None:
-        far = NEAR.replace("finish 7", "finish 9").replace("below 6", "below 8")
-        body = RIGHT.replace(NEAR, far).replace("within 7 6", "within 9 8")
-        self.assert_missed(body, "nothing ends before 8, and a legal schedule ends at 9; the plan at 7", 100)
-
-    def test_a_plan_that_is_judged_otherwise_is_a_miss(self) -> None:
-        self.assert_missed(RIGHT.replace("within 7 6", "within 7 5"), "check --within says b'within 7 5", 100)
-
-    def test_a_legal_schedule_that_ends_sooner_is_a_miss(self) -> None:
-        self.assert_missed(RIGHT.replace("legal 7", "legal 6"), "a schedule is legal that ends at 6, sooner than the plan at 7")
-
-    def test_another_plan_by_several_workers_is_a_miss(self) -> None:
-        body = REFUSES + 'if split: say("ONFIPLAN 1\\nfinish 7\\nONFICERT 1\\nL\\n", 0)' + ANSWERS
-        self.assert_missed(body, "another plan b'ONFIPLAN 1\\nfinish 7\\nONFICERT 1\\nL\\n'", 100)
-
-    def test_a_reply_that_is_told_twice_is_a_miss(self) -> None:
-        self.assert_missed(RIGHT.replace("closed", "reply,0,0,1,done\\nreply,0,0,1,done\\nclosed"), "replies that don't rise")
-
-    def test_a_stopped_channel_with_another_status_is_a_miss(self) -> None:
-        self.assert_missed(RIGHT.replace("closed", "stopped,0,Bus\\nclosed"), "status 0 of the report")
-
-    def test_a_command_line_that_is_refused_and_of_which_nothing_is_said_is_a_miss(self) -> None:
-        self.assert_missed(RIGHT.replace("error: a word", ""), "status 5", 100)
-
-    def test_a_command_line_that_is_refused_with_an_answer_is_a_miss(self) -> None:
-        self.assert_missed(RIGHT.replace("sys.exit(5)", 'say("refused\\n", 5)'), "status 5", 100)
-
-    def test_words_that_were_not_changed_are_not_refused(self) -> None:
-        self.assert_missed(RIGHT.replace("if form", "if remembers or form"), "status 5")
+    def test_what_is_a_miss(self) -> None:
+        for name, (body, told, inputs) in MISSES.items():
+            with self.subTest(name):
+                status, said = fuzzed(body, inputs)
+                self.assertEqual(status, 1)
+                self.assertIn(told, said)
+                self.assertNotIn(" 0 failed", said.splitlines()[-1])
 
 
 if __name__ == "__main__":

@@ -1,4 +1,4 @@
-"""The built program on inputs that break off at each byte, and on readers and writers that fail."""
+"""The built program on inputs that break off at each byte, and on more open nodes than may be remembered."""
 
 from __future__ import annotations
 
@@ -101,26 +101,6 @@ class Remembered(unittest.TestCase):
             ran = support.run_program("check", "--remember", given=given)
             self.assertEqual((ran.stdout, ran.returncode), (told, 2))
             self.assertIn("doesn't prove it optimal: ", ran.stderr)
-
-
-@unittest.skipUnless(support.program(), "no built program")
-class Streams(unittest.TestCase):
-    COMMANDS = (["plan"], ["plan", "--trace"], ["check"], ["check", "--remember"])
-
-    def test_a_read_that_fails_writes_nothing(self) -> None:
-        folder = os.open(support.ROOT, os.O_RDONLY)
-        for words in self.COMMANDS:
-            ran = subprocess.run([str(support.program()), *words], stdin=folder, capture_output=True, timeout=20)
-            self.assertEqual((ran.stdout, ran.stderr, ran.returncode), (b"", b"", 7))
-        os.close(folder)
-
-    def test_a_write_that_fails_is_told_by_the_status(self) -> None:
-        for words in self.COMMANDS:
-            for given in (b"", (support.ROOT / "examples/batch.onfi").read_bytes()):
-                with open("/dev/full", "wb") as full:
-                    ran = subprocess.run([str(support.program()), *words], input=given, stdout=full, stderr=subprocess.PIPE,
-                                         timeout=20)
-                self.assertEqual((ran.stderr, ran.returncode), (b"", 7))
 
 
 if __name__ == "__main__":

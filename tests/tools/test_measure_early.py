@@ -6,7 +6,6 @@ import re
 import sys
 import tempfile
 import unittest
-from pathlib import Path
 
 import support
 
@@ -72,11 +71,9 @@ class Tool(unittest.TestCase):
     def test_a_plan_that_ends_too_late_is_told(self) -> None:
         """A program that gives each script the plan of another one, which ends later than its certificate says."""
         with tempfile.TemporaryDirectory() as folder:
-            program = Path(folder) / "program"
             plan = "ONFIPLAN 1\\nfinish 9\\nbelow 8\\nONFICERT 3 remember\\nU"
-            program.write_text(f"#!{sys.executable}\nimport sys\nprint('{plan}' if 'plan' in sys.argv else 'within 9 8')\n")
-            program.chmod(0o755)
-            said = support.run_tool("bench", "early", str(program), "--small", "1", "--scripts", "0", "--slack", "0", "--jobs", "1")
+            program = support.executable(folder, f"#!{sys.executable}\nimport sys\nprint('{plan}' if 'plan' in sys.argv else 'within 9 8')\n")
+            said = support.run_tool("bench", "early", program, "--small", "1", "--scripts", "0", "--slack", "0", "--jobs", "1")
         self.assertEqual((said.returncode, said.stdout), (1, ""))
         self.assertTrue(said.stderr.startswith("bench early: "), said.stderr)
 

@@ -2,12 +2,9 @@
 
 from __future__ import annotations
 
-import os
-import stat
 import sys
 import tempfile
 import unittest
-from pathlib import Path
 from typing import List, Tuple
 
 import support
@@ -37,10 +34,8 @@ print(f"ONFIPLAN 1\\nfinish {{finish}}\\ngroup 0 0 1\\nONFICERT {{'3 remember' i
 def measured(plain_nodes: int = 37, nodes: int = 3, finish: int = 7, accepted: int = 7) -> Tuple[int, str, str]:
     """Status, output and errors of the tool on a program that opens so many nodes."""
     with tempfile.TemporaryDirectory() as folder:
-        program = Path(folder) / "program"
-        program.write_text(PROGRAM.format(python=sys.executable, plain_nodes=plain_nodes, nodes=nodes, finish=finish, accepted=accepted))
-        os.chmod(program, stat.S_IRWXU)
-        said = support.run_tool("bench", "remember", str(program), "5", "--scripts", "4", "--chains", "0")
+        text = PROGRAM.format(python=sys.executable, plain_nodes=plain_nodes, nodes=nodes, finish=finish, accepted=accepted)
+        said = support.run_tool("bench", "remember", support.executable(folder, text), "5", "--scripts", "4", "--chains", "0")
     return said.returncode, said.stdout, said.stderr
 
 

@@ -2,12 +2,13 @@
 
 from __future__ import annotations
 
+import os
 import re
 import subprocess
 import tempfile
 import unittest
 from pathlib import Path
-from typing import List, NamedTuple, Sequence, Union
+from typing import List, NamedTuple, Sequence, Tuple, Union
 
 import support
 from onfi_tools.cases import read_cases
@@ -47,21 +48,24 @@ class WrongWords(unittest.TestCase):
         for text in told:
             self.assertIn(text, found.said)
 
-    def test_a_misspelt_command_is_told_the_right_one(self) -> None:
-        self.assert_refused(["plna"], "'plna'", "tip:", "'plan'")
-        self.assert_refused(["chekc"], "'chekc'", "tip:", "'check'")
+    # A misspelt word, an option before its command, no command, a value out of its range or none, options that exclude each other, too many.
+    WORDS: List[Tuple[str, List[str]]] = [
+        ("plna", ["'plna'", "tip:", "'plan'"]), ("chekc", ["'chekc'", "tip:", "'check'"]),
+        ("plan --trase", ["'--trase'", "tip:", "'--trace'"]), ("plan --request", ["'--request'", "tip:", "'--requests'"]),
+        ("plan --worker 2", ["'--worker'", "tip:", "'--workers'"]), ("check --remeber", ["'--remeber'", "tip:", "'--remember'"]),
+        ("check --legl", ["'--legl'", "tip:", "'--legal'"]), ("run --limt 2", ["'--limt'", "tip:", "'--limit'"]),
+        ("--limit 7 plan", ["'--limit'", "'plan --limit'"]), ("", ["'plan', 'check', 'run' or 'device'", "--help"]),
+        *((f"{command} --limit={value}", ["'--limit'", "1 to 1048576"]) for command in ("plan", "run")
+          for value in ("0", "1048577", "x", "", "+7", "99999999999999999999")),
+        *((f"plan --workers {value}", ["'--workers'", "1 to 8"]) for value in ("0", "9", "two")),
+        ("plan --limit", ["a value is required", "--limit <N>"]),
+        ("plan --workers 2 --remember", ["'--workers'", "'--remember'"]), ("check --legal --remember", ["'--legal'", "'--remember'"]),
+        ("plan a b", ["'b'"]), ("check a b c", ["'c'"]), ("plan --trace --trace", ["'--trace'"]),
+    ]
 
-    def test_a_misspelt_option_is_told_the_right_one(self) -> None:
-        for words, right in ((["plan", "--trase"], "'--trace'"), (["plan", "--request"], "'--requests'"),
-                             (["plan", "--worker", "2"], "'--workers'"), (["check", "--remeber"], "'--remember'"),
-                             (["check", "--legl"], "'--legal'"), (["run", "--limt", "2"], "'--limit'")):
-            self.assert_refused(words, f"'{words[1]}'", "tip:", right)
-
-    def test_an_option_before_the_command_is_told_its_place(self) -> None:
-        self.assert_refused(["--limit", "7", "plan"], "'--limit'", "'plan --limit'")
-
-    def test_no_command_is_told_the_four(self) -> None:
-        self.assert_refused([], "'plan', 'check', 'run' or 'device'", "--help")
+    def test_what_is_wrong_is_told(self) -> None:
+        for words, told in self.WORDS:
+            self.assert_refused(words.split(), *told)
 
     def test_no_word_is_tipped_to_be_passed_as_a_file(self) -> None:
         for words in (["plan", "-1"], ["plan", "--limit", "-1"], ["check", "--legl"], ["run", "--x"], ["--x"]):
@@ -71,38 +75,17 @@ class WrongWords(unittest.TestCase):
             self.assertNotIn("\n\n\n", found.said)
             self.assertTrue(found.said.endswith("\n\nFor more information, try '--help'.\n"), found.said)
 
-    def test_a_value_out_of_its_range_is_told_the_range(self) -> None:
-        for value in ("0", "1048577", "x", "", "+7", "99999999999999999999"):
-            self.assert_refused(["plan", "--limit", value], "'--limit'", "1 to 1048576")
-            self.assert_refused(["run", "--limit", value], "'--limit'", "1 to 1048576")
-        for value in ("0", "9", "two"):
-            self.assert_refused(["plan", "--workers", value], "'--workers'", "1 to 8")
-
-    def test_a_missing_value_is_told(self) -> None:
-        self.assert_refused(["plan", "--limit"], "a value is required", "--limit <N>")
-
-    def test_options_that_exclude_each_other_are_told_both(self) -> None:
-        self.assert_refused(["plan", "--workers", "2", "--remember"], "'--workers'", "'--remember'")
-        self.assert_refused(["check", "--legal", "--remember"], "'--legal'", "'--remember'")
-
-    def test_a_word_too_many_and_an_option_twice_are_told(self) -> None:
-        self.assert_refused(["plan", "a", "b"], "'b'")
-        self.assert_refused(["check", "a", "b", "c"], "'c'")
-        self.assert_refused(["plan", "--trace", "--trace"], "'--trace'")
-
-    def test_control_characters_are_shown_escaped(self) -> None:
-        for words in (["\x1b[31mplan"], ["plan", "--\x1b[31m"], ["plan", "\x1b[31m"], ["plan", "a", "\x07b"], ["plan", "--limit=3\x7f"]):
+    def test_what_is_no_plain_text_is_shown_escaped(self) -> None:
+        """Control characters, and bytes that are no text."""
+        escaped: List[List[Word]] = [["\x1b[31mplan"], ["plan", "--\x1b[31m"], ["plan", "\x1b[31m"], ["plan", "a", "\x07b"], ["plan", "--limit=3\x7f"],
+                                     [b"\xff"], [b"plan", b"\xff\xfe"], [b"plan", b"--limit", b"7\x80"], [b"plan", b"--\x9b31m"]]
+        for words in escaped:
             found = ran(*words)
             self.assertEqual((found.output, found.status), ("", REFUSED_WORDS))
             self.assertIsNone(UNSAFE.search(found.said), found.said)
             self.assertIn("error: ", found.said)
-
-    def test_bytes_that_are_no_text_are_shown_escaped(self) -> None:
-        for words in ([b"\xff"], [b"plan", b"\xff\xfe"], [b"plan", b"--limit", b"7\x80"], [b"plan", b"--\x9b31m"]):
-            found = ran(*words)
-            self.assertEqual((found.output, found.status), ("", REFUSED_WORDS))
-            self.assertIsNone(UNSAFE.search(found.said), found.said)
-            self.assertRegex(found.said, r"\\x(ff|80|9b)")
+            if isinstance(words[0], bytes):
+                self.assertRegex(found.said, r"\\x(ff|80|9b)")
 
 
 @unittest.skipUnless(support.program(), "no built program")
@@ -301,9 +284,17 @@ def is_quiet(arguments: List[bytes]) -> bool:
 @unittest.skipUnless(support.program(), "no built program")
 class Streams(unittest.TestCase):
     GIVEN = ((["plan"], b"bsu,0\nend\n"), (["plan", "--limit", "1"], b""), (["check"], BATCH.read_bytes()), (["run"], b"x"))
+    ANSWERED = [(words.split(), given) for words in ("plan", "plan --trace", "check", "check --remember") for given in (b"", BATCH.read_bytes())]
+
+    def test_nothing_is_said_where_a_read_fails(self) -> None:
+        folder = os.open(support.ROOT, os.O_RDONLY)
+        for words, _ in self.ANSWERED:
+            done = subprocess.run([str(support.program()), *words], stdin=folder, capture_output=True, timeout=SECONDS)
+            self.assertEqual((done.stdout, done.stderr, done.returncode), (b"", b"", FAILED_STREAM), words)
+        os.close(folder)
 
     def test_nothing_is_said_where_the_answer_cannot_be_written(self) -> None:
-        for words, given in self.GIVEN:
+        for words, given in (*self.GIVEN, *self.ANSWERED):
             with open("/dev/full", "wb") as full:
                 done = subprocess.run([str(support.program()), *words], input=given, stdout=full, stderr=subprocess.PIPE, timeout=SECONDS)
             self.assertEqual((done.stderr, done.returncode), (b"", FAILED_STREAM), words)

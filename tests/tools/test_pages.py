@@ -1,11 +1,13 @@
-"""The pages: links and anchors, files that they name, lengths of cells, and what READ-FIRST counts."""
+"""The pages: links and anchors, files that they name, lengths of cells, what READ-FIRST counts; the manual page, refusals, and what tests show."""
 
 from __future__ import annotations
 
 import re
+import subprocess
+import tempfile
 import unittest
 from pathlib import Path
-from typing import Iterator, List, Set
+from typing import List, Set
 
 import support
 from definitions import Definitions, Key, is_code
@@ -16,6 +18,10 @@ PAGES = [ROOT / "README.md", ROOT / "CONTRIBUTING.md", *sorted((ROOT / "docs").g
 LINK = re.compile(r"\]\(([^)\s]+)\)")
 # Files of the repository as pages name them; those with capital words or dots are forms of names.
 FILE = re.compile(r"(?<![\w/.-])(?:tools|examples|docs|tests|python|include)/[\w./-]*\w")
+
+MANUAL = ROOT / "docs/onfi_sim.1"
+TESTING = (ROOT / "docs/TESTING.md").read_text()
+CLAIMS = (ROOT / "docs/CLAIMS.md").read_text()
 
 
 def anchors_of(page: Path) -> Set[str]:
@@ -32,12 +38,6 @@ def is_there(target: Path, anchor: str) -> bool:
     return not anchor or anchor in anchors_of(target)
 
 
-def cells_of(page: Path) -> Iterator[List[str]]:
-    for line in page.read_text().splitlines():
-        if line.startswith("|") and not re.match(r"\|[\s:|-]+\|$", line):
-            yield [cell.strip() for cell in line.strip("| ").split(" | ")]
-
-
 class Links(unittest.TestCase):
     def test_each_leads_somewhere(self) -> None:
         found = 0
@@ -51,7 +51,7 @@ class Links(unittest.TestCase):
         self.assertGreater(found, 150)
 
     def test_the_files_that_pages_name_are_there(self) -> None:
-        for page in [*PAGES, ROOT / "docs/onfi_sim.1"]:
+        for page in [*PAGES, MANUAL]:
             for name in FILE.findall(page.read_text().replace("\\-", "-")):
                 self.assertTrue((ROOT / name).exists() or (ROOT / (name + ".py")).exists(), f"{page.name}: {name}")
 
@@ -71,7 +71,7 @@ class Links(unittest.TestCase):
 class Cells(unittest.TestCase):
     def test_cells_are_short(self) -> None:
         for page in (ROOT / "README.md", ROOT / "docs/READ-FIRST.md"):
-            for cells in cells_of(page):
+            for cells in support.cells_of(page.read_text()):
                 for cell in cells:
                     words = re.sub(r"\]\([^)]*\)", "]", cell).split()
                     self.assertLessEqual(len(words), 30, f"{page.name}: {cell}")
@@ -146,6 +146,103 @@ class Counts(unittest.TestCase):
     def is_about(self, count: int, said: str, name: str) -> None:
         number = int(said.replace(",", ""))
         self.assertLessEqual(abs(count - number), number / 20, f"{name}: {count}")
+
+
+def shown(page: str) -> List[str]:
+    """The lines of a manual page's examples, as a reader sees them."""
+    blocks = re.findall(r"^\.EX\n(.*?)^\.EE\n", page, re.MULTILINE | re.DOTALL)
+    return [re.sub(r"\\f[BR]", "", line).replace("\\-", "-") for block in blocks for line in block.splitlines()]
+
+
+class Manual(unittest.TestCase):
+    @unittest.skipUnless(support.program(), "no built program")
+    def test_its_examples_print_what_is_written(self) -> None:
+        lines = shown(MANUAL.read_text())
+        commands = [line[2:] for line in lines if line.startswith("$ ")]
+        self.assertGreaterEqual(len(commands), 6)
+        with tempfile.TemporaryDirectory() as folder:
+            (Path(folder) / "examples").symlink_to(ROOT / "examples")
+            (Path(folder) / "onfi_sim").symlink_to(Path(str(support.program())).resolve())
+            script = "PATH=.:$PATH\n" + "\n".join(f"echo '$ {line}'\n{line}" for line in commands)
+            ran = subprocess.run(script, shell=True, capture_output=True, text=True, cwd=folder)
+        self.assertEqual((ran.stdout.splitlines(), ran.stderr), (lines, ""))
+
+    @unittest.skipUnless(support.program(), "no built program")
+    def test_it_names_what_help_names(self) -> None:
+        page = MANUAL.read_text().replace("\\-", "-")
+        commands = ["plan", "check", "run"]
+        asked: List[List[str]] = [[], *([word] for word in commands)]
+        texts = [support.run_program(*words, "--help", given="").stderr for words in asked]
+        options = set(re.findall(r"--\w+", "".join(texts)))
+        self.assertGreater(len(options), 8)
+        for word in [*commands, *options]:
+            self.assertIn(word, page)
+
+    @unittest.skipUnless(support.program(), "no built program")
+    def test_any_number_of_workers_gives_the_same_plan(self) -> None:
+        for user in ("firmware", "simulator", "test-bench"):
+            script = (ROOT / "examples" / user / "batch.onfi").read_text()
+            plans = {support.run_program("plan", "--workers", workers, given=script).stdout for workers in "1248"}
+            self.assertEqual(len(plans), 1, user)
+            self.assertIn("ONFICERT", plans.pop())
+
+
+class Refusals(unittest.TestCase):
+    def test_each_has_something_to_do(self) -> None:
+        text = re.sub(r"^```.*?^```$", "", (ROOT / "docs/FORMATS.md").read_text(), flags=re.MULTILINE | re.DOTALL)
+        list_of_them = text.split("### Refusals")[1].split("### What to do")[0] + text.split("## Checks")[1]
+        to_do = text.split("### What to do")[1].split("## Plans")[0]
+        names = set(re.findall(r"\b[A-Z][a-z]+(?:[A-Z][a-z]+)*\b", " ".join(re.findall(r"`([^`]+)`", list_of_them))))
+        self.assertGreater(len(names), 30)
+        told_as_a_range = {"Trailing", "Width", "BoundLow", "YieldNoFit", "YieldLoop"}
+        for name in names - told_as_a_range - {"Page", "Geometry", "Sheet", "Problem", "LUN"}:
+            self.assertRegex(to_do, rf"`[^`]*\b{name}\b[^`]*`")
+
+
+def rows_of(page: str, heading: str) -> List[List[str]]:
+    return list(support.cells_of(re.split(r"\n##+ ", page.split(f"## {heading}\n")[1])[0]))[1:]
+
+
+class Testing(unittest.TestCase):
+    def test_each_part_of_the_gate_has_a_row(self) -> None:
+        rows = rows_of(TESTING, "What finds what")
+        self.assertGreater(len(rows), 12)
+        run_by = " ".join(row[-1] for row in rows)
+        for name, words in support.load("gate").PARTS:
+            tool = " ".join(words[:2]) if words[0] == "rt" or "--streams" in words else words[0]
+            self.assertIn(f"`{tool}", run_by, name)
+
+    def test_each_measure_has_a_row(self) -> None:
+        names = [path.stem for path in (ROOT / "tools/onfi_tools/bench").glob("*.py") if "def words(" in path.read_text()]
+        self.assertGreater(len(names), 7)
+        for name in [*(f"bench {name}" for name in names), "fuzz", "soak"]:
+            self.assertIn(f"`tools/{name}", TESTING)
+
+    def test_what_only_tests_show_is_by_what_is_there(self) -> None:
+        rows = rows_of(CLAIMS, "What is only tested")
+        self.assertGreater(len(rows), 10)
+        pages = {path.name for path in (ROOT / "tests").glob("*/*.cases")}
+        for row in rows:
+            self.assertTrue(row[1], row[0])
+            for name in re.findall(r"`(onfi_\w+)`", row[1]):
+                self.assertTrue((ROOT / "crates" / name).is_dir(), name)
+            for name in re.findall(r"`([\w-]+\.cases)`", row[1]):
+                self.assertIn(name, pages)
+
+    def test_hostile_names_what_is_there(self) -> None:
+        names = re.findall(r"`([\w-]+\.(?:cases|py))`", (ROOT / "docs/HOSTILE.md").read_text())
+        self.assertGreater(len(names), 8)
+        there = {path.name for path in (ROOT / "tests").glob("*/*")}
+        for name in names:
+            self.assertIn(name, there)
+
+    def test_cases_that_show_a_mistake_are_there(self) -> None:
+        rows = rows_of(CLAIMS, "Choice and weights: shown by a case alone")
+        titles = "\n".join(path.read_text() for path in (ROOT / "tests").glob("*/*.cases"))
+        found = [name.removesuffix(" ..") for row in rows for name in re.findall(r": `([^`]+)`", row[1])]
+        self.assertGreater(len(found), 8)
+        for name in found:
+            self.assertIn(name, titles)
 
 
 if __name__ == "__main__":

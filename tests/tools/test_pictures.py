@@ -280,26 +280,18 @@ def value_at(changes: List[Change], signal: str, time: int) -> str:
 
 
 class Dumps(unittest.TestCase):
-    def test_each_phase_has_the_bus_and_its_lun(self) -> None:
-        for name in support.SCRIPTS:
-            phases = support.trace(name)
-            _, changes = read_vcd(vcd.picture(phases, support.lengths(name)))
-            for phase in phases:
-                for time in (phase.start, phase.end - 1):
-                    self.assertEqual(value_at(changes, "channel.bus_owner", time), f"{phase.lun:03b}")
-                    code = vcd.CODES[part_of(phase)]
-                    self.assertEqual(value_at(changes, f"channel.lun{phase.lun}.phase", time), f"{code:03b}")
-                    self.assertEqual(value_at(changes, f"channel.lun{phase.lun}.ready", time), "1")
-
-    def test_kind_block_and_page_of_each_phase(self) -> None:
+    def test_what_each_phase_shows(self) -> None:
+        """It has the bus and its LUN, with kind, block and page; nobody has the bus between phases."""
         for name in support.SCRIPTS:
             phases = support.trace(name)
             variables, changes = read_vcd(vcd.picture(phases, support.lengths(name)))
             self.assertEqual(len({*variables}), 1 + 5 * len(by_lun(phases)))
-            for phase in phases:
-                for time in (phase.start, phase.end - 1):
-                    told = [value_at(changes, f"channel.lun{phase.lun}.{signal}", time) for signal in ("kind", "block", "page")]
-                    self.assertEqual([int(it, 2) for it in told], [KINDS.index(phase.kind), phase.block, phase.page])
+            for phase, time in ((phase, time) for phase in phases for time in (phase.start, phase.end - 1)):
+                told = [value_at(changes, f"channel.lun{phase.lun}.{signal}", time) for signal in ("phase", "ready", "kind", "block", "page")]
+                self.assertEqual(value_at(changes, "channel.bus_owner", time), f"{phase.lun:03b}")
+                self.assertEqual([int(it, 2) for it in told], [vcd.CODES[part_of(phase)], 1, KINDS.index(phase.kind), phase.block, phase.page])
+            for end in {phase.end for phase in phases} - {phase.start for phase in phases}:
+                self.assertEqual(value_at(changes, "channel.bus_owner", end), "zzz")
 
     def test_an_idle_lun_has_no_kind_and_no_page(self) -> None:
         _, changes = read_vcd(vcd.picture(support.trace("batch"), support.lengths("batch")))
@@ -307,14 +299,6 @@ class Dumps(unittest.TestCase):
             self.assertEqual(value_at(changes, "channel.lun0.kind", time), kind)
         for time, block in ((0, "z" * 16), (140, "0" * 16), (280, "z" * 16), (880, "0" * 15 + "1"), (1020, "z" * 16)):
             self.assertEqual(value_at(changes, "channel.lun0.block", time), block)
-
-    def test_the_bus_is_nobodys_between_phases(self) -> None:
-        for name in support.SCRIPTS:
-            phases = support.trace(name)
-            _, changes = read_vcd(vcd.picture(phases, None))
-            starts = {phase.start for phase in phases}
-            for end in {phase.end for phase in phases} - starts:
-                self.assertEqual(value_at(changes, "channel.bus_owner", end), "zzz")
 
     def test_ready_falls_for_gap_and_array_time(self) -> None:
         _, changes = read_vcd(vcd.picture(support.trace("batch"), support.lengths("batch")))
@@ -338,32 +322,20 @@ class Dumps(unittest.TestCase):
 
 
 class Events(unittest.TestCase):
-    def test_the_bus_track_is_the_trace(self) -> None:
-        for name in support.SCRIPTS:
+    def test_tracks_fields_and_times(self) -> None:
+        """The bus's track is the trace; the events of a track don't overlap."""
+        for name, lengths in ((name, lengths) for name in support.SCRIPTS for lengths in (None, support.lengths(name))):
             phases = support.trace(name)
-            told = json.loads(perfetto.picture(phases, support.lengths(name)))
-            self.assertEqual(told["displayTimeUnit"], "ns")
-            bus = [event for event in told["traceEvents"] if event["ph"] == "X" and event["tid"] == perfetto.BUS]
-            self.assertEqual([(event["args"]["start"], event["args"]["end"], event["args"]["opener"]) for event in bus],
+            told = json.loads(perfetto.picture(phases, lengths))
+            self.assertEqual((told["displayTimeUnit"], {event["ph"] for event in told["traceEvents"]}), ("ns", {"M", "X"}))
+            tracks: Dict[int, List[Dict[str, int]]] = {event["tid"]: [] for event in told["traceEvents"] if event["name"] == "thread_name"}
+            for event in (event for event in told["traceEvents"] if event["ph"] == "X"):
+                self.assertEqual([round(event[part] * 1000) for part in ("ts", "dur")], [event["args"]["start"], event["args"]["end"] - event["args"]["start"]])
+                tracks[event["tid"]].append(event["args"])
+            self.assertEqual([(event["start"], event["end"], event["opener"]) for event in tracks[perfetto.BUS]],
                              [(phase.start, phase.end, phase.opener) for phase in phases])
-
-    def test_fields_and_times(self) -> None:
-        for name in support.SCRIPTS:
-            events = json.loads(perfetto.picture(support.trace(name), None))["traceEvents"]
-            tracks = {event["tid"] for event in events if event["name"] == "thread_name"}
-            for event in events:
-                self.assertIn(event["ph"], ("M", "X"))
-                self.assertIn(event["tid"], tracks | {0})
-                if event["ph"] == "X":
-                    self.assertEqual(round(event["ts"] * 1000), event["args"]["start"])
-                    self.assertEqual(round(event["dur"] * 1000), event["args"]["end"] - event["args"]["start"])
-
-    def test_events_of_a_track_do_not_overlap(self) -> None:
-        events = json.loads(perfetto.picture(support.trace("batch"), support.lengths("batch")))["traceEvents"]
-        for track in (1, 2, 3):
-            own = [event["args"] for event in events if event["ph"] == "X" and event["tid"] == track]
-            self.assertGreater(len(own), 2)
-            self.assertTrue(all(one["end"] <= other["start"] for one, other in zip(own, own[1:])))
+            for own in tracks.values():
+                self.assertTrue(len(own) > 1 and all(one["end"] <= other["start"] for one, other in zip(own, own[1:])))
 
 
 class Commands(unittest.TestCase):

@@ -1,4 +1,4 @@
-"""The plain policies of tools/bench worth: worked schedules, and legality by a checker of this file."""
+"""The plain policies of tools/bench worth: worked schedules, and drawn ones that the program judges."""
 
 from __future__ import annotations
 
@@ -10,50 +10,9 @@ import support
 from onfi_tools.device import Spans
 from onfi_tools.drawn import USUAL, any_lengths, drawn_wants
 from onfi_tools.policies import (RANKS, Device, Group, Planned, Policy, Want, best_of_ranks, by_commands, by_posts, by_reads, first_in_first_out,
-                                 is_group, left_of, ranked, round_robin, round_robin_commands_first, script_of)
+                                 left_of, ranked, round_robin, round_robin_commands_first, script_of)
 
 WAYS: Tuple[Policy, ...] = (first_in_first_out, round_robin, round_robin_commands_first, best_of_ranks)
-
-
-def phases_of(group: Group) -> List[Tuple[int, int, int]]:
-    """Start, end and the wait that stands before it, of each phase."""
-    size, spans = len(group.members), group.spans
-    lengths = [spans.cmd] * size + [spans.post] * size
-    waits = [0] + [spans.gap] * (size - 1) + [spans.array] + [0] * (size - 1)
-    return [(start, start + length, wait) for start, length, wait in zip(group.starts, lengths, waits)]
-
-
-def faults(device: Device, wants: List[Want], planned: Planned) -> List[str]:
-    """The conditions of a legal schedule that this one breaks, on an idle device."""
-    found = []
-    numbers = sorted(want.number for group in planned.groups for want in group.members)
-    if numbers != [want.number for want in wants]:
-        found.append("each request in one group")
-    runs = [phases_of(group) for group in planned.groups]
-    if any(len(run) != 2 * len(group.members) for run, group in zip(runs, planned.groups)):
-        found.append("a start for each phase")
-    bus = sorted(phase for run in runs for phase in run)
-    if any(one[1] > other[0] for one, other in zip(bus, bus[1:])):
-        found.append("no overlap on the bus")
-    if any(one[1] + other[2] > other[0] for run in runs for one, other in zip(run, run[1:])):
-        found.append("waits")
-    if not all(is_group(device, group.members) for group in planned.groups):
-        found.append("groups")
-    return found + faults_of_order(planned, runs)
-
-
-def faults_of_order(planned: Planned, runs: List[List[Tuple[int, int, int]]]) -> List[str]:
-    found = []
-    spans = [(group, run[0][0], run[-1][1]) for group, run in zip(planned.groups, runs)]
-    for one, begin, end in spans:
-        for other, later, _ in spans:
-            if one is not other and one.members[0].lun == other.members[0].lun and begin <= later < end:
-                found.append("one group of a LUN at a time")
-            before = [(a, b) for a in one.members for b in other.members
-                      if (a.lun, a.block) == (b.lun, b.block) and a.number < b.number]
-            if before and end > later:
-                found.append("order on a block")
-    return found
 
 
 def drawn(rng: random.Random) -> Tuple[Device, List[Want]]:
@@ -113,16 +72,17 @@ class Worked(unittest.TestCase):
         self.assertEqual(script_of(self.device, self.wants), (support.ROOT / "examples/batch.onfi").read_text())
 
 
-class Legal(unittest.TestCase):
-    def test_all_ways_on_drawn_batches(self) -> None:
+class Drawn(unittest.TestCase):
+    @unittest.skipUnless(support.program(), "no built program")
+    def test_all_ways_are_legal(self) -> None:
+        """By the program, which gives the finish too."""
         rng = random.Random(7)
-        for _ in range(500):
+        for _ in range(100):
             device, wants = drawn(rng)
             for way in WAYS:
                 planned = way(device, wants)
-                ends = [phase[1] for group in planned.groups for phase in phases_of(group)]
-                self.assertEqual(faults(device, wants, planned), [])
-                self.assertEqual(planned.finish, max(ends, default=0))
+                given = script_of(device, wants) + planned.text()
+                self.assertEqual(support.run_program("check", "--legal", given=given).stdout, f"legal {planned.finish}\n", given)
 
     def test_the_best_is_none_of_the_worse(self) -> None:
         rng = random.Random(8)
@@ -131,15 +91,6 @@ class Legal(unittest.TestCase):
             finishes = [ranked(device, wants, rank).finish for rank in RANKS]
             finishes += [round_robin(device, wants).finish, round_robin_commands_first(device, wants).finish]
             self.assertEqual(best_of_ranks(device, wants).finish, min(finishes))
-
-    def test_the_checker_of_this_file_sees_faults(self) -> None:
-        device, wants = Worked.device, Worked.wants
-        for at, start, fault in ((1, 700, "waits"), (2, 30000, "no overlap on the bus")):
-            planned = round_robin(device, wants)
-            planned.groups[0].starts[at] = start
-            self.assertIn(fault, faults(device, wants, planned))
-        planned = round_robin(device, wants)
-        self.assertIn("each request in one group", faults(device, wants + [Want(3, "read", 1, 1, 0)], planned))
 
     @unittest.skipUnless(support.program(), "no built program")
     def test_the_measurement(self) -> None:

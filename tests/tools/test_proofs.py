@@ -8,13 +8,95 @@ from pathlib import Path
 from typing import Dict, List, NamedTuple, Set, Tuple
 
 import support
-import test_claims
-from definitions import Definitions
+from definitions import WORD, Definitions, Key, uses_of
 
 PAGE = support.ROOT / "docs/PROOFS.md"
 LINK = re.compile(r"\]\(\.\./(crates/[^)#]+)\)")
 NAME = re.compile(r"`(\w+)`")
 IMPORT = re.compile(r"^use Rattle\.(onfi_\w+)\.proofs\.([\w.]+)", re.MULTILINE)
+NAMED = re.compile(r"`([A-Za-z_]\w*(?:::\w+)*)`(?! of (?:std|the kit))")
+# An abbreviation of what the clause says.
+STANDS_FOR = {"IsAnswer": "IsAnswerBy"}
+CALL = re.compile(r"^\s*(?:pub(?:\(\w+\))? )?(?:unsafe )?(?:extern \"C\" )?fn (\w+)")
+TYPE = re.compile(r"^\s*(?:pub(?:\(\w+\))? )?(?:struct|enum|trait) (\w+)")
+
+
+class Clause(NamedTuple):
+    path: str
+    within: str
+    owner: str
+    word: str
+    name: str
+    cites: Set[Key]
+
+
+class Further(NamedTuple):
+    """A row of the second table of promises."""
+
+    crate: str
+    path: Path
+    promise: str
+    clause: str
+    definition: str
+
+
+class Sources:
+    """The contracts of a crate's functions, and the ghost parts of its types."""
+
+    def __init__(self, crate: str, definitions: Definitions) -> None:
+        self.clauses: List[Clause] = []
+        self.names: Set[str] = set()
+        self.calls: Set[str] = set()
+        for path in sorted((support.ROOT / "crates" / crate / "src").glob("**/*.rt")):
+            self.read(path, definitions)
+
+    def read(self, path: Path, definitions: Definitions) -> None:
+        text = path.read_text()
+        taken, whole = uses_of(text)
+        within, owner, word, name, body = "", "", "", "", ""
+        for line in text.splitlines() + ["fn end"]:
+            call, kind, block = CALL.match(line), TYPE.match(line), re.match(r"impl\b.*?(\w+)(?:<[^{]*)? \{", line)
+            within = block.group(1) if block else within
+            clause = re.match(r"\s*(ensures|requires\*?|(?:pub )?ghost)\b(?: (\w+))?", line)
+            if call or kind or clause or line.strip() in ("{", "}"):
+                if word:
+                    cites = cited(body, taken, whole, definitions)
+                    self.clauses.append(Clause(path.name, within, owner, word, name, cites))
+                word, name, body = "", "", ""
+            if call or kind:
+                owner = (call or kind).group(1)  # type: ignore[union-attr]
+                self.names.add(owner)
+                self.calls |= {owner} if call else set()
+            if clause:
+                word, name = clause.group(1), clause.group(2) or ""
+                self.names.add(name)
+            if word:
+                body += line + "\n"
+
+    def under(self, named: List[str]) -> Set[Key]:
+        """What the named clauses cite; of a call without a named clause, and of a type alone, all that they promise."""
+        owners = {part for name in named for part in name.split("::")}
+        by_name = {clause.owner for clause in self.clauses if clause.name in named}
+        types = set() if owners & self.calls else owners
+        chosen = [clause for clause in self.clauses
+                  if clause.name in named or clause.owner in owners - by_name or clause.within in types - by_name]
+        return {key for clause in chosen for key in clause.cites}
+
+
+def cited(body: str, taken: Dict[str, Key], whole: Dict[str, Tuple[str, str]], definitions: Definitions) -> Set[Key]:
+    keys = [taken[word] for word in set(WORD.findall(body)) if word in taken]
+    keys += [(*module, word) for alias, module in whole.items() for word in re.findall(rf"\b{alias}\.(\w+)", body)]
+    return {found for key in keys for found in definitions.resolve(key)}
+
+
+def rows_of_further(text: str) -> List[Further]:
+    """The second table of promises: crate and file, promise, clauses, definitions."""
+    rows: List[Further] = []
+    for cells in support.cells_of(text.split("### Further promises\n")[1].split("\n## ")[0]):
+        link = re.fullmatch(r"\[(onfi_\w+)\]\(\.\./(crates/\1/src/[\w/]+\.rt)\): (.*)", cells[0])
+        if link and len(cells) == 3:
+            rows.append(Further(link[1], support.ROOT / link[2], link[3], *cells[1:]))
+    return rows
 
 
 class Row(NamedTuple):
@@ -26,8 +108,7 @@ class Row(NamedTuple):
 
 def rows_of(text: str) -> List[Row]:
     section = text.split("## From promise to proof")[1].split("\n### ")[0]
-    cells = [[cell.strip() for cell in line.strip("|").split(" | ")] for line in section.splitlines() if line.startswith("| ")]
-    return [Row(*row) for row in cells[1:]]
+    return [Row(*row) for row in list(support.cells_of(section))[1:]]
 
 
 def parts_of(cell: str) -> List[Tuple[List[str], Path]]:
@@ -99,14 +180,14 @@ class Proofs(unittest.TestCase):
         for row in self.rows:
             behind = set()
             for names, path in parts_of(row.clause):
-                source = test_claims.Sources(crate_of(path), self.definitions)
+                source = Sources(crate_of(path), self.definitions)
                 behind |= self.definitions.below(source.under(names))
             parts = parts_of(row.definition)
             self.assertTrue(parts, row.promise)
             for names, path in parts:
                 self.assertTrue(names, row.promise)
                 for name in names:
-                    named = {(crate_of(path), path.stem, word) for word in (name, test_claims.STANDS_FOR.get(name, name))}
+                    named = {(crate_of(path), path.stem, word) for word in (name, STANDS_FOR.get(name, name))}
                     self.assertTrue(named & set(self.definitions.found), f"{row.promise}: {name}")
                     self.assertTrue(named & behind, f"{row.promise}: {name}")
 
@@ -147,6 +228,43 @@ class Proofs(unittest.TestCase):
         for name in ("lemma_2", "helper", "aux"):
             self.assertIn(f"`{name}`", bad)
             self.assertFalse(any(re.search(rf"(?m)^(?:pub )?{name} : ", text) for text in statements), name)
+
+
+class FurtherPromises(unittest.TestCase):
+    definitions = Definitions()
+    sources: Dict[str, Sources] = {}
+    rows = rows_of_further(PAGE.read_text())
+
+    def source(self, crate: str) -> Sources:
+        if crate not in self.sources:
+            self.sources[crate] = Sources(crate, self.definitions)
+        return self.sources[crate]
+
+    def holds(self, row: Further) -> None:
+        """Each definition that a row names is one that its clauses rest on."""
+        cites = self.definitions.below(self.source(row.crate).under(NAMED.findall(row.clause)))
+        for name in NAMED.findall(row.definition):
+            found = self.definitions.named(name) | self.definitions.named(STANDS_FOR.get(name, name))
+            self.assertTrue(found & cites, f"{row.crate}: {row.promise}: {name}")
+
+    def test_each_row_is_read(self) -> None:
+        section = PAGE.read_text().split("### Further promises\n")[1].split("\n## ")[0]
+        self.assertEqual(len(self.rows), sum(line.startswith("| [") for line in section.splitlines()))
+
+    def test_each_call_and_clause_is_there(self) -> None:
+        self.assertGreater(len(self.rows), 50)
+        for row in self.rows:
+            parts = re.findall(r"\w+", " ".join(NAMED.findall(row.clause)))
+            self.assertTrue(parts, row.promise)
+            for part in parts:
+                self.assertIn(part, self.source(row.crate).names, f"{row.crate}: {row.promise}")
+            text = row.path.read_text()
+            self.assertTrue(any(re.search(rf"\b{part}\b", text) for part in parts), f"{row.path.name}: {row.promise}")
+
+    def test_each_definition_is_one_that_its_clause_rests_on(self) -> None:
+        for row in self.rows:
+            self.assertTrue(NAMED.search(row.definition), row.promise)
+            self.holds(row)
 
 
 if __name__ == "__main__":

@@ -6,7 +6,6 @@ import re
 import subprocess
 import tempfile
 import unittest
-from pathlib import Path
 
 import support
 
@@ -27,10 +26,8 @@ class Prototypes(unittest.TestCase):
         for name in ("bnb", "rem"):
             source = support.ROOT / "bench" / f"{name}.cpp"
             subprocess.run(["g++", "-O1", "-std=c++17", "-w", "-o", f"{room}/{name}", str(source)], check=True)
-        program = Path(room) / "program"
-        program.write_text(PROGRAM.format(room=room, more=more))
-        program.chmod(0o755)
-        return support.run_tool("bench", "plan", str(program), "--prototypes", "--rounds", "1", "--random", str(random))
+        program = support.executable(room, PROGRAM.format(room=room, more=more))
+        return support.run_tool("bench", "plan", program, "--prototypes", "--rounds", "1", "--random", str(random))
 
     def test_both_are_measured(self) -> None:
         with tempfile.TemporaryDirectory() as room:

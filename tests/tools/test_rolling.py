@@ -12,8 +12,8 @@ from typing import Dict, List, NamedTuple, Optional
 
 import support
 from onfi_tools.rolling_tables import nine_of_ten, of_bound, quick_tables, room_table, spread_table, whole_tables
-from onfi_tools.rolling_use import (ALL, OF_THE_LIBRARY, SOURCES, STRICT, TWELVE, WITH_ERASES, Asked, Configuration, Figures, Measured, Rows, build,
-                                    key_of, measure, run_way)
+from onfi_tools.rolling_use import (ALL, SOURCES, STRICT, TWELVE, WITH_ERASES, Asked, Configuration, Figures, Measured, Rows, build, key_of,
+                                    measure, run_way, sources_of)
 from onfi_tools.rolling_ways import BASE, GREEDY, PLANS, QUICK, SETTINGS, SOME, WAYS, WITHOUT_SEARCH
 
 KIT_ARCHIVE = "c/liblibc_c.a"
@@ -24,30 +24,20 @@ PROCESSOR_TIME = ("planning_us", "planning_longest_us")
 EXACT = ("plan", "plan-by-lun", "plan-reads-first")
 PARTS = """\
 nothing spoilt: legal
-accepted later: a request begins before it is accepted
 data output 1 ns sooner: the bus isn't free
 command 1 ns sooner: the LUN isn't ready
 array 1 ns sooner: the LUN isn't ready
 longer: a phase of another length than its kind has
-post for command: a post before all commands of its group
-command for post: a command behind the last of its group
-another request: a phase of another request than comes next
-another page: a group of several pages
-another kind: a group of another LUN or of several kinds
-falling planes: the planes of a group don't rise
-five members: a group has more members than there are planes
+another request: a post of another page than comes next
+another kind: a phase of another length than its kind has
 later on a block: a request begins before an earlier one on its block
 once more: a request begins that doesn't wait
-begins while its LUN runs: a group begins on a LUN that runs one
-goes on while its LUN is free: a LUN goes on that runs no group
-no LUN: no such LUN
-no groups of reads: a group of several of a kind that may have none
+accepted later: a request begins before it is accepted
 as it should be: legal
 too soon on the bus: the bus isn't free
 never: requests are left, and nothing is done
-everything: 0 1 2 3 4 5 6 7 8 9 10 11 12 13 14
-first eight: 0 1 2 3 4 5 6 7
-by LUN, one kind: 0 1 9 10 11 12 13 14
+everything: 15 up to 14
+first eight: 8 up to 7
 """
 
 
@@ -99,20 +89,16 @@ def but_for_time(figures: Figures) -> Figures:
 
 
 class Parts(unittest.TestCase):
-    def printed(self, source: str, without: List[str], *words: str) -> str:
-        """What a program prints that is made of a source here and of the simulator's without some."""
-        made = Path(ROOM.name) / source.replace(".c", "")
-        sources = [str(each) for each in sorted(SOURCES.glob("*.c")) if each.name not in without]
-        line = ["cc", *STRICT, "-fsanitize=address,undefined", "-fno-sanitize-recover=all", *words, f"-I{SOURCES}",
-                f"-I{support.ROOT / 'include'}", str(support.ROOT / "tests/tools" / source), *sources, "-lm", "-o", str(made)]
+    def test_judge_and_choice(self) -> None:
+        """Of a program that is made of a source here and of the simulator's but its main."""
+        made = Path(ROOM.name) / "rolling_parts"
+        sources = [support.ROOT / "tests/tools/rolling_parts.c", *(each for each in sources_of(False) if each.name != "main.c")]
+        line = ["cc", *STRICT, "-fsanitize=address,undefined", "-fno-sanitize-recover=all", "-DWITHOUT_LIBRARY", f"-I{SOURCES}",
+                f"-I{support.ROOT / 'include'}", *map(str, sources), "-lm", "-o", str(made)]
         told = subprocess.run(line, capture_output=True, text=True)
         self.assertEqual((told.returncode, told.stderr), (0, ""))
         ran = subprocess.run([str(made)], capture_output=True, text=True)
-        self.assertEqual((ran.returncode, ran.stderr), (0, ""))
-        return ran.stdout
-
-    def test_judge_and_choice(self) -> None:
-        self.assertEqual(self.printed("rolling_parts.c", [OF_THE_LIBRARY, "main.c"], "-DWITHOUT_LIBRARY"), PARTS)
+        self.assertEqual((ran.returncode, ran.stderr, ran.stdout), (0, "", PARTS))
 
 
 class Answered:

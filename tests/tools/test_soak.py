@@ -2,13 +2,10 @@
 
 from __future__ import annotations
 
-import os
 import random
-import stat
 import sys
 import tempfile
 import unittest
-from pathlib import Path
 from typing import Any, List, Tuple
 
 import support
@@ -81,10 +78,8 @@ def over(where: str, count: str) -> str:
 def soaked(spoilt: str, *words: str, scripts: int = 30) -> Tuple[int, str]:
     """Status and output of the tool on a program that does this with its lines before it prints them."""
     with tempfile.TemporaryDirectory() as folder:
-        program = Path(folder) / "program"
-        program.write_text(PROGRAM.format(python=sys.executable, tools=str(support.ROOT / "tools"), spoilt=spoilt))
-        os.chmod(program, stat.S_IRWXU)
-        said = support.run_tool("soak", "1", str(program), "--scripts", str(scripts), *words)
+        program = support.executable(folder, PROGRAM.format(python=sys.executable, tools=str(support.ROOT / "tools"), spoilt=spoilt))
+        said = support.run_tool("soak", "1", program, "--scripts", str(scripts), *words)
     return said.returncode, said.stdout + said.stderr
 
 
@@ -114,70 +109,51 @@ class DieModel(unittest.TestCase):
         self.assertEqual(answers(USUAL, frozenset([2]), erased), ["done", "failed", "failed", "read,*00", "failed"])
 
 
-class Soak(unittest.TestCase):
-    def assert_told(self, spoilt: str, told: str, *words: str) -> None:
-        status, said = soaked(spoilt, *words)
-        self.assertEqual(status, 1, said)
-        self.assertIn(told, said)
+BEHIND = "the lines behind the replies"
+PASSED = "30 passed, 0 failed"
+NAMED = 'assert [row[1] for row in rows if row[0] == "choice"] == ["by-lun"]'
+LEFT_OUT = """
+if "--limit" in sys.argv:
+    lines = [line[:3] + ("done" if line[3].startswith("read") else "read,*FF",) for line in lines]
+"""
+WITHIN_LIMIT = over('"--limit" in sys.argv', "sys.argv[-1]")
+# What a program does to its lines that is a difference, what is said of it, and further words.
+DIFFERENCES = {
+    "another choice than is named": (NAMED, "differences", "--choice reads-first"),
+    "a lost reply": ("lines = lines[:-1]", "or none to [(", ""),
+    "a lost reply within a limit": ('lines = lines[:1] if "--limit" in sys.argv else lines', "or none to [(", ""),
+    "an answer under the serial of another request": (LEFT_OUT, "no order of acceptance", ""),
+    "a reply twice": ("lines += lines[-1:]", "replies that don't rise", ""),
+    "a wrong answer": ('lines = [line[:3] + ("failed",) for line in lines]', "no order of acceptance", ""),
+    "a stop reported as a closing": ("stopped = {}", BEHIND, ""),
+    "a channel that plans by the best so far and is over": (over('"--limit" in sys.argv and "--within" in sys.argv', "sys.argv[-1]"), BEHIND, ""),
+    "another limit": (over('"--limit" in sys.argv', "int(sys.argv[-1]) - 1"), BEHIND, ""),
+    "a channel that is over without a limit": (over('"--limit" not in sys.argv', "1048576"), BEHIND, ""),
+    "a channel that must stop and says nothing within a limit": ('stopped = {} if "--limit" in sys.argv else stopped', BEHIND, "--only mixed --seed 2"),
+    "status 0 where a channel was over": (WITHIN_LIMIT.replace("sys.exit(6)", "sys.exit(0)"), "status 0", ""),
+    "another cause": ('stopped = dict.fromkeys(stopped, "Clock")', BEHIND, ""),
+}
 
-    def test_a_program_that_answers_as_the_model_has_no_difference(self) -> None:
-        status, said = soaked("")
-        self.assertEqual((status, said.splitlines()[-1]), (0, "30 passed, 0 failed"))
-        self.assertRegex(said, r"\n?[1-9]\d+ operations, 0 differences")
+
+class Soak(unittest.TestCase):
+    def test_what_is_no_difference(self) -> None:
+        """Answers as the model has them, a choice that stands in each script, a channel that is over within a few nodes."""
+        may_be_over = over('"--limit" in sys.argv and "--within" not in sys.argv', "sys.argv[-1]")
+        for spoilt, words in (("", ""), (NAMED, "--choice by-lun"), (may_be_over, "")):
+            status, said = soaked(spoilt, *words.split())
+            self.assertEqual((status, said.splitlines()[-1]), (0, PASSED), spoilt)
+            self.assertRegex(said, r"\n?[1-9]\d+ operations, 0 differences")
 
     def test_a_heavy_script_has_a_thousand_operations_of_each_host(self) -> None:
         status, said = soaked("", "--heavy", scripts=1)
         self.assertEqual((status, said.splitlines()), (0, ["4000 operations, 0 differences", "1 passed, 0 failed"]))
 
-    def test_a_choice_that_is_named_stands_in_each_script(self) -> None:
-        named = 'assert [row[1] for row in rows if row[0] == "choice"] == ["by-lun"]'
-        status, said = soaked(named, "--choice", "by-lun")
-        self.assertEqual((status, said.splitlines()[-1]), (0, "30 passed, 0 failed"))
-        self.assert_told(named, "differences", "--choice", "reads-first")
-
-    def test_a_lost_reply_is_told(self) -> None:
-        self.assert_told("lines = lines[:-1]", "or none to [(")
-
-    def test_a_lost_reply_within_a_limit_is_told(self) -> None:
-        self.assert_told('lines = lines[:1] if "--limit" in sys.argv else lines', "or none to [(")
-
-    def test_an_answer_under_the_serial_of_another_request_is_told(self) -> None:
-        left_out = """
-if "--limit" in sys.argv:
-    lines = [line[:3] + ("done" if line[3].startswith("read") else "read,*FF",) for line in lines]
-"""
-        self.assert_told(left_out, "no order of acceptance")
-
-    def test_a_reply_twice_is_told(self) -> None:
-        self.assert_told("lines += lines[-1:]", "replies that don't rise")
-
-    def test_a_wrong_answer_is_told(self) -> None:
-        self.assert_told('lines = [line[:3] + ("failed",) for line in lines]', "no order of acceptance")
-
-    def test_a_stop_told_as_a_closing_is_told(self) -> None:
-        self.assert_told("stopped = {}", "the lines behind the replies")
-
-    def test_a_channel_within_a_few_nodes_may_be_over(self) -> None:
-        status, said = soaked(over('"--limit" in sys.argv and "--within" not in sys.argv', "sys.argv[-1]"))
-        self.assertEqual((status, said.splitlines()[-1]), (0, "30 passed, 0 failed"))
-
-    def test_a_channel_that_plans_by_the_best_so_far_and_is_over_is_told(self) -> None:
-        self.assert_told(over('"--limit" in sys.argv and "--within" in sys.argv', "sys.argv[-1]"), "the lines behind the replies")
-
-    def test_another_limit_is_told(self) -> None:
-        self.assert_told(over('"--limit" in sys.argv', "int(sys.argv[-1]) - 1"), "the lines behind the replies")
-
-    def test_a_channel_that_is_over_without_a_limit_is_told(self) -> None:
-        self.assert_told(over('"--limit" not in sys.argv', "1048576"), "the lines behind the replies")
-
-    def test_a_channel_that_must_stop_and_says_nothing_within_a_limit_is_told(self) -> None:
-        self.assert_told('stopped = {} if "--limit" in sys.argv else stopped', "the lines behind the replies", "--only", "mixed", "--seed", "2")
-
-    def test_a_status_of_0_where_a_channel_was_over_is_told(self) -> None:
-        self.assert_told(over('"--limit" in sys.argv', "sys.argv[-1]").replace("sys.exit(6)", "sys.exit(0)"), "status 0")
-
-    def test_another_cause_is_told(self) -> None:
-        self.assert_told('stopped = dict.fromkeys(stopped, "Clock")', "the lines behind the replies")
+    def test_what_is_a_difference(self) -> None:
+        for name, (spoilt, told, words) in DIFFERENCES.items():
+            with self.subTest(name):
+                status, said = soaked(spoilt, *words.split())
+                self.assertEqual(status, 1, said)
+                self.assertIn(told, said)
 
 
 class Drawn(unittest.TestCase):

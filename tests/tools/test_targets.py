@@ -27,11 +27,6 @@ unsigned onfi_plan(void) { rattle_dealloc(rattle_realloc(rattle_alloc(0, 8).bloc
 """
 
 
-def make(*words: str) -> "subprocess.CompletedProcess[str]":
-    command = ["make", "--no-print-directory", *words]
-    return subprocess.run(command, cwd=support.ROOT, env=support.plain_environment(), capture_output=True, text=True)
-
-
 def run(*words: str) -> "subprocess.CompletedProcess[str]":
     return subprocess.run([*words], cwd=support.ROOT, capture_output=True, text=True)
 
@@ -40,13 +35,13 @@ class Makefile(unittest.TestCase):
     def test_other_processors_are_refused_before_any_proof(self) -> None:
         for goal in ("library", "wheel", "install", "install-library", "install-program"):
             for target in ("riscv64", "x86_64", "aarch64 riscv64", "aarch64-unknown-linux-gnu"):
-                told = make("-n", goal, f"TARGET={target}")
+                told = support.make("-n", goal, f"TARGET={target}")
                 self.assertEqual((told.returncode, told.stdout), (2, ""), (goal, target))
                 self.assertIn(f"nothing is proved and built for TARGET={target}: it is aarch64, or left out for x86-64.", told.stderr)
 
     def test_what_is_made_stands_in_folders_of_the_processor(self) -> None:
         asked = [f"TARGET={ARM}", "PREFIX=/nowhere"]
-        lines = make("-n", "-W", "crates.txt", "wheel", "install", *asked).stdout
+        lines = support.make("-n", "-W", "crates.txt", "wheel", "install", *asked).stdout
         for line in (
             "tools/prove static onfi_c --jobs",
             f"tools/make-library archive crates/onfi_c/out/{ARM}/libonfi_c.a targets/heap.c lib/{ARM} {ARM}\n",
@@ -62,7 +57,7 @@ class Makefile(unittest.TestCase):
                 self.assertTrue(line.endswith(f"--target {ARM}"), line)
 
     def test_without_one_all_is_as_it_was(self) -> None:
-        lines = make("-n", "-W", "crates.txt", "wheel", "install").stdout
+        lines = support.make("-n", "-W", "crates.txt", "wheel", "install").stdout
         for line in (
             "tools/make-library shared lib \n",
             "tools/make-wheel lib/libonfi.so dist\n",
@@ -81,7 +76,7 @@ class Makefile(unittest.TestCase):
             for folder in (place.parent, Path(to) / "usr/local/bin"):
                 folder.mkdir(parents=True)
                 (folder / "onfi_sim").write_text("")
-            self.assertEqual(make("uninstall", f"TARGET={ARM}", f"DESTDIR={to}").returncode, 0)
+            self.assertEqual(support.make("uninstall", f"TARGET={ARM}", f"DESTDIR={to}").returncode, 0)
             self.assertFalse(place.exists())
             self.assertTrue((Path(to) / "usr/local/bin/onfi_sim").exists())
 

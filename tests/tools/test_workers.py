@@ -5,7 +5,6 @@ from __future__ import annotations
 import subprocess
 import tempfile
 import unittest
-from pathlib import Path
 
 import support
 
@@ -86,10 +85,7 @@ int main(int count, char **words)
 def said_of(plan: str, end: str) -> "subprocess.CompletedProcess[str]":
     """What the tool says of the program with this text as its plan, and this way to end."""
     with tempfile.TemporaryDirectory() as folder:
-        source, made = Path(folder) / "program.c", str(Path(folder) / "program")
-        source.write_text(PROGRAM)
-        options = [f"-DPLAN={plan}", f"-DEND={end}", "-O1", "-w", "-rdynamic", "-pthread"]
-        subprocess.run(["cc", *options, "-o", made, str(source)], check=True)
+        made = support.compiled(folder, PROGRAM, f"-DPLAN={plan}", f"-DEND={end}", "-O1", "-w", "-rdynamic", "-pthread")
         return support.run_tool("bench", "plan", "--workers", made, "--rounds", "2", "--random", "3")
 
 

@@ -3,7 +3,6 @@
 from __future__ import annotations
 
 import csv
-import re
 import statistics
 import unittest
 from pathlib import Path
@@ -24,7 +23,7 @@ Table = Dict[str, Dict[str, str]]
 
 def table_of(lines: List[str]) -> Table:
     """The cells of a table by the first cell of their row and by their column."""
-    head, *rows = [[cell.strip() for cell in line.strip("| ").split(" | ")] for line in lines if not re.match(r"\|[\s:|-]+\|$", line)]
+    head, *rows = support.cells_of("\n".join(lines))
     return {row[0]: dict(zip(head[1:], row[1:])) for row in rows}
 
 

@@ -215,46 +215,41 @@ class Asked(unittest.TestCase):
             self.assertEqual([it.owner for it in found], [owner])
 
 
+FN, ANSWERS = "fn demo::half::Half::of: ", "./proofs/half/Half/of/Answers.antt:4:2: error: "
+NOTE = "note: src/half.rt:8:5: it is not proved that what the function ensures holds when it returns (`returns`)"
+CALLS = "no proof: it calls `demo::half::third`, which is not proved"
+UNMADE = "no proof: the borrow checker's part in its proof is not made yet: a call of `demo::half::third`, which has no proof: help: prove it first"
+# What a check says of a function, whether an edit of it is refused and in which words, and whether a twin is proved.
+SAID: Dict[str, Tuple[List[str], bool, str, bool]] = {
+    "a goal of its own": ([NOTE, FN + "no proof: `search` did not prove `returns`"], True, f"refused, as it must be: {NOTE}", False),
+    "still proved": ([FN + "proved"], False, "NOT REFUSED: it is still proved", True),
+    "a callee that isn't proved": ([FN + CALLS], False, "NOT REFUSED by a goal of its own: it calls ", True),
+    "nothing that was looked at": ([FN + UNMADE], False, "NOT REFUSED by a goal of its own: ", False),
+    "a proof file that names what is gone": (
+        [ANSWERS + "module `Goals` has no `then-a` that can be named from here", FN + "not proved"], False, "WEAK: ", False),
+    "a proof file that names a step that is gone, where others are near": (
+        [ANSWERS + "`returns`: record `demo.half.Half.of.Lts.Past-then` (nearest: .len, .then-b)", "  has no field `then-a`", FN + "not proved"],
+        False, "WEAK: ", False),
+    "no such function": ([], False, "WEAK: ", False),
+}
+
+
 class Verdicts(unittest.TestCase):
-    def test_a_goal_of_its_own_refuses_an_edit(self) -> None:
-        note = "note: src/half.rt:8:5: it is not proved that what the function ensures holds when it returns (`returns`)"
-        verdict = told([note, "fn demo::half::Half::of: no proof: `search` did not prove `returns`", "only=1 proved=0"]).verdict_on(OF)
-        self.assertEqual(TOOL.judge_edit([verdict]), (True, f"refused, as it must be: {note}"))
-        self.assertFalse(TOOL.judge_twin([verdict])[0])
-
-    def test_what_is_still_proved_is_not_refused(self) -> None:
-        verdict = told(["fn demo::half::Half::of: proved", "only=1 proved=1"], 0).verdict_on(OF)
-        self.assertEqual(TOOL.judge_edit([verdict]), (False, "NOT REFUSED: it is still proved"))
-        self.assertTrue(TOOL.judge_twin([verdict])[0])
-
-    def test_a_callee_that_is_not_proved_refuses_nothing(self) -> None:
-        verdict = told(["fn demo::half::Half::of: no proof: it calls `demo::half::third`, which is not proved", "only=1 proved=0"]).verdict_on(OF)
-        self.assertFalse(TOOL.judge_edit([verdict])[0])
-        self.assertTrue(TOOL.judge_twin([verdict])[0])
+    def test_edits_and_twins(self) -> None:
+        for name, (lines, is_refused, words, is_proved) in SAID.items():
+            with self.subTest(name):
+                verdict = told([*lines, "only=1 proved=0"]).verdict_on(OF)
+                found, text = TOOL.judge_edit([verdict])
+                self.assertEqual((found, text[: len(words)]), (is_refused, words))
+                self.assertEqual(TOOL.judge_twin([verdict])[0], is_proved)
 
     def test_what_was_not_looked_at_is_tried_without_the_others_of_its_round(self) -> None:
-        said = "no proof: the borrow checker's part in its proof is not made yet: a call of `demo::half::third`, which has no proof: help: prove it first"
-        verdict = told([f"fn demo::half::Half::of: {said}", "only=1 proved=0"]).verdict_on(OF)
+        verdict = told([FN + UNMADE, "only=1 proved=0"]).verdict_on(OF)
         for name in ("a.edit", "a.twin"):
             self.assertTrue(TOOL.waits_for_others(TOOL.Edit(Path(name), [], frozenset([OF])), [verdict]))
-        self.assertFalse(TOOL.judge_edit([verdict])[0])
-        self.assertFalse(TOOL.judge_twin([verdict])[0])
-
-    def test_a_proof_file_that_names_what_is_gone_is_weak(self) -> None:
-        error = "./proofs/half/Half/of/Answers.antt:4:2: error: module `Goals` has no `then-a` that can be named from here"
-        verdict = told([error, "fn demo::half::Half::of: not proved", "only=1 proved=0"]).verdict_on(OF)
-        self.assertRegex(TOOL.judge_edit([verdict])[1], "^WEAK: ")
-
-    def test_a_proof_file_that_names_a_step_that_is_gone_is_weak_where_others_are_near(self) -> None:
-        error = "./proofs/half/Half/of/Answers.antt:4:2: error: `returns`: record `demo.half.Half.of.Lts.Past-then` (nearest: .len, .then-b)"
-        verdict = told([error, "  has no field `then-a`", "fn demo::half::Half::of: not proved", "only=1 proved=0"]).verdict_on(OF)
-        self.assertRegex(TOOL.judge_edit([verdict])[1], "^WEAK: ")
-
-    def test_a_function_that_the_prover_does_not_name_is_no_refusal(self) -> None:
-        self.assertFalse(TOOL.judge_edit([told(["only=0 proved=0"]).verdict_on(OF)])[0])
 
     def test_a_text_that_is_not_read_is_no_verdict(self) -> None:
-        self.assertTrue(told(["fn demo::half::Half::of: proved", "only=1 proved=1"], 0).is_read)
+        self.assertTrue(told([FN + "proved", "only=1 proved=1"], 0).is_read)
         self.assertFalse(told(["src/half.rt:9:9: error: expected `;`", "only=1 proved=0"]).is_read)
         self.assertFalse(told(["rattle: no verdict: memory"], 3).is_read)
 
@@ -439,32 +434,21 @@ class Due(unittest.TestCase):
 class Twins(unittest.TestCase):
     """Whether an edit needs a twin, by what it changes."""
 
-    def assert_change(self, change: str, *pairs: Tuple[str, str]) -> None:
-        self.assertEqual(change_of([("src/half.rt", old, new) for old, new in pairs]).name, change)
+    CHANGES: List[Tuple[str, List[Tuple[str, str]]]] = [
+        ("VALUE", [("lun: said.lun,", "lun: 0,")]), ("VALUE", [("Err(Fault::Bus)", "Err(Fault::Memory)"), ("true", "false")]),
+        ("VALUE", [("self.place", "Place { lun: 0, place }")]),
+        ("OPERATOR", [("if a < b {", "if a <= b {")]), ("OPERATOR", [("at", "at + 1")]), ("OPERATOR", [("true", "false"), ("&& b", "|| b")]),
+        ("CALL", [("posts.pop_front()", "posts.pop_back()")]), ("CALL", [("Some(cause)", "None")]),
+        ("STATEMENT", [("next();", "next(); next();")]), ("STATEMENT", [("at", "{ let at = 0; at }")]), ("STATEMENT", [("step(at)?;", "step(at);")]),
+        ("STATEMENT", [("step(at)", "if at > 0 { step(at) }")]), ("STATEMENT", [("None => 0,", "None => 0, Some(1) => 1,")]),
+        ("STATEMENT", [("Ok(at)", "return Ok(at)")]), ("STATEMENT", [("true", "false"), ("next();", "last(); next();")]),
+        # (neither the length of an array nor a comment is a statement)
+        ("CALL", [("*waiting()", "[true; 8]")]), ("VALUE", [("at // if so;", "other")]),
+    ]
 
-    def test_a_value(self) -> None:
-        self.assert_change("VALUE", ("lun: said.lun,", "lun: 0,"))
-        self.assert_change("VALUE", ("Err(Fault::Bus)", "Err(Fault::Memory)"), ("true", "false"))
-        self.assert_change("VALUE", ("self.place", "Place { lun: 0, place }"))
-
-    def test_an_operator(self) -> None:
-        self.assert_change("OPERATOR", ("if a < b {", "if a <= b {"))
-        self.assert_change("OPERATOR", ("at", "at + 1"))
-        self.assert_change("OPERATOR", ("true", "false"), ("&& b", "|| b"))
-
-    def test_a_call(self) -> None:
-        self.assert_change("CALL", ("posts.pop_front()", "posts.pop_back()"))
-        self.assert_change("CALL", ("Some(cause)", "None"))
-
-    def test_a_statement(self) -> None:
-        for old, new in (("next();", "next(); next();"), ("at", "{ let at = 0; at }"), ("step(at)?;", "step(at);"), ("step(at)", "if at > 0 { step(at) }"),
-                         ("None => 0,", "None => 0, Some(1) => 1,"), ("Ok(at)", "return Ok(at)")):
-            self.assert_change("STATEMENT", (old, new))
-        self.assert_change("STATEMENT", ("true", "false"), ("next();", "last(); next();"))
-
-    def test_the_length_of_an_array_and_a_comment_are_no_statements(self) -> None:
-        self.assert_change("CALL", ("*waiting()", "[true; 8]"))
-        self.assert_change("VALUE", ("at // if so;", "other"))
+    def test_what_is_changed(self) -> None:
+        for change, pairs in self.CHANGES:
+            self.assertEqual(change_of([("src/half.rt", old, new) for old, new in pairs]).name, change, pairs)
 
     def lacking(self, text: str, twin: bool = False) -> List[str]:
         with tempfile.TemporaryDirectory() as made:

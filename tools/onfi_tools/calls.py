@@ -76,18 +76,3 @@ def page_of_crate(crates: Path, crate: str) -> List[str]:
 
 def named(names: List[str]) -> str:
     return ", ".join(f"`{name}`" for name in names)
-
-
-def crates_below(text: str) -> Dict[str, List[str]]:
-    """The crates of crates.txt with what each stands on, the kit's too."""
-    lines = [line.partition(":") for line in text.splitlines() if line and not line.startswith("#")]
-    return {head.split()[0]: uses.split() for head, _, uses in lines}
-
-
-def lines_below(text: str, top: str) -> List[str]:
-    """The lines of crates.txt of a crate and of all that it stands on, in their order."""
-    below = crates_below(text)
-    needed = {top}
-    for crate in reversed(below):
-        needed |= set(below[crate]) if crate in needed else set()
-    return [line for line in text.splitlines() if line and line.split(":")[0].split()[0] in needed and not line.startswith("#")]

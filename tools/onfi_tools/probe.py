@@ -7,23 +7,9 @@ import subprocess
 from pathlib import Path
 from typing import Dict, Sequence
 
+from onfi_tools.crates import CRATES, lines_below
+
 ROOT = Path(__file__).resolve().parent.parent.parent
-
-
-def lines_below(libraries: Sequence[str]) -> Dict[str, str]:
-    """These libraries and the crates that they stand on, each with its line of crates.txt."""
-    lines = {}
-    for line in (ROOT / "crates.txt").read_text().splitlines():
-        if line and not line.startswith("#"):
-            lines[line.split(":")[0].split()[0]] = line
-    missing = set(libraries) - set(lines)
-    if missing:
-        raise ValueError(f"crates.txt does not list {', '.join(sorted(missing))}")
-    needed = set(libraries)
-    for name in reversed(lines):
-        if name in needed:
-            needed |= {it for it in lines[name].split(":")[1].split() if it in lines}
-    return {name: line for name, line in lines.items() if name in needed}
 
 
 class Probe:
@@ -32,7 +18,7 @@ class Probe:
     def __init__(self, folder: Path, name: str, libraries: Sequence[str], kit: Sequence[str] = ()) -> None:
         """`libraries` are crates of this repository, `kit` those of the kit that the program names."""
         self.crate = folder / "crates" / name
-        lines = lines_below(libraries)
+        lines = lines_below(CRATES.read_text(), *libraries)
         for below in lines:
             for part in ("src", "specs", "proofs"):
                 if (ROOT / "crates" / below / part).is_dir():

@@ -17,7 +17,9 @@ from onfi_tools.rolling_ways import WAYS
 
 ROOT = Path(__file__).resolve().parent.parent.parent
 SOURCES = ROOT / "examples/simulator/rolling"
-OF_THE_LIBRARY = "library.c"
+# What it shares with the driver of examples/c; and what of both calls the library.
+SHARED = ("firmware_board.c", "firmware_choice.c", "firmware_host.c", "firmware_rule.c")
+OF_THE_LIBRARY = ("firmware_choice.c", "library.c")
 STRICT = ("-std=c99", "-O2", "-Wall", "-Wextra", "-Werror", "-pedantic")
 
 # So many requests at least are answered where erases come: before, a way gains by leaving them undone.
@@ -131,17 +133,21 @@ def open_loops(of: Configuration) -> List[Configuration]:
     return [of._replace(load=load) for load in LOADS]
 
 
+def sources_of(is_with_library: bool) -> List[Path]:
+    """The simulator's sources; without the library it has greedy ways alone."""
+    sources = [*sorted(SOURCES.glob("*.c")), *(ROOT / "examples/c" / name for name in SHARED)]
+    return [source for source in sources if is_with_library or source.name not in OF_THE_LIBRARY]
+
+
 def build(made: Path, library: Optional[Path]) -> Path:
     """The simulator; without a library it has greedy ways alone. ValueError says what the compiler said."""
-    sources = sorted(SOURCES.glob("*.c"))
     line = [os.environ.get("CC", "cc"), *STRICT, f"-I{ROOT / 'include'}"]
     if library is None:
         line.append("-DWITHOUT_LIBRARY")
-        sources = [source for source in sources if source.name != OF_THE_LIBRARY]
     elif not (library / "libonfi.a").is_file():
         raise ValueError(f"no libonfi.a in {library}: `make library` builds it")
     archive = [str(library / "libonfi.a")] if library else []
-    ran = subprocess.run([*line, *map(str, sources), *archive, "-lm", "-o", str(made)], capture_output=True, text=True)
+    ran = subprocess.run([*line, *map(str, sources_of(bool(library))), *archive, "-lm", "-o", str(made)], capture_output=True, text=True)
     if ran.returncode:
         raise ValueError(ran.stderr)
     return made

@@ -53,7 +53,7 @@ static void print_latencies(const figures *figures, unsigned kind, const char *n
 
 void figures_print(const figures *figures, FILE *out)
 {
-    const planning *planning = &figures->planning;
+    const costs *planning = &figures->planning;
     double span = (double)(figures->to - figures->from), plans = planning->plans ? (double)planning->plans : 1;
     size_t answered = figures->answered[ONFI_READ] + figures->answered[ONFI_PROGRAM] + figures->answered[ONFI_ERASE];
     fprintf(out, "answered %zu\n", answered);

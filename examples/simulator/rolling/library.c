@@ -1,37 +1,24 @@
 /* Ways by the library's calls: the choice of a batch, plans, and phase by phase as a firmware has it, by a queue kept from turn to turn. */
 #include "rolling.h"
 
-/* The channel and what waits on it, as the library takes them. */
-typedef struct {
-    onfi_channel channel;
-    onfi_lun lun[ONFI_LUNS];
-    onfi_want want[MOST_WAITING];
-    uint16_t passed[MOST_WAITING];
-} said;
-
-static void say(const machine *m, said *said)
-{
-    said->channel = m->setup->channel;
-    said->channel.bus_free = later_of(m->now, m->bus_free);
-    for (unsigned at = 0; at < m->setup->luns; at++)
-        said->lun[at] = lun_of(&m->lun[at]);
-    for (size_t at = 0; at < m->waiting_count; at++) {
-        said->want[at] = m->waiting[at].want;
-        said->passed[at] = m->waiting[at].passed;
-    }
-}
-
 static void choose_by(const machine *m, uint8_t order, batch *chosen)
 {
     said s;
-    say(m, &s);
+    say(m, NULL, m->waiting_count, &s);
     chosen->refused = onfi_choose(&s.channel, s.lun, m->setup->luns, s.want, m->waiting_count, m->accepted, order, ONFI_WANTS, chosen->place, &chosen->count);
+}
+
+void by_lun_one_kind(const machine *m, batch *chosen)
+{
+    said s;
+    say(m, NULL, m->waiting_count, &s);
+    chosen->refused = choose_one_kind(&s.channel, s.lun, m->setup->luns, s.want, m->waiting_count, chosen->place, &chosen->count);
 }
 
 void whole_groups(const machine *m, batch *chosen)
 {
     said s;
-    say(m, &s);
+    say(m, NULL, m->waiting_count, &s);
     chosen->refused = onfi_choose_whole(&s.channel, s.lun, m->setup->luns, s.want, m->waiting_count, s.passed, m->waiting_count, m->has_newest, m->newest,
                                         ONFI_WANTS, chosen->place, &chosen->count);
 }
@@ -50,7 +37,7 @@ uint32_t plan_known(const problem *problem, uint32_t limit, onfi_planned *plan)
 {
     uint8_t no_room;
     size_t bytes;
-    return onfi_plan_known(&problem->channel, problem->lun, problem->luns, problem->want, problem->wants, limit, plan, &no_room, 0, &bytes);
+    return onfi_plan_known(&problem->now.channel, problem->now.lun, problem->luns, problem->now.want, problem->wants, limit, plan, &no_room, 0, &bytes);
 }
 
 uint32_t plan_rule(const problem *problem, uint32_t limit, onfi_planned *plan)
@@ -59,7 +46,7 @@ uint32_t plan_rule(const problem *problem, uint32_t limit, onfi_planned *plan)
     uint8_t no_room;
     size_t bytes;
     (void)limit;
-    uint32_t status = onfi_plan_rule(&problem->channel, problem->lun, problem->luns, problem->want, problem->wants, &within, &no_room, 0, &bytes);
+    uint32_t status = onfi_plan_rule(&problem->now.channel, problem->now.lun, problem->luns, problem->now.want, problem->wants, &within, &no_room, 0, &bytes);
     if (status == ONFI_DONE)
         *plan = (onfi_planned){.schedule = within.schedule, .finish = within.finish};
     return status;
@@ -72,7 +59,7 @@ static double mean_age(const problem *problem)
     for (size_t at = 0; at < problem->wants; at++, count++)
         sum += (double)problem->age[at];
     for (unsigned lun = 0; lun < problem->luns; lun++)
-        for (unsigned at = 0; at < problem->lun[lun].members; at++, count++)
+        for (unsigned at = 0; at < problem->now.lun[lun].members; at++, count++)
             sum += (double)problem->member_age[lun][at];
     return sum > count ? sum / count : 1;
 }
@@ -89,10 +76,10 @@ static onfi_weights weights_by_age(const problem *problem, double reads)
     double mean = mean_age(problem);
     onfi_weights made;
     for (size_t at = 0; at < ONFI_WANTS; at++)
-        made.want[at] = weight_by((double)problem->age[at], mean, problem->want[at].kind, reads);
+        made.want[at] = weight_by((double)problem->age[at], mean, problem->now.want[at].kind, reads);
     for (unsigned lun = 0; lun < ONFI_LUNS; lun++)
         for (unsigned at = 0; at < ONFI_MEMBERS; at++)
-            made.running[lun][at] = weight_by((double)problem->member_age[lun][at], mean, problem->lun[lun].member[0].kind, reads);
+            made.running[lun][at] = weight_by((double)problem->member_age[lun][at], mean, problem->now.lun[lun].member[0].kind, reads);
     return made;
 }
 
@@ -113,7 +100,7 @@ static uint32_t plan_by(const problem *problem, uint32_t limit, const onfi_weigh
     onfi_within within;
     uint8_t no_room;
     size_t bytes;
-    uint32_t status = onfi_plan_early(&problem->channel, problem->lun, problem->luns, problem->want, problem->wants, limit, weights, problem->slack,
+    uint32_t status = onfi_plan_early(&problem->now.channel, problem->now.lun, problem->luns, problem->now.want, problem->wants, limit, weights, problem->slack,
                                       &within, &no_room, 0, &bytes);
     if (status == ONFI_DONE)
         *plan = (onfi_planned){.schedule = within.schedule, .finish = within.finish};

@@ -3,11 +3,6 @@
 
 #include <string.h>
 
-const onfi_spans *spans_of(const onfi_timing *timing, unsigned kind)
-{
-    return kind == ONFI_READ ? &timing->read : kind == ONFI_PROGRAM ? &timing->program : &timing->erase;
-}
-
 unsigned plane_of(const onfi_rules *rules, unsigned block)
 {
     return block & ((1u << rules->plane_bits) - 1);
@@ -31,15 +26,6 @@ bool is_running(const lun_state *lun)
 uint64_t soonest(const machine *m, unsigned lun)
 {
     return later_of(later_of(m->now, m->bus_free), m->lun[lun].ready);
-}
-
-bool is_behind(const machine *m, size_t place)
-{
-    const onfi_want *want = &m->waiting[place].want;
-    for (size_t earlier = 0; earlier < place; earlier++)
-        if (m->waiting[earlier].want.lun == want->lun && m->waiting[earlier].want.block == want->block)
-            return true;
-    return false;
 }
 
 size_t place_of(const machine *m, uint64_t id)
@@ -85,6 +71,28 @@ uint64_t next_told(const machine *m)
         if (is_early(&m->lun[lun]) && m->lun[lun].real < next)
             next = m->lun[lun].real;
     return next;
+}
+
+/* A LUN as the library takes it. */
+static onfi_lun lun_of(const lun_state *lun)
+{
+    onfi_lun made = {.since = lun->ready, .members = (uint8_t)lun->members, .next = (uint8_t)lun->next};
+    for (unsigned at = 0; at < lun->members; at++)
+        made.member[at] = lun->member[at].want;
+    return made;
+}
+
+void say(const machine *m, const size_t *place, size_t count, said *said)
+{
+    said->channel = m->setup->channel;
+    said->channel.bus_free = later_of(m->now, m->bus_free);
+    for (unsigned at = 0; at < m->setup->luns; at++)
+        said->lun[at] = lun_of(&m->lun[at]);
+    for (size_t at = 0; at < count; at++) {
+        const request *waits = &m->waiting[place ? place[at] : at];
+        said->want[at] = waits->want;
+        said->passed[at] = waits->passed;
+    }
 }
 
 /* Puts a request that begins into its LUN's group, planes rising. */
@@ -148,6 +156,8 @@ static phase next_phase(const machine *m, unsigned number, uint64_t start)
     const onfi_want *want = &lun->member[is_post ? lun->next - lun->members : lun->next].want;
     const onfi_spans *spans = spans_of(&m->setup->channel.timing, want->kind);
     phase p = {.start = start, .end = start + (is_post ? spans->post : spans->cmd), .lun = number, .is_post = is_post, .want = *want};
+    p.number = lun->next;
+    p.members = lun->members;
     p.opens = lun->next ? 0 : lun->members;
     for (size_t at = 0; at < p.opens; at++)
         p.member[at] = lun->member[at].want;

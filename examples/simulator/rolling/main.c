@@ -116,7 +116,7 @@ static bool put_words(int count, char **texts, words *words)
             fprintf(stderr, "rolling: can't read %s\n", texts[at]);
             return false;
         }
-    if (put_device(words->device, words->byte, &words->setup.channel))
+    if (put_device(words->device, words->byte, &words->setup))
         return true;
     fprintf(stderr, "rolling: no device %s\n", words->device);
     return false;

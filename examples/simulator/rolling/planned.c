@@ -5,14 +5,6 @@
 #include <string.h>
 #include <time.h>
 
-onfi_lun lun_of(const lun_state *lun)
-{
-    onfi_lun made = {.since = lun->ready, .members = (uint8_t)lun->members, .next = (uint8_t)lun->next};
-    for (unsigned at = 0; at < lun->members; at++)
-        made.member[at] = lun->member[at].want;
-    return made;
-}
-
 static void put_ages(const machine *m, unsigned lun, uint64_t *age)
 {
     for (unsigned at = 0; at < m->lun[lun].members; at++)
@@ -22,16 +14,12 @@ static void put_ages(const machine *m, unsigned lun, uint64_t *age)
 /* The batch as the library takes it, planned from now on. */
 static problem problem_of(const machine *m, const batch *batch, uint16_t slack)
 {
-    problem made = {.channel = m->setup->channel, .luns = m->setup->luns, .wants = batch->count, .slack = slack};
-    made.channel.bus_free = later_of(m->now, m->bus_free);
-    for (unsigned lun = 0; lun < m->setup->luns; lun++) {
-        made.lun[lun] = lun_of(&m->lun[lun]);
+    problem made = {.luns = m->setup->luns, .wants = batch->count, .slack = slack};
+    say(m, batch->place, batch->count, &made.now);
+    for (unsigned lun = 0; lun < m->setup->luns; lun++)
         put_ages(m, lun, made.member_age[lun]);
-    }
-    for (size_t at = 0; at < batch->count; at++) {
-        made.want[at] = m->waiting[batch->place[at]].want;
+    for (size_t at = 0; at < batch->count; at++)
         made.age[at] = m->now - m->waiting[batch->place[at]].arrived;
-    }
     return made;
 }
 
@@ -46,8 +34,8 @@ static void add_group(const problem *problem, const onfi_group *group, plan *pla
 {
     unsigned lun = 0;
     for (size_t at = 0; at < problem->wants; at++)
-        if (problem->want[at].id == group->want[0])
-            lun = problem->want[at].lun;
+        if (problem->now.want[at].id == group->want[0])
+            lun = problem->now.want[at].lun;
     for (size_t at = 0; at < 2u * group->members; at++) {
         step *next = &plan->step[plan->steps++];
         *next = (step){.start = group->start[at], .lun = lun, .members = at ? 0 : group->members};
@@ -68,7 +56,7 @@ static void put_steps(const problem *problem, const onfi_schedule *schedule, pla
 }
 
 /* Notes how much processor time a plan took since `begun`. */
-static void note_plan(planning *planning, clock_t begun, uint32_t status, const onfi_planned *planned)
+static void note_plan(costs *planning, clock_t begun, uint32_t status, const onfi_planned *planned)
 {
     double seconds = (double)(clock() - begun) / CLOCKS_PER_SEC;
     planning->plans++;
@@ -88,7 +76,7 @@ static bool make_plan(const way *way, mind *mind, const machine *m, const batch 
     mind->told = false;
     mind->plan.wants = problem.wants;
     for (size_t at = 0; at < problem.wants; at++)
-        mind->plan.want[at] = problem.want[at].id;
+        mind->plan.want[at] = problem.now.want[at].id;
     mind->plan.over = status == ONFI_OVER;
     if (status == ONFI_DONE)
         put_steps(&problem, &planned.schedule, &mind->plan);

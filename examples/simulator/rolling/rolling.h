@@ -1,11 +1,10 @@
 /*
- * One channel in rolling use: requests come while others run, and a way says again and again what has the bus next.
+ * One channel in rolling use: requests come while others run, and a way says again and again what has the bus next. Devices, requests and
+ * the greedy way are those of the driver of examples/c (firmware_channel.h), and its mock of a board judges each phase.
  *
- *   device.c    how long phases take on a device and a bus
- *   source.c    the requests, and when they come
+ *   source.c    words of devices and requests, and all requests of a run
  *   machine.c   the channel as it stands, and what a phase changes of it
- *   judge.c     whether a phase is legal, by books of its own
- *   choice.c    which requests a way looks at, by code of its own
+ *   judge.c     whether a phase is legal: what waits, by books of its own, and the board
  *   greedy.c    ways that take of what can start soonest what ranks first
  *   planned.c   ways that plan a batch, and follow the plan until there is something new
  *   library.c   the library's choices, planners, and phase by phase
@@ -18,28 +17,19 @@
 #ifndef ROLLING_H
 #define ROLLING_H
 
-#include <onfi.h>
+#include "../../c/firmware_board.h"
 
 #include <stdio.h>
 
-#define NEVER UINT64_MAX
-
-enum {
-    KINDS = 3,
-    MOST_OUTSTANDING = 256,
-    MOST_WAITING = MOST_OUTSTANDING + ONFI_MEMBERS, /* erases of several planes come together */
-    OF_THE_WAY = UINT16_MAX,
-    PLAN_STEPS = ONFI_LUNS * ONFI_STARTS + 2 * ONFI_WANTS
-};
+enum { OF_THE_WAY = UINT16_MAX, PLAN_STEPS = ONFI_LUNS * ONFI_STARTS + 2 * ONFI_WANTS };
 
 /* What is simulated. */
 
-typedef enum { RANDOM_READS, MIXED, SEQUENTIAL, WITH_ERASES } workload;
-
 typedef struct {
     onfi_channel channel; /* its timing is what is stated; its bus_free isn't looked at */
-    unsigned luns;
-    workload workload;
+    device made_of;       /* what that is stated of, and how long a byte has the bus */
+    double byte;
+    unsigned luns, workload;
     size_t outstanding; /* how many requests may be accepted and not answered */
     double load; /* the share of the bus that arriving requests ask for; 0: a new one comes with each answer */
     double least_array, most_array; /* how long arrays take in truth, in shares of what is stated */
@@ -51,38 +41,24 @@ typedef struct {
 } setup;
 
 /* Puts timing and rules of a device by name, at so many ns a byte; false where there is no such device. */
-bool put_device(const char *name, double byte, onfi_channel *channel);
+bool put_device(const char *name, double byte, setup *setup);
 /* The workload of that name; false where there is none. */
-bool put_workload(const char *name, workload *workload);
+bool put_workload(const char *name, unsigned *workload);
+
+host host_of(const setup *setup);
+/*
+ * Prints how many planes and pages there are, how long the phases of each kind take, and the requests in their order, by kind and
+ * LUN: those that come with the one before them, room or not, as mates.
+ */
+void print_source(const setup *setup, FILE *out);
+
+/* The channel as it stands. */
 
 typedef struct {
     onfi_want want; /* its id is its place in the order of acceptance */
     uint64_t arrived;
     uint16_t passed; /* how many groups with a later request began on its LUN while it waited */
 } request;
-
-/* Where requests come from: the same ones in the same order for each way, by the seed. */
-typedef struct {
-    const setup *setup;
-    uint64_t wants, arrivals; /* states of random numbers */
-    uint64_t drawn, programs; /* how many so far */
-    onfi_want mate; /* the erase after which `mates` more of its planes come */
-    unsigned mates;
-    uint64_t next_arrival;
-} source;
-
-source source_of(const setup *setup);
-onfi_want draw_want(source *source);
-/*
- * Prints how many planes and pages there are, how long the phases of each kind take, and the requests in their order, by kind and
- * LUN: those that come with the one before them, room or not, as mates.
- */
-void print_source(const setup *setup, FILE *out);
-void draw_arrival(source *source);
-/* A number from 0 to below 1 that the seed gives to a request. */
-double share_of(uint64_t seed, uint64_t id);
-
-/* The channel as it stands. */
 
 typedef struct {
     request member[ONFI_MEMBERS]; /* planes rising */
@@ -117,20 +93,18 @@ typedef struct {
     unsigned lun;
     bool is_post;
     onfi_want want; /* whose command or post it is */
+    unsigned number, members; /* its number in a group of so many */
     size_t opens; /* of how many members the group is that it begins; 0: it begins none */
     onfi_want member[ONFI_MEMBERS];
     uint64_t array; /* where it is a group's last command: how long the array takes in truth */
 } phase;
 
-const onfi_spans *spans_of(const onfi_timing *timing, unsigned kind);
 unsigned plane_of(const onfi_rules *rules, unsigned block);
 unsigned planes_of(const setup *setup);
 uint64_t later_of(uint64_t one, uint64_t other);
 bool is_running(const lun_state *lun);
 /* The soonest start of the next phase of a LUN, by what is known. */
 uint64_t soonest(const machine *m, unsigned lun);
-/* Whether an earlier request on its block waits. */
-bool is_behind(const machine *m, size_t place);
 /* The place of a waiting request; waiting_count where it doesn't wait. */
 size_t place_of(const machine *m, uint64_t id);
 /* Takes a request in, from `arrived` on. */
@@ -139,16 +113,20 @@ void accept_request(machine *m, onfi_want want, uint64_t arrived);
 bool tell_ready(machine *m);
 /* When the next LUN becomes so; NEVER where none does. */
 uint64_t next_told(const machine *m);
+/* The channel now, and requests that wait on it, as the library takes them. */
+typedef struct {
+    onfi_channel channel;
+    onfi_lun lun[ONFI_LUNS];
+    onfi_want want[MOST_WAITING];
+    uint16_t passed[MOST_WAITING];
+} said;
+
+/* Those at so many places; all where there are no places. */
+void say(const machine *m, const size_t *place, size_t count, said *said);
 /* Runs a step: what is on the bus, and of which request it was where it is a post. */
 phase run_step(machine *m, const step *step, request *answered);
 
-/* Legality, by books of its own. */
-
-typedef struct {
-    onfi_want member[ONFI_MEMBERS];
-    size_t members, commands, posts; /* posts: how many have ended */
-    uint64_t may; /* from when on its next phase may start */
-} judged_lun;
+/* Legality. */
 
 typedef struct {
     onfi_want want;
@@ -156,15 +134,14 @@ typedef struct {
 } accepted;
 
 typedef struct {
-    const setup *setup;
-    uint64_t bus_free;
-    judged_lun lun[ONFI_LUNS];
+    simulation of;
+    board board;
     accepted waiting[MOST_WAITING]; /* in order of acceptance */
     size_t waiting_count;
     uint64_t answered;
 } judge;
 
-judge judge_of(const setup *setup);
+void judge_open(judge *j, const setup *setup);
 void judge_acceptance(judge *j, const onfi_want *want, uint64_t since);
 /* Null where the phase is legal, which it is taken for then; else what it breaks. */
 const char *judge_phase(judge *j, const phase *p);
@@ -180,36 +157,16 @@ typedef struct {
 
 typedef void choice(const machine *m, batch *chosen);
 
-choice everything, first_eight, by_lun_one_kind;
-/* By onfi_choose. */
-choice by_lun, by_lun_reads_first;
-/* By onfi_choose_whole. */
-choice whole_groups;
+choice everything, first_eight;
+/* By the library: of each LUN one kind; by onfi_choose; by onfi_choose_whole. */
+choice by_lun_one_kind, by_lun, by_lun_reads_first, whole_groups;
 
-/* Whether it may join the group of the waiting requests at those places. */
-bool joins(const machine *m, const size_t *group, size_t members, size_t place);
-
-/* What a LUN can do next: go on with commands, with posts, or begin a group. */
-typedef enum { GOES_ON, ANSWERS, BEGINS } move;
-
-/* How a greedy way ranks what can start soonest. */
-typedef struct {
-    unsigned (*rank)(move move, unsigned kind); /* the lower goes first */
-    bool largest; /* an idle LUN begins its largest group; else that of its oldest read, else program, else erase */
-    bool by_age; /* of one rank larger groups go first, then older ones; else the LUNs in turn */
-} rule;
-
-extern const rule ROUND_ROBIN, COMMANDS_FIRST, MQSIM, READS_FIRST;
-
-/* A LUN as the library takes it. */
-onfi_lun lun_of(const lun_state *lun);
+extern const rule ROUND_ROBIN, COMMANDS_FIRST, MQSIM;
 
 /* A problem as the library takes it. */
 typedef struct {
-    onfi_channel channel;
-    onfi_lun lun[ONFI_LUNS];
+    said now;
     size_t luns;
-    onfi_want want[ONFI_WANTS];
     uint64_t age[ONFI_WANTS]; /* since they arrived */
     uint64_t member_age[ONFI_LUNS][ONFI_MEMBERS]; /* those of running groups too */
     size_t wants;
@@ -232,7 +189,7 @@ typedef struct {
 typedef struct {
     uint64_t plans, over, nodes;
     double seconds, longest; /* processor time of all plans, and of the longest */
-} planning;
+} costs;
 
 /* What a firmware that goes phase by phase by the library keeps of its channel. */
 typedef struct {
@@ -249,7 +206,7 @@ typedef struct {
     bool has_begun, has_run; /* of phase by phase: whether it has begun, and whether the step that it gave last has run */
     kept now, after; /* how the channel stands, and how after that step */
     plan plan;
-    planning planning;
+    costs planning;
     uint32_t refused; /* the status of a call that failed otherwise than by being over */
 } mind;
 
@@ -281,7 +238,7 @@ typedef struct figures {
     uint64_t busy; /* how long the bus was busy in between */
     uint64_t groups, grouped; /* how many groups began, and of how many requests */
     uint64_t erases, erasing, erasing_until; /* how long the erases took together, how long any LUN erased, and up to when */
-    planning planning;
+    costs planning;
 } figures;
 
 bool figures_begin(figures *figures, const setup *setup);

@@ -8,7 +8,7 @@ typedef struct {
     const way *way;
     FILE *trace; /* null: none */
     machine machine;
-    source source;
+    host host;
     judge judge;
     mind mind;
     figures *figures;
@@ -18,7 +18,8 @@ typedef struct {
 
 static void accept_next(run *r, uint64_t arrived)
 {
-    onfi_want want = draw_want(&r->source);
+    onfi_want want = host_want(&r->host);
+    want.id = r->machine.accepted;
     accept_request(&r->machine, want, arrived);
     judge_acceptance(&r->judge, &want, r->machine.now);
 }
@@ -32,13 +33,13 @@ static bool has_room(const run *r)
 static void accept_all(run *r)
 {
     if (r->machine.setup->load == 0) {
-        while (has_room(r) || r->source.mates)
+        while (has_room(r) || r->host.mates)
             accept_next(r, r->machine.now);
         return;
     }
-    while (has_room(r) && r->source.next_arrival <= r->machine.now) {
-        accept_next(r, r->source.next_arrival);
-        draw_arrival(&r->source);
+    while (has_room(r) && r->host.next_arrival <= r->machine.now) {
+        accept_next(r, r->host.next_arrival);
+        host_arrival(&r->host);
     }
 }
 
@@ -48,7 +49,7 @@ static uint64_t next_event(const run *r)
     uint64_t told = next_told(&r->machine);
     if (r->machine.setup->load == 0 || !has_room(r))
         return told;
-    return told < r->source.next_arrival ? told : r->source.next_arrival;
+    return told < r->host.next_arrival ? told : r->host.next_arrival;
 }
 
 /* Counts an answer; the first tenth isn't measured. */
@@ -138,7 +139,8 @@ const char *simulate(const setup *setup, const way *way, FILE *trace, figures *f
     run *r = malloc(sizeof *r);
     if (!r)
         return "no memory";
-    *r = (run){.way = way, .trace = trace, .source = source_of(setup), .judge = judge_of(setup), .figures = figures};
+    *r = (run){.way = way, .trace = trace, .host = host_of(setup), .figures = figures};
+    judge_open(&r->judge, setup);
     r->machine.setup = setup;
     while (!r->wrong && r->answered < setup->requests)
         turn(r);

@@ -34,27 +34,35 @@ BOARD = re.compile(r"board_(?:command|data_in|data_out|status)$")
 SAID = re.compile(r": [\d.]+ requests a second, .*, (\d+) plans$", re.MULTILINE)
 
 
-class Call(NamedTuple):
-    """Calls of a function by another, with all that they call: instructions together."""
+class Cost(NamedTuple):
+    """Instructions of a function itself, or where it calls another, of these calls with all that they call."""
 
     caller: str
     callee: str
     instructions: int
 
 
-def calls_of(counts: str) -> Iterator[Call]:
-    """The calls of a file of callgrind. The line of cost after a `calls` line is that of the calls."""
+def costs_of(counts: str) -> Iterator[Cost]:
+    """The costs of a file of callgrind: a line of cost stands below its function, and one that stands below a call is the callee's."""
     names: Dict[str, str] = {}
     caller = callee = ""
-    after = False
+    is_call = False
     for line in counts.splitlines():
         named, cost = FUNCTION.match(line), COST.match(line)
         if named:
-            name = names.setdefault(named[2], re.split(r"[.']", named[3])[0])
+            name = names.setdefault(named[2], named[3])
             caller, callee = (caller, name) if named[1] else (name, callee)
-        elif cost and after:
-            yield Call(caller, callee, int(cost[1]))
-        after = line.startswith("calls=")
+        elif cost:
+            yield Cost(caller, callee if is_call else "", int(cost[1]))
+        is_call = line.startswith("calls=")
+
+
+def calls_of(counts: str) -> Iterator[Cost]:
+    """The calls alone, by names without what the compiler adds to them."""
+    for cost in costs_of(counts):
+        if cost.callee:
+            caller, callee = (re.split(r"[.']", name)[0] for name in (cost.caller, cost.callee))
+            yield Cost(caller, callee, cost.instructions)
 
 
 class Turns(NamedTuple):

@@ -44,7 +44,7 @@ import statistics
 import subprocess
 import tempfile
 from pathlib import Path
-from typing import Callable, Counter, Dict, List, NamedTuple, Sequence, Tuple
+from typing import Callable, Counter, List, NamedTuple, Sequence, Tuple
 
 from onfi_tools.bench import driver_costs, whole_plans
 from onfi_tools.bench.run import script as script_of_reads
@@ -71,8 +71,6 @@ want,read,6,1,1
 end
 """
 WITHOUT_REQUESTS = "".join(line for line in SCRIPT.splitlines(True) if line.startswith(("shape", "spans", "end")))
-NAMED = re.compile(r"(c?)fn=(\(\d+\)) ?(.*)")
-COST = re.compile(r"(?:[+-]?\d+|\*) (\d+)$")
 
 
 class Count(NamedTuple):
@@ -95,23 +93,12 @@ def count(words: List[str], given: str) -> Count:
 
 
 def functions_of(counts: str) -> List[Tuple[str, int]]:
-    """The functions of a file of callgrind by what they took themselves, most first, in parts of a thousand.
-
-    A line of cost stands below its function, and one that stands below a call is the callee's.
-    """
-    names: Dict[str, str] = {}
+    """The functions of a file of callgrind by what they took themselves, most first, in parts of a thousand."""
     sums: Counter[str] = Counter()
-    function, after_call = "", False
-    for line in counts.splitlines():
-        named, cost = NAMED.match(line), COST.match(line)
-        if named:
-            names.setdefault(named[2], named[3])
-            function = function if named[1] else named[2]
-        elif cost and not after_call:
-            sums[function] += int(cost[1])
-        after_call = line.startswith("calls=")
+    for cost in driver_costs.costs_of(counts):
+        sums[cost.caller] += 0 if cost.callee else cost.instructions
     whole = sum(sums.values())
-    return [(names[number], 1000 * own // whole) for number, own in sums.most_common()]
+    return [(name, 1000 * own // whole) for name, own in sums.most_common()]
 
 
 class Program:

@@ -1,6 +1,6 @@
 """How fast the built program plans.
 
-    tools/bench plan [PROGRAM] [--against OTHER] [--rounds N] [--random N] [--seed N] [--memory] [--compare N]
+    tools/bench plan [PROGRAM] [--against OTHER] [--rounds N] [--random N] [--seed N]
     tools/bench plan --workers [PROGRAM] [--rounds N] [--random N] [--seed N]
     tools/bench plan --prototypes [PROGRAM] [--rounds N] [--random N] [--seed N]
 
@@ -10,10 +10,6 @@ certificate and the time that writing it took. The nodes are those of the larges
 is written in that time. OTHER is another program with the same options, or a plain search that is run as `OTHER -l LIMIT FILE` and
 prints `FILE FINISH OPENED ..`, known by a name that begins with `bnb`. The two run in turns, and the ratio of their nodes a second is
 over 1 where PROGRAM is faster.
-
---memory: the greatest heap of the whole program too, by valgrind.
-
---compare N: instead, both print their plans of N random scripts, and each difference is said; a plain search by `OTHER -p -l LIMIT FILE`.
 
 --workers: how much sooner 2 and 4 workers have the plan and its certificate, on the scripts of examples/hard and on random ones for
 which one search finds a plan after more than 10,000 nodes. A run is as long as its longest chain of processor time, each thread on a
@@ -51,13 +47,10 @@ class Planner:
         self.path = str(Path(path).resolve())
         self.plain = Path(path).name.startswith("bnb")
 
-    def run(self, script: Path, limit: int = MOST, *options: str) -> Run:
+    def run(self, script: Path, limit: int = MOST) -> Run:
         if self.plain:
-            return run([self.path, *options, "-l", str(limit), str(script)])
+            return run([self.path, "-l", str(limit), str(script)])
         return run([self.path, "plan", "--limit", str(limit)], script)
-
-    def plan(self, script: Path, limit: int) -> str:
-        return self.run(script, limit, *(["-p"] if self.plain else [])).output
 
     def nodes(self, ran: Run, limit: int) -> int:
         return int(ran.output.split()[2]) if self.plain else limit
@@ -155,31 +148,6 @@ def measure(planner: Planner, other: Optional[Planner], script: Path, rounds: in
     return result
 
 
-def greatest_heap(planner: Planner, script: Path) -> int:
-    """The greatest size of the whole program's heap in a search of some nodes, by valgrind's massif."""
-    with tempfile.TemporaryDirectory() as folder:
-        sizes = Path(folder) / "sizes"
-        run(["valgrind", "--tool=massif", f"--massif-out-file={sizes}", planner.path, "plan", "--limit", "20000"], script)
-        lines = sizes.read_text().splitlines()
-    return max(int(line.split("=")[1]) for line in lines if line.startswith("mem_heap_B="))
-
-
-def compare(planner: Planner, other: Planner, rng: random.Random, count: int) -> int:
-    """Plans random scripts by both; says each difference."""
-    differences = 0
-    with tempfile.TemporaryDirectory() as folder:
-        path = Path(folder) / "script.onfi"
-        for number in range(count):
-            path.write_text(long_search(rng))
-            limit = rng.choice([1, 2, 3, 6, 7, 20, 500, 20000])
-            one, two = planner.plan(path, limit), other.plan(path, limit)
-            if one != two:
-                differences += 1
-                print(f"difference at script {number}, limit {limit}:\n{path.read_text()}--\n{one}--\n{two}")
-    print(f"{count} scripts, {differences} differences")
-    return 1 if differences else 0
-
-
 def measure_remembering(planner: Planner, prototype: Remembering, script: Path, rounds: int) -> Measured:
     """Prints the line of a script; gives the best times of the two for the whole plan, and the prototype's nodes."""
     pairs = [(run([planner.path, "plan", "--remember"], script), prototype.run(script)) for _ in range(rounds)]
@@ -273,8 +241,6 @@ def words(parser: argparse.ArgumentParser) -> None:
     parser.add_argument("--rounds", type=int, default=5)
     parser.add_argument("--random", type=int, default=3)
     parser.add_argument("--seed", type=int, default=1)
-    parser.add_argument("--memory", action="store_true")
-    parser.add_argument("--compare", type=int, metavar="N")
     parser.add_argument("--workers", action="store_true")
     parser.add_argument("--prototypes", action="store_true")
 
@@ -285,13 +251,7 @@ def main(asked: argparse.Namespace) -> int:
     with tempfile.TemporaryDirectory() as folder:
         if asked.workers or asked.prototypes:
             return (bench_workers if asked.workers else bench_prototypes)(planner, rng, asked.rounds, asked.random, folder)
-        if asked.compare:
-            if not other:
-                raise ValueError("--compare wants --against OTHER")
-            return compare(planner, other, rng, asked.compare)
         scripts = HARD + random_scripts(folder, rng, asked.random, lambda path: planner.run(path, 50_000).status == OVER)
         results = [result for script in scripts if (result := measure(planner, other, script, asked.rounds))]
         print(line_of_all(results, other is not None))
-        for script in scripts if asked.memory else []:
-            print(f"{script.name}: {greatest_heap(planner, script):,} bytes of heap at most")
     return 0

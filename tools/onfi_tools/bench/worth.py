@@ -45,23 +45,21 @@ from typing import Dict, List, NamedTuple, Optional, Sequence, Tuple
 
 from onfi_tools.bench.runs import MOST, OVER, PROGRAM, ROOT, row, run
 from onfi_tools.device import spans_of
+from onfi_tools.drawn import PAGE, SHEET, SMALL, drawn_wants
 from onfi_tools.policies import (Device, Policy, Want, best_of_ranks, first_in_first_out, round_robin, round_robin_commands_first,
                                  script_of)
 from onfi_tools.script import lengths_of, page_numbers
 
 REQUESTS = 8
-SHEET = {"tADL": 400, "tWHR": 80, "tRHW": 100, "tWB": 100, "tPLRBSY": 500, "tPLPBSY": 500, "tPLEBSY": 500}
-CYCLES = {"column_cycles": 2, "row_cycles": 3, "tCCS_ns": 500}
-LARGE = {"data_bytes": 16384, "spare_bytes": 2048, **CYCLES}
-SMALL = {"data_bytes": 512, "spare_bytes": 16, **CYCLES}
+LARGE_PAGE = {**PAGE, "data_bytes": 16384, "spare_bytes": 2048}
 TWO = {"tR_us": 60, "tPROG_us": 1200, "tBERS_us": 6000}
 FOUR = {"tR_us": 90, "tPROG_us": 800, "tBERS_us": 12000}
 # Plane address bits, page fields, ns a byte and cycle.
 DEVICES: Dict[str, Tuple[int, Dict[str, int], int]] = {
-    "small": (1, {**SMALL, "tR_us": 25, "tPROG_us": 200, "tBERS_us": 1500}, 20),
-    "two planes": (1, {**LARGE, **TWO}, 20),
-    "four planes": (2, {**LARGE, **FOUR}, 20),
-    "four, fast": (2, {**LARGE, **FOUR}, 2),
+    "small": (1, SMALL, 20),
+    "two planes": (1, {**LARGE_PAGE, **TWO}, 20),
+    "four planes": (2, {**LARGE_PAGE, **FOUR}, 20),
+    "four, fast": (2, {**LARGE_PAGE, **FOUR}, 2),
 }
 PROFILES = {path.stem: path.read_text() for path in sorted((ROOT / "examples" / "devices").glob("*.onfi"))}
 # How many of twenty requests are reads, programs and erases; none where requests go in stripes.
@@ -104,15 +102,6 @@ def device_of(name: str, luns: int) -> Device:
     return Device(luns, bits, True, True, spans_of(page, {**SHEET, "tWC": cycle, "tRC": cycle}))
 
 
-def drawn_wants(rng: random.Random, device: Device, weights: Tuple[int, int, int], requests: int) -> List[Want]:
-    wants = []
-    for number in range(requests):
-        kind = rng.choices(("read", "program", "erase"), weights)[0]
-        page = 0 if kind == "erase" else rng.randrange(2)
-        wants.append(Want(number, kind, rng.randrange(device.luns), rng.randrange(8), page))
-    return wants
-
-
 def stripe(rng: random.Random, device: Device, requests: int) -> List[Want]:
     kind = rng.choice(("read", "program"))
     planes = 1 << device.plane_bits
@@ -127,7 +116,7 @@ def drawn_batch(rng: random.Random, requests: int = REQUESTS, devices: Sequence[
     name, mix = rng.choice(list(devices)), rng.choice(list(MIXES))
     device = device_of(name, rng.choice((2, 4, 8)))
     weights = MIXES[mix]
-    wants = stripe(rng, device, requests) if weights is None else drawn_wants(rng, device, weights, requests)
+    wants = stripe(rng, device, requests) if weights is None else drawn_wants(rng, device.luns, weights, requests, 8)
     return Batch(name, mix, device, wants)
 
 

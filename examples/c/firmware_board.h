@@ -1,0 +1,62 @@
+/* A mock of a board, and what is simulated of it. */
+#ifndef FIRMWARE_BOARD_H
+#define FIRMWARE_BOARD_H
+
+#include "firmware.h"
+#include "firmware_channel.h"
+
+enum {
+    PAGE_BITS = 11,
+    BLOCKS = 16384,
+    BLOCK_BITS = 14,
+    ROW_CYCLES = 4,
+    SHOWN = 5 /* how many bytes of a page the mock moves */
+};
+
+typedef struct {
+    device made_of;
+    double byte;               /* how long one has the bus */
+    unsigned luns, workload;
+    size_t outstanding;        /* how many requests may be accepted and not answered */
+    double load;               /* the share of the bus that arriving requests ask for; 0: a new one comes with each answer */
+    double least_array;        /* how long arrays take in truth, in shares of what is stated */
+    double most_array;
+    bool told;                 /* R/B# shows when they are ready */
+    bool ends;                 /* when each request ends is printed, in place of figures */
+    double late, slow;         /* by how many ns phases start later, and take longer, at most */
+    size_t requests;           /* how many are answered before it ends */
+    double seconds;            /* where not 0: how much time passes before it ends, in place of requests */
+    uint64_t seed;
+    planning plans;
+} simulation;
+
+/* What a LUN does in truth. */
+typedef struct {
+    uint8_t opener; /* of its group */
+    bool is_closed; /* its array works, or has */
+    unsigned members, posts; /* no members: it is free */
+    uint32_t row[ONFI_MEMBERS];
+    uint64_t may;   /* from when on its next phase may start */
+    uint64_t rises; /* when R/B# rises before the stated time; NEVER: it doesn't, or was reported */
+    uint64_t first; /* the number of its first member's request, by which its array time is drawn */
+} chip;
+
+typedef struct {
+    const simulation *of;
+    uint64_t cycle, page; /* how long a command or address cycle takes, and the bytes of a page */
+    chip lun[ONFI_LUNS];
+    uint16_t programmed[ONFI_LUNS][BLOCKS]; /* how many pages of each block */
+    uint64_t bus_free, busy;
+    uint64_t delays;   /* a state of random numbers */
+    const char *wrong; /* what was wrong first; null: nothing */
+} board;
+
+void board_open(board *b, const simulation *of);
+/* Its bus. */
+struct onfi_bus board_bus(board *b);
+/* When R/B# of a LUN rises next before its stated time; NEVER where none does. */
+uint64_t board_next_rise(const board *b);
+/* The mock's pages hold LUN, block and page. */
+void put_page(uint8_t page[SHOWN], uint32_t lun, uint32_t block, uint32_t number);
+
+#endif
