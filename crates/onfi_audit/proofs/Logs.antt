@@ -383,10 +383,10 @@ open_law p entries a ip audited = opened_problem p entries a ip audited
 
 -- a log after which nothing is left is a run
 run_of : (lines : List Line) (p q : Problem) → Leads p lines q → IsDone q → (steps : List Step) × Run p steps q.bus_free
-run_of [] p q e done = ([], subst IsDone (sym e) done, ap (λ (x : Problem). x.bus_free) e)
+run_of [] p q e done = ([], (subst IsDone (sym e) done, ap (λ (x : Problem). x.bus_free) e))
 run_of (line ∷ lines) p q (move, is, rest) done =
     let (steps, run) = run_of lines (placed p move line.start) q rest done in
-    (record { move = move; start = line.start } ∷ steps, is.is_move, is.on_time, run)
+    (record { move = move; start = line.start } ∷ steps, (is.is_move, is.on_time, run))
 
 pub whole_law : WholeLaw
 whole_law p q lines ip leads done =

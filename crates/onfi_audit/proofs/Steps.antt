@@ -28,7 +28,7 @@ use Rattle.onfi_audit.proofs.Filters.{filter_same, filter_twice, first_before, f
 use Rattle.onfi_audit.proofs.States.{StageOf, state_of_stage, states_back, states_get, states_set}
 
 -- one LUN's members in place of what they were
-pub put : (ℕ → List Want) → ℕ → List Want → ℕ → List Want
+abbrev pub put : (ℕ → List Want) → ℕ → List Want → ℕ → List Want
 put later l new n = if n == l then new else later n
 
 pub put_same : (later : ℕ → List Want) (l : ℕ) (new : List Want) → put later l new l ≡ new
@@ -288,7 +288,7 @@ module _ (a : Audit) (ia : IsAudit a) (line : Line) where
     joining_back ready is =
         let before = put after line.lun (w ∷ rest) in
         let was = put_same after line.lun (w ∷ rest) in
-        let ok : Fits a (Some x) (w ∷ rest) = subst (λ y. Fits a (Some y) (w ∷ rest)) (sym is) (whole, waits, rest_waits) in
+        let ok : Fits a (Some x) (w ∷ rest) = subst (λ y. Fits a (Some y) (w ∷ rest)) (sym is) (whole, (waits, rest_waits)) in
         let runs : slice_get (problem_at a before).luns line.lun ≡ Some (Running (ms ++ w ∷ rest) (length ms) from) =
         states_get a.luns before line.lun x there ∙ ap (λ l. Some (state_at x l)) was ∙ ap (λ y. Some (state_at y (w ∷ rest))) is in
         record {

@@ -244,7 +244,7 @@ pub record IsApart (a : Audit) (line : Line) (first request : ℕ) : Type 0 wher
   pub members : List Want
   pub more : ℕ
   pub ready : ℕ
-  pub open : slice_get a.luns line.lun ≡ Some (stage.Open members more ready)
+  pub stands : slice_get a.luns line.lun ≡ Some (stage.Open members more ready)
   pub one : Want
   pub begins : slice_get members 0 ≡ Some one
   pub told : one.id ≡ first

@@ -42,8 +42,8 @@ impl Due {
     }
 }
 
-/// What the LUN of a group does once a phase of it has ended, at that moment in ns: it runs the rest, or is free.
-pub fn lun_after(timing: &Timing, group: &Group, phase: u8, ended: u64) -> LunState
+// What the LUN of a group does once a phase of it has ended.
+pub(crate) fn lun_after(timing: &Timing, group: &Group, phase: u8, ended: u64) -> LunState
     requires phase { phase < 2 * length group.now }
     requires ended { ended < 2 ^ 63 + 2 ^ 50 }
     ensures { result ≡ lun_after timing.now group.now phase ended }

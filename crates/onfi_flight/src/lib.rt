@@ -12,6 +12,6 @@ mod luns;
 mod startable;
 mod turn;
 
-pub use due::{Due, lun_after};
+pub use due::Due;
 pub use flight::{Flight, Next, TooLate, wants_of};
 pub use startable::is_startable;

@@ -9,13 +9,12 @@ ghost use Rattle.onfi_request.specs.declared.want.Want.{Want as AWant};
 use crate::audit::Audit;
 use crate::breach::LogBreach;
 use crate::line::Line;
-use crate::luns::stage_of;
 use crate::requests::{first_at, first_named};
 use crate::stage::LunStage;
 use arrayvec::ArrayVec;
-use onfi_flight::lun_after;
 use onfi_group::{Group, Rules, phase_length, wait_before};
 use onfi_request::Want;
+use onfi_timing::Timing;
 use std::alloc::Global;
 
 /// All phases that are judged start before this, in ns.
@@ -203,7 +202,7 @@ impl Audit {
         ensures { self.new ≡ gone_on self.old line.now group.now phase }
     {
         let ended = line.start + phase_length(&self.timing, group.members(), usize::from(phase));
-        let stage = stage_of(&lun_after(&self.timing, group, phase, ended));
+        let stage = stage_after(&self.timing, group, phase, ended);
         self.luns.set(usize::from(line.lun), stage);
         self.bus_free = ended;
     }
@@ -223,6 +222,23 @@ impl Audit {
             .set(usize::from(line.lun), LunStage::Open { group, more, ready });
         self.bus_free = ended;
         leave(&mut self.wants, want.id);
+    }
+}
+
+// What a LUN does once that phase of its group has ended.
+fn stage_after(timing: &Timing, group: &Group, phase: u8, ended: u64) -> LunStage
+    requires phase { phase < 2 * length group.now }
+    requires ended { ended < 2 ^ 62 + 2 ^ 50 }
+    ensures { result ≡ stage_of (lun_after timing.now group.now phase ended) }
+{
+    let next = usize::from(phase) + 1;
+    if next >= 2 * group.len() {
+        return LunStage::Free { since: ended };
+    }
+    LunStage::Running {
+        group: group.copy(),
+        next: next as u8,
+        ready: ended + wait_before(timing, group.members(), next),
     }
 }
 
