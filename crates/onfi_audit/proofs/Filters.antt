@@ -2,7 +2,7 @@
 use Rattle.std.proofs.Common.{◌≡◌, ◌≢◌, ℕ, ◌<◌, inl, inr, Bool, true, false, List, [], ◌∷◌, ◌++◌, Some, refl, sym, ap, ◌∙◌, append_assoc}
 use Rattle.std.specs.Prelude.{◌==◌, not, if◌then◌else◌, slice_get}
 use Rattle.std.specs.List.{AllByRecursion as All, filter, list_any}
-use Rattle.std.proofs.lemmas.Bool.{cases_Bool, eq-eqb, eqb-true, false≢true}
+use Rattle.std.proofs.lemmas.Bool.{cases_Bool, eq-eqb, eqb-false, eqb-true, false≢true, ne_eqb}
 use Rattle.onfi_request.specs.declared.want.Want.{Want}
 use Rattle.onfi_group.specs.Words.{Has, Pairs}
 use Rattle.onfi_group.specs.Group.{IsFirst, is_member, on_block}
@@ -117,3 +117,10 @@ has_kept test (y ∷ ys) x h = elim (cases_Bool (test y)) [
   | inl k ↦ (let q : Has (y ∷ filter test ys) x = rw k at h in elim q [ inl e ↦ inl e | inr r ↦ inr (has_kept test ys x r) ])
   | inr k ↦ (let q : Has (filter test ys) x = rw k at h in inr (has_kept test ys x q))
 ]
+
+-- all but the one of that number
+pub by_number : (wants : List Want) (want : Want) (number : ℕ) → want.id ≡ number → filter (λ w. not (w.id == number)) wants ≡ without (want ∷ []) wants
+by_number wants want number e = filter_same _ _ wants (λ w h. elim (cases_Bool (want.id == w.id)) [
+  | inl k ↦ (let t : (w.id == number) ≡ true = eq-eqb w.id number (sym (eqb-true want.id w.id k) ∙ e) in rw (k, t) refl)
+  | inr k ↦ (let t : (w.id == number) ≡ false = ne_eqb w.id number (λ q. eqb-false want.id w.id k (e ∙ sym q)) in rw (k, t) refl)
+])

@@ -2,4 +2,5 @@ pub mod Filters
 pub mod States
 pub mod Commands
 pub mod Steps
+pub mod Judging
 pub mod Logs
