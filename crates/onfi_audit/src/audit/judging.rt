@@ -134,7 +134,7 @@ impl Audit {
                 request: want.id,
             });
         };
-        if line.start < self.bus_free {
+        if self.bus_free > line.start {
             return Err(self.bus_taken(line));
         }
         if line.start < from {
