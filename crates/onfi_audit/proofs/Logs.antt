@@ -302,8 +302,8 @@ joined_more a more line ms from ia later j =
     let low = All-has (λ (v : Want). v.id < a.accepted) a.wants w ia.numbers has in
     let test = λ (v : Want). not (is_member (w ∷ []) v) in
     let stay : filter test more ≡ more = filter_all test more (λ v h.
-        let high = All-has (λ (u : Want). a.accepted ≤ u.id) more v later h in
-        elim (cases_Bool (w.id == v.id)) [ inl k ↦ (let e = eqb-true w.id v.id k in absurd (omega arith)) | inr k ↦ rw k refl ]) in
+    let high = All-has (λ (u : Want). a.accepted ≤ u.id) more v later h in
+    elim (cases_Bool (w.id == v.id)) [ inl k ↦ (let e = eqb-true w.id v.id k in absurd (omega arith)) | inr k ↦ rw k refl ]) in
     ap (joined_by (with_more a more) line ms) (first_append line.lun line.block a.wants more w j.first)
     ∙ ap (λ ws. let x : Audit = record (joined_with a line (ms ++ w ∷ []) w) { wants = ws; accepted = a.accepted + length more } in x) (filter-append test a.wants more ∙ ap (λ ws. filter test a.wants ++ ws) stay)
     ∙ ap (λ o. with_more (joined_by a line ms o) more) (sym j.first)

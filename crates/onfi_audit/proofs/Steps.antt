@@ -151,7 +151,7 @@ module _ (a : Audit) (line : Line) where
     start_leaves was has_rest of_rest =
         same_parts a.timing a.rules _ _ _ _ _ _ (command_end [] w rest before after others here of_lun has rise)
         (ap (λ l. slice_set (states_at a.luns before) l (lun_after a.timing (w ∷ rest) 0 (line.start + phase_length (group_spans a.timing (w ∷ rest)) (length (w ∷ rest)) 0))) of_lun
-            ∙ command_luns [] w rest before after others here of_lun has rise)
+        ∙ command_luns [] w rest before after others here of_lun has rise)
         (wants_started a.wants rise line.lun w has of_lun before after rest others here was has_rest of_rest)
 
 -- Choices
@@ -165,6 +165,7 @@ later_luns a ia n g more ready later there whole =
     same_lun_of : (us vs : List Want) → 1 ≤ length us → lun_of (us ++ vs) ≡ lun_of us
     same_lun_of [] vs some = absurd (omega arith)
     same_lun_of (u ∷ us) vs some = refl
+
     All-right : {A : Type 0} (P : A → Type 0) (us vs : List A) → All P (us ++ vs) → All P vs
     All-right P [] vs k = k
     All-right P (u ∷ us) vs k = All-right P us vs k.1
@@ -278,7 +279,7 @@ module _ (a : Audit) (ia : IsAudit a) (line : Line) where
           (subst (λ o. Fits a o (put after line.lun new line.lun)) (sym there) (subst (Fits a (Some x)) (sym (put_same after line.lun new)) ok))
       | inr d ↦ subst (Fits a (slice_get a.luns n)) (sym (put_other after line.lun new n d))
           (fits_before a ia b w has refl refl n (slice_get a.luns n) (after n) refl (λ e. d (e ∙ of_lun))
-              (subst (λ o. Fits b o (after n)) (get_set_other a.luns line.lun n (opened a.timing (ms ++ w ∷ []) b.bus_free) d) (choice n)))
+          (subst (λ o. Fits b o (after n)) (get_set_other a.luns line.lun n (opened a.timing (ms ++ w ∷ []) b.bus_free) d) (choice n)))
     ]
 
     back_others : (new : List Want) (n : ℕ) → n ≢ line.lun → after n ≡ put after line.lun new n
@@ -320,10 +321,14 @@ module _ (a : Audit) (ia : IsAudit a) (line : Line) where
           choice = before_of [] ok;
           move = Start (w ∷ rest);
           is = record {
-            is_move = (from, free', record {
-              group = group;
-              first = (stays w of_lun waits, All-both (λ v. v.lun ≡ line.lun) (IsFirst a.wants) (IsFirst (filter (keep before) a.wants)) stays rest luns rest_waits);
-            });
+            is_move = (
+              from,
+              free',
+              record {
+                group = group;
+                first = (stays w of_lun waits, All-both (λ v. v.lun ≡ line.lun) (IsFirst a.wants) (IsFirst (filter (keep before) a.wants)) stays rest luns rest_waits);
+              },
+            );
             on_time = subst (λ o. max a.bus_free (free_from o) ≤ line.start) (sym free') j.on_time;
             shows = (command_of line [] w rest j.command j.named, of_lun);
           };
@@ -420,12 +425,13 @@ module _ (a : Audit) (ia : IsAudit a) (line : Line) (before : ℕ → List Want)
     choice_after n = elim (same_place n line.lun) [
       | inl e ↦ subst (λ m. Fits c (slice_get c.luns m) (put before line.lun rest m)) (sym e)
           (subst (λ o. Fits c o (put before line.lun rest line.lun)) (sym (get_set_same a.luns line.lun x (opened a.timing (ms ++ w ∷ []) c.bus_free) there))
-          (subst (Fits c (Some (opened a.timing (ms ++ w ∷ []) c.bus_free))) (sym (put_same before line.lun rest))
-              (subst (IsGroup a.rules) (sym (append_assoc ms (w ∷ []) rest)) whole,
-              All-each (IsFirst c.wants) rest (λ v k. first_left a.wants w v ia.ids there_w (differ v k) (All-has (IsFirst a.wants) rest v rest_waits k)))))
+          (subst (Fits c (Some (opened a.timing (ms ++ w ∷ []) c.bus_free))) (sym (put_same before line.lun rest)) (
+            subst (IsGroup a.rules) (sym (append_assoc ms (w ∷ []) rest)) whole,
+            All-each (IsFirst c.wants) rest (λ v k. first_left a.wants w v ia.ids there_w (differ v k) (All-has (IsFirst a.wants) rest v rest_waits k)),
+          )))
       | inr d ↦ subst (Fits c (slice_get c.luns n)) (sym (put_other before line.lun rest n d))
           (subst (λ o. Fits c o (before n)) (sym (get_set_other a.luns line.lun n (opened a.timing (ms ++ w ∷ []) c.bus_free) d))
-              (fits_after a ia c w there_w refl refl n (slice_get a.luns n) (before n) refl (λ e. d (e ∙ of_lun)) (choice n)))
+          (fits_after a ia c w there_w refl refl n (slice_get a.luns n) (before n) refl (λ e. d (e ∙ of_lun)) (choice n)))
     ]
 
     joining_forth : (from : ℕ) → slice_get (problem_at a before).luns line.lun ≡ Some (Running (ms ++ w ∷ rest) (length ms) from) → before line.lun ≡ w ∷ rest → GoesTo a line (Next line.lun) before c

@@ -66,11 +66,37 @@ fn phases_too_soon(rt: HostRuntime) -> Result<(), Fail> {
     audit.accept(Kind::Read, 1, 2, 0)?;
     audit.accept(Kind::Read, 0, 4, 0)?;
     assert_eq!(rt; audit.judge(&command(0, 0, 2)), Ok(()));
-    assert_eq!(rt; audit.judge(&command(9, 1, 2)), Err(LogBreach::BusNotFree { start: 9, bus_free: 10 }));
-    assert_eq!(rt; audit.judge(&command(14, 0, 3)), Err(LogBreach::NotReady { lun: 0, start: 14, ready: 15 }));
-    assert_eq!(rt; audit.judge(&post(59, 0, 2)), Err(LogBreach::NotReady { lun: 0, start: 59, ready: 60 }));
+    assert_eq!(rt;
+        audit.judge(&command(9, 1, 2)),
+        Err(LogBreach::BusNotFree {
+            start: 9,
+            bus_free: 10
+        })
+    );
+    assert_eq!(rt;
+        audit.judge(&command(14, 0, 3)),
+        Err(LogBreach::NotReady {
+            lun: 0,
+            start: 14,
+            ready: 15
+        })
+    );
+    assert_eq!(rt;
+        audit.judge(&post(59, 0, 2)),
+        Err(LogBreach::NotReady {
+            lun: 0,
+            start: 59,
+            ready: 60
+        })
+    );
     assert_eq!(rt; audit.judge(&post(60, 0, 2)), Ok(()));
-    assert_eq!(rt; audit.judge(&command(79, 0, 4)), Err(LogBreach::BusNotFree { start: 79, bus_free: 80 }));
+    assert_eq!(rt;
+        audit.judge(&command(79, 0, 4)),
+        Err(LogBreach::BusNotFree {
+            start: 79,
+            bus_free: 80
+        })
+    );
     assert_eq!(rt; audit.judge(&command(80, 0, 4)), Ok(()));
     Ok(())
 }
@@ -84,7 +110,14 @@ fn a_group_before_its_lun_is_free(rt: HostRuntime) -> Result<(), Fail> {
     flight.set_lun(1, LunState::Free { since: 100 });
     let mut audit = Audit::of(alloc, &flight);
     audit.accept(Kind::Read, 1, 2, 0)?;
-    assert_eq!(rt; audit.judge(&command(99, 1, 2)), Err(LogBreach::LunNotFree { lun: 1, start: 99, since: 100 }));
+    assert_eq!(rt;
+        audit.judge(&command(99, 1, 2)),
+        Err(LogBreach::LunNotFree {
+            lun: 1,
+            start: 99,
+            since: 100
+        })
+    );
     assert_eq!(rt; audit.judge(&command(100, 1, 2)), Ok(()));
     Ok(())
 }
@@ -93,18 +126,50 @@ fn a_group_before_its_lun_is_free(rt: HostRuntime) -> Result<(), Fail> {
 #[test]
 fn phases_of_nothing(rt: HostRuntime) -> Result<(), Fail> {
     let mut audit = opened(rt.alloc())?;
-    assert_eq!(rt; audit.judge(&command(1 << 62, 0, 2)), Err(LogBreach::TooLate));
-    assert_eq!(rt; audit.judge(&command(0, 2, 2)), Err(LogBreach::NoLun { lun: 2 }));
-    assert_eq!(rt; audit.judge(&post(0, 0, 2)), Err(LogBreach::NothingRuns { lun: 0 }));
-    assert_eq!(rt; audit.judge(&command(0, 0, 2)), Err(LogBreach::UnknownRequest { lun: 0, block: 2 }));
+    assert_eq!(rt;
+        audit.judge(&command(1 << 62, 0, 2)),
+        Err(LogBreach::TooLate)
+    );
+    assert_eq!(rt;
+        audit.judge(&command(0, 2, 2)),
+        Err(LogBreach::NoLun { lun: 2 })
+    );
+    assert_eq!(rt;
+        audit.judge(&post(0, 0, 2)),
+        Err(LogBreach::NothingRuns { lun: 0 })
+    );
+    assert_eq!(rt;
+        audit.judge(&command(0, 0, 2)),
+        Err(LogBreach::UnknownRequest { lun: 0, block: 2 })
+    );
     audit.accept(Kind::Erase, 0, 2, 0)?;
     audit.accept(Kind::Read, 0, 2, 0)?;
     audit.accept(Kind::Read, 0, 4, 0)?;
     audit.accept(Kind::Read, 0, 6, 0)?;
-    assert_eq!(rt; audit.judge(&command(0, 0, 2)), Err(LogBreach::BlockOrder { earlier: 0, later: 1 }));
+    assert_eq!(rt;
+        audit.judge(&command(0, 0, 2)),
+        Err(LogBreach::BlockOrder {
+            earlier: 0,
+            later: 1
+        })
+    );
     assert_eq!(rt; audit.judge(&command(0, 0, 4)), Ok(()));
-    assert_eq!(rt; audit.judge(&command(15, 0, 6)), Err(LogBreach::NotGrouped { first: 2, request: 3 }));
-    assert_eq!(rt; audit.judge(&post(60, 0, 6)), Err(LogBreach::OtherPhase { lun: 0, is_post: true, block: 4, page: 0 }));
+    assert_eq!(rt;
+        audit.judge(&command(15, 0, 6)),
+        Err(LogBreach::NotGrouped {
+            first: 2,
+            request: 3
+        })
+    );
+    assert_eq!(rt;
+        audit.judge(&post(60, 0, 6)),
+        Err(LogBreach::OtherPhase {
+            lun: 0,
+            is_post: true,
+            block: 4,
+            page: 0
+        })
+    );
     assert_eq!(rt; audit.judge(&post(60, 0, 4)), Ok(()));
     Ok(())
 }
@@ -130,8 +195,23 @@ fn a_running_group(rt: HostRuntime) -> Result<(), Fail> {
     };
     flight.set_lun(0, state);
     let mut audit = Audit::of(alloc, &flight);
-    assert_eq!(rt; audit.judge(&command(0, 0, 2)), Err(LogBreach::OtherPhase { lun: 0, is_post: true, block: 2, page: 0 }));
-    assert_eq!(rt; audit.judge(&post(40, 0, 2)), Err(LogBreach::NotReady { lun: 0, start: 40, ready: 50 }));
+    assert_eq!(rt;
+        audit.judge(&command(0, 0, 2)),
+        Err(LogBreach::OtherPhase {
+            lun: 0,
+            is_post: true,
+            block: 2,
+            page: 0
+        })
+    );
+    assert_eq!(rt;
+        audit.judge(&post(40, 0, 2)),
+        Err(LogBreach::NotReady {
+            lun: 0,
+            start: 40,
+            ready: 50
+        })
+    );
     audit.ready(0, 40);
     assert_eq!(rt; audit.judge(&post(40, 0, 2)), Ok(()));
     assert_eq!(rt; audit.luns().len(), 2);
@@ -143,7 +223,10 @@ fn a_running_group(rt: HostRuntime) -> Result<(), Fail> {
 fn requests_refused(rt: HostRuntime) -> Result<(), Fail> {
     let mut audit = opened(rt.alloc())?;
     assert_eq!(rt; audit.accept(Kind::Read, 2, 0, 0), Err(AcceptFault::NoLun));
-    assert_eq!(rt; audit.accept(Kind::Erase, 0, 0, 1), Err(AcceptFault::ErasePage));
+    assert_eq!(rt;
+        audit.accept(Kind::Erase, 0, 0, 1),
+        Err(AcceptFault::ErasePage)
+    );
     assert_eq!(rt; audit.accept(Kind::Erase, 0, 0, 0), Ok(0));
     Ok(())
 }

@@ -80,7 +80,13 @@ impl Audit {
     }
 
     // The phase that a group has next, if the line is that and may come.
-    fn going_on(&self, line: &Line, group: &Group, phase: u8, ready: u64) -> Result<Coming, LogBreach>
+    fn going_on(
+        &self,
+        line: &Line,
+        group: &Group,
+        phase: u8,
+        ready: u64,
+    ) -> Result<Coming, LogBreach>
         requires next { HasNext self.now line.now.lun group.now phase ready }
         ensures ok { IfOk result (IsGoing self.now line.now group.now phase ready) }
         ensures broken { IfErr result (Tells self.now line.now) }
@@ -218,8 +224,7 @@ impl Audit {
         let ended = line.start + phase_length(&self.timing, members, count - 1);
         let more = ended + wait_before(&self.timing, members, count - 1);
         let ready = ended + wait_before(&self.timing, members, count);
-        self.luns
-            .set(usize::from(line.lun), LunStage::Open { group, more, ready });
+        self.luns.set(usize::from(line.lun), LunStage::Open { group, more, ready });
         self.bus_free = ended;
         leave(&mut self.wants, want.id);
     }
