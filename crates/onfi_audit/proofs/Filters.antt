@@ -1,5 +1,5 @@
 -- Lists that are filtered, and the requests that wait first.
-use Rattle.std.proofs.Common.{◌≡◌, ◌≢◌, ℕ, ◌<◌, inl, inr, Bool, true, false, List, [], ◌∷◌, ◌++◌, Some, refl, sym, ap, ◌∙◌, append_assoc}
+use Rattle.std.proofs.Common.{◌≡◌, ◌≢◌, ℕ, ◌<◌, inl, inr, Bool, true, false, List, [], ◌∷◌, ◌++◌, None, Some, refl, sym, ap, ◌∙◌, append_assoc}
 use Rattle.std.specs.Prelude.{◌==◌, not, if◌then◌else◌, slice_get}
 use Rattle.std.specs.List.{AllByRecursion as All, filter, list_any}
 use Rattle.std.proofs.lemmas.Bool.{cases_Bool, eq-eqb, eqb-false, eqb-true, false≢true, ne_eqb}
@@ -10,7 +10,7 @@ use Rattle.onfi_group.proofs.Firsts.{on_own_block, same_by_id}
 use Rattle.onfi_group.proofs.Lists.{first_has}
 use Rattle.onfi_problem.specs.Moves.{without}
 use Rattle.onfi_problem.proofs.Wants.{Rising}
-use Rattle.onfi_audit.specs.Audit.{Names, first_at}
+use Rattle.onfi_audit.specs.Audit.{Names, first_at, is_at}
 use Rattle.onfi_audit.specs.declared.line.Line.{Line}
 
 -- tests that agree on a list keep the same of it
@@ -124,3 +124,13 @@ by_number wants want number e = filter_same _ _ wants (λ w h. elim (cases_Bool 
   | inl k ↦ (let t : (w.id == number) ≡ true = eq-eqb w.id number (sym (eqb-true want.id w.id k) ∙ e) in rw (k, t) refl)
   | inr k ↦ (let t : (w.id == number) ≡ false = ne_eqb w.id number (λ q. eqb-false want.id w.id k (e ∙ sym q)) in rw (k, t) refl)
 ])
+
+-- where none waits on a line's block none is named
+pub none_first : (wants : List Want) (line : Line) → first_at wants line.lun line.block ≡ None → All (λ w. Names line w → ⊥) wants
+none_first [] line h = tt
+none_first (w ∷ wants) line h = elim (cases_Bool (is_at line.lun line.block w)) [
+  | inl k ↦ (let q : Some w ≡ None = rw k at h in cc)
+  | inr k ↦ (
+      (λ named. let t : is_at line.lun line.block w ≡ true = rw (eq-eqb w.lun line.lun named.lun) (eq-eqb w.block line.block named.block) in absurd (false≢true (sym k ∙ t))),
+      none_first wants line (rw k at h))
+]
