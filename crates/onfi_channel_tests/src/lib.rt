@@ -1,5 +1,5 @@
-//! Tests of parameter pages, requests and chips on the sample device, and of what channels and sequencers do, by public calls alone: of
-//! what no program of the gate calls.
+//! Tests of parameter pages, requests and chips on the sample device, of what channels and sequencers do, and of
+//! runs with gates, by public calls alone: of what no program of the gate calls.
 //!
 //! What a page, a sheet or a run of the built program shows is a case, and what a chip or a core does an event of `tests/calls`.
 #![tactic(auto)]
@@ -10,6 +10,8 @@ mod addr;
 mod batch;
 #[cfg(test)]
 mod choosing;
+#[cfg(test)]
+mod gates;
 #[cfg(test)]
 mod held;
 #[cfg(test)]
