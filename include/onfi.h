@@ -72,6 +72,7 @@ enum onfi_status {
     ONFI_BAD_CHOICE = 25, /* The choice of a batch is above 2. */
     ONFI_BAD_BATCH = 26, /* A batch of no request, or of more than eight. */
     ONFI_BAD_ORDER = 27, /* Numbers of requests are equal or don't rise, or reach the count of all that were accepted. */
+    ONFI_NO_LENGTHS = 28, /* A read of so many sectors without a post of as many, or sectors of what is no read. */
     /* schedules */
     ONFI_BAD_SCHEDULE = 30, /* A count of a schedule is out of its range, or a start is 2^63 ns or more. */
     ONFI_NOTHING_DUE = 31, /* No phase of the schedule is left. */

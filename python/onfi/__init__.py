@@ -79,6 +79,7 @@ from onfi.refused import (
     Memory,
     NoColumnEnhanced,
     NoCopy,
+    NoLengths,
     NoMultiLun,
     NoStatusEnhanced,
     NotDue,

@@ -114,6 +114,12 @@ class BadOrder(Refused):
     status = 27
 
 
+class NoLengths(Refused):
+    """A read of so many sectors without a post of as many, or sectors of what is no read."""
+
+    status = 28
+
+
 class BadSchedule(Refused):
     """A count of a schedule is out of its range, or a start is 2^63 ns or more."""
 
@@ -393,6 +399,7 @@ REFUSALS: Dict[int, Type[Refused]] = {
         BadChoice,
         BadBatch,
         BadOrder,
+        NoLengths,
         BadSchedule,
         NothingDue,
         NotDue,
@@ -467,6 +474,7 @@ __all__ = [
     "Memory",
     "NoColumnEnhanced",
     "NoCopy",
+    "NoLengths",
     "NoMultiLun",
     "NoStatusEnhanced",
     "NotDue",

@@ -236,14 +236,6 @@ class Testing(unittest.TestCase):
         for name in names:
             self.assertIn(name, there)
 
-    def test_cases_that_show_a_mistake_are_there(self) -> None:
-        rows = rows_of(CLAIMS, "Choice and weights: shown by a case alone")
-        titles = "\n".join(path.read_text() for path in (ROOT / "tests").glob("*/*.cases"))
-        found = [name.removesuffix(" ..") for row in rows for name in re.findall(r": `([^`]+)`", row[1])]
-        self.assertGreater(len(found), 8)
-        for name in found:
-            self.assertIn(name, titles)
-
 
 if __name__ == "__main__":
     unittest.main()

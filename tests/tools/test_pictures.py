@@ -371,6 +371,18 @@ class Commands(unittest.TestCase):
                     self.assertIn(word, ran.stderr)
                     self.assertIn(str(path), ran.stderr)
 
+    def test_an_output_of_some_sectors_is_as_long_as_the_script_says(self) -> None:
+        """Of 528 bytes at 20 ns in 11,000 ns, three times 132 less in 3,080 ns."""
+        for name, row in (("batch", "sectorpost,1,3080"), ("program-by-page", "sector,132")):
+            text = (support.ROOT / f"examples/{name}.onfi").read_text()
+            with tempfile.TemporaryDirectory() as room:
+                path = Path(room) / "sectors.onfi"
+                path.write_text(f"{row}\n{text}")
+                for post, status in ((3080, 0), (11000, 0), (3081, 1)):
+                    given = f"0 140 1 read cmd 0 0 00 30\n25240 {25240 + post} 1 read post 0 0 06 E0\n"
+                    ran = support.run_tool("draw-trace", "--script", str(path), given=given)
+                    self.assertEqual((ran.returncode, bool(ran.stdout)), (status, not status), ran.stderr)
+
     def test_a_full_disk_is_told(self) -> None:
         tool = [sys.executable, "-B", str(support.ROOT / "tools/draw-trace"), "--as", "svg"]
         with open("/dev/full", "w") as full:

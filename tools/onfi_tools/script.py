@@ -3,7 +3,7 @@
 from __future__ import annotations
 
 import csv
-from typing import Dict, List
+from typing import Dict, List, Mapping
 
 from onfi_tools.device import KINDS, Spans, first_copy, numbers_of, spans_of, strobed_spans_of
 
@@ -21,16 +21,30 @@ def page_numbers(text: str) -> Dict[str, int]:
     return numbers_of(first_copy(bytes.fromhex("".join(row[1] for row in rows_of(text) if row[:1] == ["page"] and len(row) == 2))))
 
 
-def lengths_of(text: str) -> Dict[str, Spans]:
-    """The phase lengths of each kind in ns; ValueError where the script doesn't give them."""
+def paged_spans(text: str, numbers: Mapping[str, int]) -> Dict[str, Spans]:
+    """The phase lengths of a page of these numbers, by the sheet and the strobes of a script."""
     rows = rows_of(text)
-    told = {row[1]: Spans(*map(int, row[2:6])) for row in rows if row[:1] == ["spans"] and len(row) == 6}
-    if all(kind in told for kind in KINDS):
-        return told
     sheet = {row[1]: int(row[2]) for row in rows if row[:1] == ["sheet"] and len(row) == 3}
     strobes = {row[1]: int(row[2]) for row in rows if row[:1] == ["strobe"] and len(row) == 3}
     try:
-        numbers = page_numbers(text)
         return strobed_spans_of(numbers, sheet, strobes) if strobes else spans_of(numbers, sheet)
     except KeyError as missing:
         raise ValueError(f"the script has no row for {missing}") from None
+
+
+def lengths_of(text: str) -> Dict[str, Spans]:
+    """The phase lengths of each kind in ns; ValueError where the script doesn't give them."""
+    told = {row[1]: Spans(*map(int, row[2:6])) for row in rows_of(text) if row[:1] == ["spans"] and len(row) == 6}
+    return told if all(kind in told for kind in KINDS) else paged_spans(text, page_numbers(text))
+
+
+def outputs_of(text: str) -> List[int]:
+    """How long outputs of some sectors hold the bus in ns, by the rows of a script."""
+    rows = rows_of(text)
+    sizes = [count * int(row[1]) for row in rows if row[:1] == ["sector"] and len(row) == 2 for count in range(1, 8)]
+    if not sizes:
+        return [int(row[2]) for row in rows if row[:1] == ["sectorpost"] and len(row) == 3]
+    numbers = page_numbers(text)
+    page = numbers["data_bytes"] + numbers["spare_bytes"]
+    pages = [{**numbers, "data_bytes": size, "spare_bytes": 0} for size in sizes if size <= page]
+    return [paged_spans(text, small)["read"].post for small in pages]

@@ -3,7 +3,7 @@
 from __future__ import annotations
 
 import enum
-from typing import Dict, Iterable, List, Mapping, NamedTuple, Optional, TypeVar
+from typing import Dict, Iterable, List, Mapping, NamedTuple, Optional, Sequence, TypeVar
 
 from onfi_tools.device import KINDS, Spans
 
@@ -158,11 +158,13 @@ def between(phase: Phase, behind: Phase, lengths: Optional[Mapping[str, Spans]])
     return [cell for cell in cells if cell.start < cell.end]
 
 
-def misfit(phases: List[Phase], lengths: Mapping[str, Spans]) -> Optional[str]:
-    """What these lengths contradict first in a trace, in words; None where it may be one of a device that has them."""
+def misfit(phases: List[Phase], lengths: Mapping[str, Spans], outputs: Sequence[int]) -> Optional[str]:
+    """What these lengths, and those of outputs of some sectors, contradict first in a trace, in words; None where it may be one
+    of a device that has them."""
     for number, phase in enumerate(phases, 1):
         wanted = lengths[phase.kind].post if phase.is_post else lengths[phase.kind].cmd
-        if phase.end - phase.start != wanted:
+        others = outputs if phase.is_post and phase.kind == "read" else []
+        if phase.end - phase.start not in (wanted, *others):
             return f"line {number}: the phase takes {phase.end - phase.start} ns, by the script {wanted}"
     for own in by_lun(phases).values():
         for phase, behind in zip(own, own[1:]):

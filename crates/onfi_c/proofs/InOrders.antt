@@ -72,7 +72,7 @@ pub one_group : (rules : Rules) (w : Want) → IsGroup rules (w ∷ [])
 one_group rules w = record {
   some = omega arith;
   few = omega arith;
-  kind = (refl, tt);
+  operation = (refl, tt);
   lun = (refl, tt);
   planes = (tt, tt);
   page = λ other. (refl, tt);

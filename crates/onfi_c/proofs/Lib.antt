@@ -6,6 +6,7 @@ mod Giving
 mod Horizons
 mod InOrders
 mod InPlace
+mod Lengths
 mod NextRan
 mod NextThere
 mod NextTold

@@ -6,21 +6,19 @@ use Rattle.std.proofs.Math.Seq.{take-append_seam}
 use Rattle.std.proofs.lemmas.Bool.{cases_Bool, ne_eqb}
 use Rattle.std.proofs.lemmas.Bool.Decides.{nat_tests}
 use Rattle.std.proofs.lemmas.List.{length-map}
-use Rattle.onfi_timing.specs.declared.kind.Kind.{Kind}
-use Rattle.onfi_timing.specs.declared.kind.Kind.TheVariants.{Read, Program, Erase}
 use Rattle.onfi_timing.specs.declared.timing.Timing.{Timing}
 use Rattle.onfi_timing.specs.Phases.{phase_length, wait_before}
 use Rattle.onfi_request.specs.declared.want.Want.{Want}
 use Rattle.onfi_group.specs.declared.rules.Rules.{Rules}
 use Rattle.onfi_group.specs.Group.{IsFirst, group_spans, is_member, on_block}
 use Rattle.onfi_problem.specs.declared.fault.ProblemFault.{ProblemFault}
-use Rattle.onfi_problem.specs.declared.fault.ProblemFault.TheVariants.{TooMany, BadLun, Clock, Memory}
+use Rattle.onfi_problem.specs.declared.fault.ProblemFault.TheVariants.{TooMany, BadLun, NoLengths, Clock, Memory}
 use Rattle.onfi_problem.specs.declared.lun_state.LunState.{LunState}
 use Rattle.onfi_problem.specs.declared.lun_state.LunState.TheVariants.{Free, Running}
 use Rattle.onfi_problem.specs.Faults.{TellsFault}
 use Rattle.onfi_problem.specs.Kept.{problem_of}
 use Rattle.onfi_problem.specs.Left.{InLimits, horizon}
-use Rattle.onfi_problem.specs.Problem.{Problem, IsProblem, IsSmall}
+use Rattle.onfi_problem.specs.Problem.{Problem, HasLengths, IsProblem, IsSmall}
 use Rattle.onfi_problem.specs.Moves.{IsMove, lun_after}
 use Rattle.onfi_problem.proofs.Kept.{kept, kept_small}
 use Rattle.onfi_problem.proofs.Lists.{map_found, map_set}
@@ -42,21 +40,24 @@ use Rattle.onfi_c.specs.Refused.{IsBadProblem, IsFaultSaid}
 use Rattle.onfi_c.specs.Said.{AreRules, IsSaid, IsTiming, kind_of, members_of, state_of, states_of, want_of, wants_of}
 use Rattle.onfi_c.specs.Status.{problem_status}
 use Rattle.onfi_c.specs.Written.{filled, written_schedule, written_want}
+use Rattle.onfi_c.proofs.Lengths.{kept_lengths}
 
 -- Why what is said is no problem
 
-pub fault_told : (p : Problem) (fault : ProblemFault) → TellsFault p (Some fault) → IsBadProblem p (problem_status fault)
-fault_told p TooMany tells = tells
-fault_told p BadLun tells = tells
-fault_told p Clock tells = tells
-fault_told p Memory tells = tells
+pub fault_told : (p : Problem) (fault : ProblemFault) → HasLengths p → TellsFault p (Some fault) → IsBadProblem p (problem_status fault)
+fault_told p TooMany has tells = tells
+fault_told p BadLun has tells = tells
+fault_told p NoLengths has tells = absurd (tells.2 has)
+fault_told p Clock has tells = (tells.0, tells.1, tells.3)
+fault_told p Memory has tells = tells
 
 -- a problem has no fault but its times
-pub only_late : (p : Problem) (fault : ProblemFault) → IsSmall p → IsProblem p → TellsFault p (Some fault) → 2 ^ 62 ≤ horizon p
-only_late p TooMany small ip tells = absurd (tells small)
-only_late p BadLun small ip tells = absurd (tells.1 ip)
-only_late p Clock small ip tells = tells.2
-only_late p Memory small ip tells = absurd tells
+pub only_late : (p : Problem) (fault : ProblemFault) → IsSmall p → IsProblem p → HasLengths p → TellsFault p (Some fault) → 2 ^ 62 ≤ horizon p
+only_late p TooMany small ip has tells = absurd (tells small)
+only_late p BadLun small ip has tells = absurd (tells.1 ip)
+only_late p NoLengths small ip has tells = absurd (tells.2 has)
+only_late p Clock small ip has tells = tells.3
+only_late p Memory small ip has tells = absurd tells
 
 pub too_many : (channel : PlainChannel) (luns : List PlainLun) (wants : List PlainWant) (timing : Timing) → IsTiming channel.timing timing → channel.rules.plane_bits ≤ 2
     → (8 < length luns) ⊎ (8 < length wants) → IsFaultSaid channel luns wants status.TooMany
@@ -105,10 +106,19 @@ says_running bits lun g n r e = elim (cases_Bool (lun.members == 0)) [
       (omega arith, cc))
 ]
 
--- a want of what is said is on the plane that its block names
-planes_of : (bits : ℕ) (wants : List PlainWant) → Each (λ w. w.plane ≡ w.block % 2 ^ bits) (wants_of bits wants)
-planes_of bits [] = tt
-planes_of bits (w ∷ wants) = (refl, planes_of bits wants)
+-- a want that is said so is it again: it is on the plane that its block names, and its kind is by its number
+pub record IsPlain (bits : ℕ) (w : Want) : Type 0 where
+  pub plane : w.plane ≡ w.block % 2 ^ bits
+  pub kind : kind_of (number_of_kind w.kind) ≡ w.kind
+
+kind_again : (kind : ℕ) → kind_of (number_of_kind (kind_of kind)) ≡ kind_of kind
+kind_again zero = refl
+kind_again (suc zero) = refl
+kind_again (suc (suc kind)) = refl
+
+are_plain : (bits : ℕ) (wants : List PlainWant) → Each (IsPlain bits) (wants_of bits wants)
+are_plain bits [] = tt
+are_plain bits (w ∷ wants) = (record { plane = refl; kind = kind_again w.kind }, are_plain bits wants)
 
 first_keeps : (P : Want → Type 0) (f : Want → Bool) (wants : List Want) (m : Want) → Each P wants → slice_get (filter f wants) 0 ≡ Some m → P m
 first_keeps P f [] m each e = cc
@@ -121,15 +131,10 @@ members_keep : (P : Want → Type 0) (wants members : List Want) → Each P want
 members_keep P wants [] each first = tt
 members_keep P wants (m ∷ members) each first = (first_keeps P (on_block m) wants m each first.0, members_keep P wants members each first.1)
 
-kind_again : (kind : Kind) → kind_of (number_of_kind kind) ≡ kind
-kind_again Read = refl
-kind_again Program = refl
-kind_again Erase = refl
+pub want_again : (bits : ℕ) (w : Want) → IsPlain bits w → want_of bits (written_want w) ≡ w
+want_again bits w plain = let kind = plain.kind in let plane = plain.plane in rw (kind, ← plane) refl
 
-pub want_again : (bits : ℕ) (w : Want) → w.plane ≡ w.block % 2 ^ bits → want_of bits (written_want w) ≡ w
-want_again bits w plane = rw (kind_again w.kind, ← plane) refl
-
-wants_again : (bits : ℕ) (wants : List Want) → Each (λ w. w.plane ≡ w.block % 2 ^ bits) wants → wants_of bits (map written_want wants) ≡ wants
+wants_again : (bits : ℕ) (wants : List Want) → Each (IsPlain bits) wants → wants_of bits (map written_want wants) ≡ wants
 wants_again bits [] each = refl
 wants_again bits (w ∷ wants) each = ap (λ x. x ∷ wants_of bits (map written_want wants)) (want_again bits w each.0) ∙ ap (λ xs. w ∷ xs) (wants_again bits wants each.1)
 
@@ -143,13 +148,13 @@ tells_running bits luns lun d g n r there =
     let says = says_running bits (slice_index_or luns lun d) g n r (map_found (state_of bits) luns lun d (Running g n r) there) in
     record { some = says.0; tells = says.1 }
 
-tells_new : (bits : ℕ) (wants : List Want) (group : List Want) (luns : List PlainLun) (at lun : ℕ) → Each (λ w. w.plane ≡ w.block % 2 ^ bits) wants → 1 ≤ length group → Each (IsFirst wants) group
+tells_new : (bits : ℕ) (wants : List Want) (group : List Want) (luns : List PlainLun) (at lun : ℕ) → Each (IsPlain bits) wants → 1 ≤ length group → Each (IsFirst wants) group
     → Tells bits group (telling luns (Some at) lun group)
-tells_new bits wants group luns at lun planes some first =
+tells_new bits wants group luns at lun plain some first =
     let same : take (length group) (filled 4 no_want (map written_want group)) ≡ map written_want group =
     ap (λ n. take n (filled 4 no_want (map written_want group))) (sym (length-map group written_want))
     ∙ take-append_seam (map written_want group) (drop (length (map written_want group)) (replicate 4 no_want)) in
-    let each : Each (λ w. w.plane ≡ w.block % 2 ^ bits) group = members_keep (λ w. w.plane ≡ w.block % 2 ^ bits) wants group planes first in
+    let each : Each (IsPlain bits) group = members_keep (IsPlain bits) wants group plain first in
     record { some = some; tells = ap (wants_of bits) same ∙ wants_again bits group each }
 
 -- .. of a running group as it did, of one that begins by its wants, which wait
@@ -157,14 +162,14 @@ pub tells_by : (bits : ℕ) (place : Option ℕ) (p : Problem) (lun : ℕ) (grou
     → IsMove p (move_by lun group place) → p.luns ≡ states_of bits luns → p.wants ≡ wants_of bits wants → Tells bits group (telling luns place lun group)
 tells_by bits None p lun group phase luns wants is move states requests = tells_running bits luns lun _ group phase is.0 (ap (λ xs. slice_get xs lun) (sym states) ∙ is.1)
 tells_by bits (Some at) p lun group phase luns wants is move states requests =
-    let planes = subst (Each (λ w. w.plane ≡ w.block % 2 ^ bits)) (sym requests) (planes_of bits wants) in
-    tells_new bits p.wants group luns at lun planes move.2.group.some move.2.first
+    let plain = subst (Each (IsPlain bits)) (sym requests) (are_plain bits wants) in
+    tells_new bits p.wants group luns at lun plain move.2.group.some move.2.first
 
 -- The wants that wait
 
-waiting_planes : (bits : ℕ) (place : Option ℕ) (group wants : List Want) → Each (λ w. w.plane ≡ w.block % 2 ^ bits) wants → Each (λ w. w.plane ≡ w.block % 2 ^ bits) (wants_behind place group wants)
-waiting_planes bits None group wants each = each
-waiting_planes bits (Some at) group wants each = All-filter (λ w. w.plane ≡ w.block % 2 ^ bits) (λ w. not (is_member group w)) wants each
+waiting_plain : (bits : ℕ) (place : Option ℕ) (group wants : List Want) → Each (IsPlain bits) wants → Each (IsPlain bits) (wants_behind place group wants)
+waiting_plain bits None group wants each = each
+waiting_plain bits (Some at) group wants each = All-filter (IsPlain bits) (λ w. not (is_member group w)) wants each
 
 waiting_fewer : (place : Option ℕ) (group wants : List Want) → length (wants_behind place group wants) ≤ length wants
 waiting_fewer None group wants = omega arith
@@ -228,8 +233,8 @@ module _ (channel : PlainChannel) (luns : List PlainLun) (wants : List PlainWant
     states = luns_are ∙ ap (λ xs. slice_set xs due.lun state) said.states ∙ ap (slice_set (states_of channel.rules.plane_bits luns) due.lun) (sym (lun_says lun written))
         ∙ sym (map_set (state_of channel.rules.plane_bits) luns due.lun lun);
     requests = (
-        let planes = subst (Each (λ w. w.plane ≡ w.block % 2 ^ channel.rules.plane_bits)) (sym said.requests) (planes_of channel.rules.plane_bits wants) in
-        let kept = subst (Each (λ w. w.plane ≡ w.block % 2 ^ channel.rules.plane_bits)) (sym wants_are) (waiting_planes channel.rules.plane_bits due.place due.group f.now.wants planes) in
+        let plain = subst (Each (IsPlain channel.rules.plane_bits)) (sym said.requests) (are_plain channel.rules.plane_bits wants) in
+        let kept = subst (Each (IsPlain channel.rules.plane_bits)) (sym wants_are) (waiting_plain channel.rules.plane_bits due.place due.group f.now.wants plain) in
         sym (ap (wants_of channel.rules.plane_bits) left ∙ wants_again channel.rules.plane_bits g.now.wants kept)
         );
   }
@@ -260,7 +265,8 @@ ran_behind old f due lun number started b said there on_time written limits =
     ran_then old f due lun number started b.bus_free b.lun b.wants.items b.schedule said there on_time written.bus_free written.lun written.wants written.schedule limits
 
 -- the problem that a due phase leaves has no fault but its times
-pub only_late_behind : (f : Flight) (due : Due) (started : ℕ) (fault : ProblemFault) → InLimits f.now → IsDue f due → TellsFault (after_late f due started).now (Some fault)
+pub only_late_behind : (f : Flight) (due : Due) (started : ℕ) (fault : ProblemFault) → InLimits f.now → HasLengths f.now → IsDue f due → TellsFault (after_late f due started).now (Some fault)
     → 2 ^ 62 ≤ horizon (after_late f due started).now
-only_late_behind f due started fault limits is tells =
-    only_late (after_late f due started).now fault (kept_small f.now (move_of due) started limits.small is.is_move) (kept f.now (move_of due) started limits.problem is.is_move) tells
+only_late_behind f due started fault limits has is tells =
+    only_late (after_late f due started).now fault (kept_small f.now (move_of due) started limits.small is.is_move) (kept f.now (move_of due) started limits.problem is.is_move)
+    (kept_lengths f.now (move_of due) started has is.is_move) tells

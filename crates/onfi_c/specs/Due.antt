@@ -1,11 +1,14 @@
 -- The phase that is due, as a plain struct gives it.
-use Rattle.std.specs.Prelude.{◌≡◌, ◌⊎◌, ℕ, ◌+◌, ◌==◌, nat_le, Bool, true, false, List, length, Some}
+use Rattle.std.specs.Prelude.{◌≡◌, ◌⊎◌, ℕ, ◌+◌, ◌*◌, ◌%◌, ◌==◌, nat_le, Bool, true, false, List, length, Some}
 use Rattle.onfi_addr.specs.declared.geometry.Geometry.{Geometry}
 use Rattle.onfi_addr.specs.declared.place.Place.{Place}
 use Rattle.onfi_addr.specs.Rows.{IsInRange, row_of}
 use Rattle.onfi_timing.specs.declared.kind.Kind.{Kind}
-use Rattle.onfi_timing.specs.declared.kind.Kind.TheVariants.{Read, Program, Erase}
+use Rattle.onfi_timing.specs.declared.kind.Kind.TheVariants.{Read, Program, Erase, ReadSectors}
+use Rattle.onfi_timing.specs.declared.operation.Operation.{Operation}
+use Rattle.onfi_timing.specs.declared.operation.Operation.TheVariants.{Read as Reads, Program as Programs, Erase as Erases}
 use Rattle.onfi_timing.specs.declared.timing.Timing.{Timing}
+use Rattle.onfi_timing.specs.Kinds.{operation_of}
 use Rattle.onfi_timing.specs.Phases.{phase_length}
 use Rattle.onfi_request.specs.declared.want.Want.{Want}
 use Rattle.onfi_group.specs.Group.{group_spans}
@@ -25,32 +28,33 @@ use Rattle.onfi_c.specs.Flights.{IsFlightSaid, IsNoFlight}
 use Rattle.onfi_c.specs.SaidGeometry.{IsNoGeometry}
 use Rattle.onfi_c.specs.Status.{number_of}
 
--- kinds as numbers
+-- kinds as numbers: of the operation, and above it how many sectors a read puts out
 abbrev pub number_of_kind : Kind → ℕ
 number_of_kind Read = 0
 number_of_kind Program = 1
 number_of_kind Erase = 2
+number_of_kind (ReadSectors first count) = count % 8 * 32
 
 -- the first command byte of a phase: 00h, 80h and 60h; of the posts Change Read Column Enhanced, 06h, and Read Status Enhanced, 78h
-abbrev pub opener_of : Kind → Bool → ℕ
-opener_of Read false = 0
-opener_of Program false = 128
-opener_of Erase false = 96
-opener_of Read true = 6
-opener_of Program true = 120
-opener_of Erase true = 120
+abbrev pub opener_of : Operation → Bool → ℕ
+opener_of Reads false = 0
+opener_of Programs false = 128
+opener_of Erases false = 96
+opener_of Reads true = 6
+opener_of Programs true = 120
+opener_of Erases true = 120
 
 -- the last one: 30h, 10h and D0h after the last plane of a group, 32h, 11h and D1h after another; of a data output E0h, and a status has none
-abbrev pub closer_of : Kind → Bool → Bool → ℕ
-closer_of Read false true = 48
-closer_of Read false false = 50
-closer_of Program false true = 16
-closer_of Program false false = 17
-closer_of Erase false true = 208
-closer_of Erase false false = 209
-closer_of Read true last = 224
-closer_of Program true last = 0
-closer_of Erase true last = 0
+abbrev pub closer_of : Operation → Bool → Bool → ℕ
+closer_of Reads false true = 48
+closer_of Reads false false = 50
+closer_of Programs false true = 16
+closer_of Programs false false = 17
+closer_of Erases false true = 208
+closer_of Erases false false = 209
+closer_of Reads true last = 224
+closer_of Programs true last = 0
+closer_of Erases true last = 0
 
 -- the page of a want
 abbrev pub page_of : Want → Place
@@ -69,8 +73,8 @@ written_phase timing geometry group member start number = record {
   kind = number_of_kind member.kind;
   number = number;
   members = length group;
-  opener = opener_of member.kind (nat_le (length group) number);
-  closer = closer_of member.kind (nat_le (length group) number) (number + 1 == length group);
+  opener = opener_of (operation_of member.kind) (nat_le (length group) number);
+  closer = closer_of (operation_of member.kind) (nat_le (length group) number) (number + 1 == length group);
   row_cycles = geometry.row_address_cycles;
   is_post = nat_le (length group) number;
 }

@@ -6,6 +6,7 @@ use Rattle.onfi_timing.specs.declared.kind.Kind.{Kind}
 use Rattle.onfi_timing.specs.declared.kind.Kind.TheVariants.{Read, Program, Erase}
 use Rattle.onfi_timing.specs.declared.spans.Spans.{Spans}
 use Rattle.onfi_timing.specs.declared.timing.Timing.{Timing}
+use Rattle.onfi_timing.specs.Kinds.{StatesNone}
 use Rattle.onfi_request.specs.declared.want.Want.{Want}
 use Rattle.onfi_group.specs.declared.rules.Rules.{Rules}
 use Rattle.onfi_problem.specs.declared.lun_state.LunState.{LunState}
@@ -25,10 +26,12 @@ pub record AreSpans (said : PlainSpans) (spans : Spans) : Type 0 where
   pub array : spans.array ≡ said.array
   pub post : spans.post ≡ said.post
 
+-- the lengths of each kind; a read puts out all of its page
 pub record IsTiming (said : PlainTiming) (timing : Timing) : Type 0 where
   pub read : AreSpans said.read timing.read
   pub program : AreSpans said.program timing.program
   pub erase : AreSpans said.erase timing.erase
+  pub pages : StatesNone timing
 
 pub record AreRules (said : PlainRules) (rules : Rules) : Type 0 where
   pub read : rules.read ≡ said.read

@@ -16,10 +16,10 @@ use crate::status::Status;
 use onfi_addr::{Geometry, Place};
 use onfi_flight::{Due, Flight, Next};
 use onfi_group::phase_length;
-use onfi_timing::{Kind, Timing};
+use onfi_timing::{Kind, Operation, Timing};
 use std::alloc::Global;
 
-/// The number of a kind.
+/// The number of a kind: of its operation, and above it how many sectors a read puts out.
 pub fn kind_number(kind: Kind) -> u8
     ensures { result ≡ number_of_kind kind }
 {
@@ -27,31 +27,32 @@ pub fn kind_number(kind: Kind) -> u8
         Kind::Read => 0,
         Kind::Program => 1,
         Kind::Erase => 2,
+        Kind::ReadSectors { count, .. } => count % 8 * 32,
     }
 }
 
 /// The first command byte (ONFI 4.2, command definition).
-fn opener_of(kind: Kind, is_post: bool) -> u8
-    ensures { result ≡ spec_opener_of kind is_post }
+fn opener_of(operation: Operation, is_post: bool) -> u8
+    ensures { result ≡ spec_opener_of operation is_post }
 {
-    match (is_post, kind) {
-        (false, Kind::Read) => 0x00,
-        (false, Kind::Program) => 0x80,
-        (false, Kind::Erase) => 0x60,
-        (true, Kind::Read) => 0x06,
+    match (is_post, operation) {
+        (false, Operation::Read) => 0x00,
+        (false, Operation::Program) => 0x80,
+        (false, Operation::Erase) => 0x60,
+        (true, Operation::Read) => 0x06,
         (true, _) => 0x78,
     }
 }
 
 /// The last command byte, 0 where there is none.
-fn closer_of(kind: Kind, is_post: bool, is_last: bool) -> u8
-    ensures { result ≡ spec_closer_of kind is_post is_last }
+fn closer_of(operation: Operation, is_post: bool, is_last: bool) -> u8
+    ensures { result ≡ spec_closer_of operation is_post is_last }
 {
-    match (is_post, kind) {
-        (false, Kind::Read) => if is_last { 0x30 } else { 0x32 },
-        (false, Kind::Program) => if is_last { 0x10 } else { 0x11 },
-        (false, Kind::Erase) => if is_last { 0xD0 } else { 0xD1 },
-        (true, Kind::Read) => 0xE0,
+    match (is_post, operation) {
+        (false, Operation::Read) => if is_last { 0x30 } else { 0x32 },
+        (false, Operation::Program) => if is_last { 0x10 } else { 0x11 },
+        (false, Operation::Erase) => if is_last { 0xD0 } else { 0xD1 },
+        (true, Operation::Read) => 0xE0,
         (true, _) => 0x00,
     }
 }
@@ -74,6 +75,7 @@ fn phase_of(timing: &Timing, geometry: &Geometry, due: &Due) -> Option<PlainPhas
     }
     let (members, number) = (due.group.len(), usize::from(due.phase));
     let is_post = members <= number;
+    let operation = member.kind.operation();
     Some(PlainPhase {
         start: due.start,
         end: due.start + phase_length(timing, due.group.members(), number),
@@ -85,8 +87,8 @@ fn phase_of(timing: &Timing, geometry: &Geometry, due: &Due) -> Option<PlainPhas
         kind: kind_number(member.kind),
         number: due.phase,
         members: members as u8,
-        opener: opener_of(member.kind, is_post),
-        closer: closer_of(member.kind, is_post, number + 1 == members),
+        opener: opener_of(operation, is_post),
+        closer: closer_of(operation, is_post, number + 1 == members),
         row_cycles: geometry.row_address_cycles,
         is_post,
     })

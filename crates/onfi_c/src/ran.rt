@@ -2,6 +2,7 @@
 ghost use Rattle.std.specs.Prelude.{◌≡◌, ◌↔◌, ◌++◌, ◌<◌, ◌≤◌, drop, length, map, take, IfOk, IfErr, IfSome, IsTrue};
 ghost use Rattle.onfi_flight.specs.Flight.{IsDue, after_late};
 ghost use Rattle.onfi_problem.specs.Left.{InLimits};
+ghost use Rattle.onfi_problem.specs.Problem.{HasLengths};
 ghost use Rattle.onfi_c.specs.Ran.{GivesRan, IsLate, IsNotRan, IsRan, Kept, kept_behind};
 ghost use Rattle.onfi_c.specs.Ran as spec;
 ghost use Rattle.onfi_c.specs.RanPlain.{IsStep};
@@ -117,7 +118,7 @@ fn run_late(alloc: Global, flight: &mut Flight, due: &Due, started: u64) -> Resu
     requires on_time { due.now.start ≤ started }
     ensures ran { IfOk result (λ _. flight.new ≡ after_late flight.old due.now started) }
     ensures limits { IfOk result (λ _. InLimits flight.new.now) }
-    ensures late { InLimits flight.old.now → IfErr result (λ status. (status ≡ Clock) × IsLate flight.old due.now started) }
+    ensures late { InLimits flight.old.now → HasLengths flight.old.now → IfErr result (λ status. (status ≡ Clock) × IsLate flight.old due.now started) }
 {
     if flight.ran_late(alloc, due, started).is_err() {
         return Err(Status::Clock);

@@ -6,6 +6,7 @@ ghost use Rattle.onfi_c.specs.Written.{filled};
 ghost use Rattle.onfi_problem.specs.declared.lun_state.LunState.TheVariants.{Free};
 ghost use Rattle.onfi_c.specs.Refused.{AreBadSpans, AreGoodSpans, IsBadTiming, IsGoodTiming, IsBadProblem, IsBadSaid, IsRefused, IsUnsaid, AreSaid};
 ghost use Rattle.onfi_problem.specs.Kept.{problem_of as parts_of};
+ghost use Rattle.onfi_problem.specs.Problem.{HasLengths};
 ghost use Rattle.onfi_c.specs.declared.status.Status.TheVariants.{Memory};
 
 use crate::channel::{PlainChannel, PlainRules, PlainSpans, PlainTiming};
@@ -197,7 +198,7 @@ pub fn rules(said: &PlainRules) -> Rules
     Rules::new(said.read, said.write, said.strict, said.plane_bits)
 }
 
-/// The problem of these parts.
+/// The problem of these parts, which lack no lengths.
 fn open(
     alloc: Global,
     timing: Timing,
@@ -206,6 +207,7 @@ fn open(
     luns: &[LunState],
     wants: &[Want],
 ) -> Result<Problem, Status>
+    requires lengths { HasLengths (parts_of timing rules bus_free luns.now wants.now) }
     ensures parts { IfOk result (λ p. p.problem ≡ parts_of timing rules bus_free luns.now wants.now) }
     ensures begun { IfOk result (λ p. p.all ≡ p.problem.wants) }
     ensures bad { IfErr result (λ status. (status ≡ Memory) ⊎ IsBadProblem (parts_of timing rules bus_free luns.now wants.now) status) }

@@ -45,6 +45,8 @@ pub enum Status {
     BadBatch,
     /// Numbers of requests are equal or don't rise, or reach the count of all that were accepted.
     BadOrder,
+    /// A read of so many sectors without a post of as many, or sectors of what is no read.
+    NoLengths,
     /// A count of a schedule is out of its range, or a start is 2^63 ns or more.
     BadSchedule,
     /// No phase of the schedule is left.
@@ -134,7 +136,7 @@ pub enum Status {
 }
 
 /// Each of them.
-pub const ALL: [Status; 61] = [
+pub const ALL: [Status; 62] = [
     Status::Done,
     Status::NoRoom,
     Status::Memory,
@@ -153,6 +155,7 @@ pub const ALL: [Status; 61] = [
     Status::BadChoice,
     Status::BadBatch,
     Status::BadOrder,
+    Status::NoLengths,
     Status::BadSchedule,
     Status::NothingDue,
     Status::NotDue,
@@ -222,6 +225,7 @@ impl Status {
             Status::BadChoice => 25,
             Status::BadBatch => 26,
             Status::BadOrder => 27,
+            Status::NoLengths => 28,
             Status::BadSchedule => 30,
             Status::NothingDue => 31,
             Status::NotDue => 33,
@@ -293,6 +297,7 @@ impl Status {
             Status::BadBatch => "a batch that is not 1 to 8",
             Status::BadOrder =>
                 "numbers of requests that are equal or fall, or reach the count of all",
+            Status::NoLengths => "sectors without lengths",
             Status::BadSchedule =>
                 "a count of the schedule out of its range, or a start of 2^63 ns or more",
             Status::NothingDue => "no phase of the schedule is left",
@@ -358,6 +363,7 @@ impl Status {
         match fault {
             ProblemFault::TooMany => Status::TooMany,
             ProblemFault::BadLun => Status::BadLun,
+            ProblemFault::NoLengths => Status::NoLengths,
             ProblemFault::Clock => Status::Clock,
             ProblemFault::Memory => Status::Memory,
         }

@@ -8,7 +8,7 @@ use crate::rule_sample::{free, timing, want};
 use onfi_group::Group;
 use onfi_problem::LunState;
 use onfi_steady::{Full, Waiting};
-use onfi_timing::Kind;
+use onfi_timing::{Kind, Operation};
 use std::alloc::Global;
 use std::test::Fail;
 
@@ -31,10 +31,25 @@ impl Numbers {
     }
 
     fn kind(&mut self) -> Kind {
-        match self.below(4) {
-            0 | 1 => Kind::Read,
-            2 => Kind::Program,
+        match self.below(5) {
+            0 => Kind::Read,
+            1 | 2 => Kind::ReadSectors {
+                first: 0,
+                count: self.below(3) as u8,
+            },
+            3 => Kind::Program,
             _ => Kind::Erase,
+        }
+    }
+
+    // One of the same operation: of a read other sectors.
+    fn alike(&mut self, kind: Kind) -> Kind {
+        match kind.operation() {
+            Operation::Read => Kind::ReadSectors {
+                first: 0,
+                count: self.below(3) as u8,
+            },
+            Operation::Program | Operation::Erase => kind,
         }
     }
 
@@ -53,8 +68,9 @@ impl Numbers {
                 ready,
             };
         }
+        let other = self.alike(kind);
         LunState::Running {
-            group: Group::of(alloc, &[want(id, kind, 0, 0), want(id + 1, kind, 0, 1)]),
+            group: Group::of(alloc, &[want(id, kind, 0, 0), want(id + 1, other, 0, 1)]),
             next: 1 + self.below(3) as u8,
             ready,
         }
@@ -87,7 +103,7 @@ impl Numbers {
 #[test]
 fn random_channels(rt: HostRuntime) -> Result<(), Fail> {
     let alloc = rt.alloc();
-    let timing = timing(5)?;
+    let timing = timing(5)?.with_sectors(1, 6)?.with_sectors(2, 13)?;
     let mut numbers = Numbers { last: 1 };
     for _ in 0..150u32 {
         let waiting = numbers.waiting()?;

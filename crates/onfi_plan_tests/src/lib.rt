@@ -32,6 +32,8 @@ mod rule_sample;
 #[cfg(test)]
 mod sample;
 #[cfg(test)]
+mod sectors;
+#[cfg(test)]
 mod split;
 #[cfg(test)]
 mod texts;

@@ -5,7 +5,7 @@ use onfi_group::Group;
 use onfi_problem::LunState;
 use onfi_request::Want;
 use onfi_steady::Waiter;
-use onfi_timing::{Kind, Timing};
+use onfi_timing::{Operation, Timing};
 
 /// The number that stands in place of none.
 pub(crate) const NONE: u64 = 99;
@@ -96,11 +96,16 @@ fn going_on(plain: &Plain, lun: u8, group: &Group, next: u8, ready: u64) -> Cand
     let spans = plain.timing.spans(group.kind());
     let command = (next as usize) < group.len();
     let start = plain.from.max(ready);
-    let end = start.saturating_add(if command { spans.cmd } else { spans.post });
+    let length = if command {
+        spans.cmd
+    } else {
+        post_of(plain, group, next)
+    };
+    let end = start.saturating_add(length);
     let keeps = command && ready <= plain.from.saturating_add(spans.gap);
-    let rank = match group.kind() {
-        Kind::Read => 4,
-        Kind::Program | Kind::Erase => 1,
+    let rank = match group.operation() {
+        Operation::Read => 4,
+        Operation::Program | Operation::Erase => 1,
     };
     let rank = if command { 0 } else { rank };
     let oldest = group
@@ -117,6 +122,15 @@ fn going_on(plain: &Plain, lun: u8, group: &Group, next: u8, ready: u64) -> Cand
             u64::from(lun),
         ],
         ids: [NONE, NONE],
+    }
+}
+
+// How long the post takes that is phase `next` of a group.
+fn post_of(plain: &Plain, group: &Group, next: u8) -> u64 {
+    let member = (next as usize).saturating_sub(group.len());
+    match group.members().get(member) {
+        Some(member) => plain.timing.spans(member.kind).post,
+        None => 0,
     }
 }
 
@@ -138,7 +152,7 @@ fn beginning(plain: &Plain, lun: u8, since: u64, work: bool, held: bool) -> Opti
         return None;
     };
     let ids = group_of(plain, &head.want);
-    let open = head.want.kind == Kind::Program && !is_due(&head) && ids[1] == NONE;
+    let open = head.want.kind.operation() == Operation::Program && !is_due(&head) && ids[1] == NONE;
     if open && work && plain.newest == Some(ids[0]) && !held {
         return match oldest(plain, lun, 3) {
             Some(erase) => Some(begun(plain, lun, since, &erase.want)),
@@ -152,10 +166,10 @@ fn begun(plain: &Plain, lun: u8, since: u64, head: &Want) -> Candidate {
     let ids = group_of(plain, head);
     let start = plain.from.max(since);
     let end = start.saturating_add(plain.timing.spans(head.kind).cmd);
-    let rank = match head.kind {
-        Kind::Read => 2,
-        Kind::Erase => 3,
-        Kind::Program => 5,
+    let rank = match head.kind.operation() {
+        Operation::Read => 2,
+        Operation::Erase => 3,
+        Operation::Program => 5,
     };
     let smaller = u64::from(ids[0] == NONE) + u64::from(ids[1] == NONE);
     Candidate {
@@ -182,7 +196,7 @@ fn on_plane(plain: &Plain, head: &Want, plane: u8) -> u64 {
     }
     let mate = plain.waiting.iter().find(|w| {
         w.want.lun == head.lun
-            && w.want.kind == head.kind
+            && w.want.kind.operation() == head.kind.operation()
             && w.want.page == head.page
             && w.want.plane == plane
             && waits_first(plain, w)
@@ -212,16 +226,16 @@ fn oldest(plain: &Plain, lun: u8, class: u8) -> Option<Waiter> {
 fn is_of(waiter: &Waiter, class: u8) -> bool {
     match class {
         0 => is_due(waiter),
-        1 => waiter.want.kind == Kind::Read,
-        2 => waiter.want.kind == Kind::Program,
-        _ => waiter.want.kind == Kind::Erase,
+        1 => waiter.want.kind.operation() == Operation::Read,
+        2 => waiter.want.kind.operation() == Operation::Program,
+        _ => waiter.want.kind.operation() == Operation::Erase,
     }
 }
 
 fn is_due(waiter: &Waiter) -> bool {
-    match waiter.want.kind {
-        Kind::Erase => waiter.passed > 511,
-        Kind::Read | Kind::Program => waiter.passed > 127,
+    match waiter.want.kind.operation() {
+        Operation::Erase => waiter.passed > 511,
+        Operation::Read | Operation::Program => waiter.passed > 127,
     }
 }
 
@@ -247,13 +261,11 @@ fn any_work(plain: &Plain) -> bool {
 
 fn has_work(plain: &Plain, lun: u8, state: &LunState) -> bool {
     match state {
-        LunState::Free { .. } => plain
-            .waiting
-            .iter()
-            .any(|w| w.want.lun == lun && w.want.kind == Kind::Read),
+        LunState::Free { .. } => plain.waiting.iter().any(|w| w.want.lun == lun
+            && w.want.kind.operation() == Operation::Read),
         LunState::Running { group, next, ready } => {
             if (*next as usize) < group.len() {
-                group.kind() != Kind::Erase
+                group.operation() != Operation::Erase
             } else {
                 *ready <= plain.from.saturating_add(plain.timing.program.array)
             }

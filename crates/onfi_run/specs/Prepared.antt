@@ -1,6 +1,7 @@
 -- Why the rows of a run are refused once their device is known.
-use Rattle.std.specs.Prelude.{ℕ, ◌+◌, ◌&&◌, nat_lt, if◌then◌else◌, Bool, List, [], ◌∷◌, Option, Some, None}
+use Rattle.std.specs.Prelude.{ℕ, ◌+◌, ◌&&◌, nat_le, nat_lt, if◌then◌else◌, Bool, List, [], ◌∷◌, Option, Some, None}
 use Rattle.onfi_addr.specs.declared.geometry.Geometry.{Geometry}
+use Rattle.onfi_addr.specs.Rows.{page_bytes_of}
 use Rattle.onfi_request.specs.declared.checking.RequestFault.{RequestFault}
 use Rattle.onfi_core.specs.Steps.{fault_of}
 use Rattle.onfi_script.specs.declared.fault.Refusal.{Refusal}
@@ -8,7 +9,7 @@ use Rattle.onfi_script.specs.declared.fault.ScriptFault.{ScriptFault}
 use Rattle.onfi_script.specs.declared.fault.ScriptFault.TheVariants.{OutOfRange, Request}
 use Rattle.onfi_script.specs.declared.operation.Operation.{Operation}
 use Rattle.onfi_script.specs.declared.row.Row.{Row}
-use Rattle.onfi_script.specs.declared.row.Row.TheVariants.{Op, Fault, ChipFail, NotReady, Array}
+use Rattle.onfi_script.specs.declared.row.Row.TheVariants.{Op, Fault, ChipFail, NotReady, Array, Sector}
 use Rattle.onfi_request.specs.declared.fault.Fault.{Fault as FaultOf}
 use Rattle.onfi_run.specs.Requests.{request_of}
 
@@ -37,6 +38,7 @@ row_fault channels hosts geometry (Fault channel fault) = unless_there (nat_lt c
 row_fault channels hosts geometry (ChipFail channel number) = unless_there (nat_lt channel channels)
 row_fault channels hosts geometry (NotReady channel number) = unless_there (nat_lt channel channels)
 row_fault channels hosts geometry (Array channel lun number length) = unless_there (nat_lt channel channels && nat_lt lun geometry.lun_count)
+row_fault channels hosts geometry (Sector bytes) = unless_there (nat_le bytes (page_bytes_of geometry))
 row_fault channels hosts geometry _ = None
 
 -- the fault reported of this row, or else what is wrong with the later ones

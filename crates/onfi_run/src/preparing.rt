@@ -75,6 +75,7 @@ fn row_fault(alloc: Global, bounds: &Bounds, row: &Row) -> Result<Option<ScriptF
         Row::Array { channel, lun, .. } => Ok(unless_there(
             *channel < bounds.channels && *lun < bounds.geometry.lun_count,
         )),
+        Row::Sector { bytes } => Ok(unless_there(*bytes <= bounds.geometry.page_bytes())),
         _ => Ok(None),
     }
 }
@@ -119,7 +120,8 @@ fn refusal_on(
 /// # Errors
 /// The first refusal: no line `end`; the rows from the top, each for its name, its place, its count of fields, its
 /// fields, and what an earlier row said; the device; the rows once more, for hosts, channels, LUNs and blocks that
-/// aren't there and for operations that the device doesn't take. And where memory was refused.
+/// aren't there, for a sector longer than a page and for operations that the device doesn't take. And where memory was
+/// refused.
 pub fn prepare(alloc: Global, input: &[u8]) -> Result<Prepared, Stop>
     ensures { MatchResult result (λ p. IsPrepared Purpose.Run input.now p.rows.items p.device) (λ stop. IfRefused stop (λ refusal. IsRefused Purpose.Run input.now refusal)) }
 {

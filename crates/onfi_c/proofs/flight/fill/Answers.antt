@@ -5,6 +5,7 @@ use Rattle.onfi_problem.specs.Problem.{Problem}
 use Rattle.onfi_c.specs.Flights.{is_bad, is_no_problem}
 use Rattle.onfi_c.specs.Refused.{IsBadProblem}
 use Rattle.onfi_c.specs.Said.{AreRules, IsSaid, IsTiming}
+use Rattle.onfi_c.proofs.Lengths.{said_lengths}
 use Rattle.onfi_c.proofs.Standing.{fault_told}
 use Rattle.onfi_c.proofs.flight.fill.Goals as goal
 
@@ -21,7 +22,7 @@ returns-in-Some-clause-none c =
       states = e.luns;
       requests = c.as_slice.ensures.value ∙ c.few_wants_of-wants.ensures;
     } in
-    is_no_problem c.requires.said (p, said, subst (IsBadProblem p) (sym c.of_problem.ensures) (fault_told p c.in-Some.fault c.in-Some.ensures))
+    is_no_problem c.requires.said (p, said, subst (IsBadProblem p) (sym c.of_problem.ensures) (fault_told p c.in-Some.fault (said_lengths channel c.args.luns.now c.args.wants.now p said) c.in-Some.ensures))
 
 pub returns-then-is_bad_schedule-clause-none : goal.returns-then-is_bad_schedule-clause-none
 returns-then-is_bad_schedule-clause-none c =

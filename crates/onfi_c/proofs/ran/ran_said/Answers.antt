@@ -4,6 +4,7 @@ use Rattle.onfi_problem.specs.Left.{InLimits}
 use Rattle.onfi_flight.specs.Flight.{Flight, after_late}
 use Rattle.onfi_c.specs.Ran.{IsBehind, IsDueThere, Kept, is_illegal, is_late, is_no_flight, is_not_due, is_over, is_too_soon}
 use Rattle.onfi_c.specs.Written.{written_want}
+use Rattle.onfi_c.proofs.Lengths.{said_lengths}
 use Rattle.onfi_c.proofs.Standing.{fewer_wants, plain_there, ran_behind, same_luns}
 use Rattle.onfi_c.proofs.ran.ran_said.Goals as goal
 
@@ -69,5 +70,6 @@ returns-clause-none c =
     let lun_is : c.in-Due.due.lun ≡ c.args.lun = search rules in
     let number_is : c.in-Due.due.phase ≡ c.args.number = search rules in
     let on_time : c.in-Due.due.start ≤ c.args.started = search rules in
-    let late = c.in-Err-run_late.ensures.late c.in-Ok-fill.ensures.said.limits in
+    let has = said_lengths c.args.channel.now c.args.luns.now c.args.wants.now c.fill.new.flight.now c.in-Ok-fill.ensures.said.said.problem in
+    let late = c.in-Err-run_late.ensures.late c.in-Ok-fill.ensures.said.limits has in
     is_late c.fill.new.flight c.in-Ok-fill.ensures.said c.in-Due.due (record { is = c.in-Due.ensures.tells; lun_is = lun_is; number_is = number_is }) on_time late.1 late.0

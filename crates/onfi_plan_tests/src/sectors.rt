@@ -1,0 +1,164 @@
+//! Plans of reads of some sectors.
+
+use onfi_addr::Place;
+use onfi_check::TextFault;
+use onfi_early::{Weights, cost_of, improve};
+use onfi_group::{Group, Rules};
+use onfi_known_check::{KnownFault, check_known_text};
+use onfi_known_plan::plan_known;
+use onfi_plan::{Limit, Plan, Planner};
+use onfi_problem::{LunState, Problem};
+use onfi_request::Want;
+use onfi_samples::{sample_timing, want_of};
+use onfi_steady::RulePlanner;
+use onfi_timing::{Kind, Timing};
+use std::alloc::Global;
+use std::test::Fail;
+
+// A quarter of a page.
+const SECTOR: Kind = Kind::ReadSectors { first: 0, count: 1 };
+// A half.
+const SECTORS: Kind = Kind::ReadSectors { first: 0, count: 2 };
+
+// The data output of a page takes 11,000 ns, that of one to three sectors 3,080, 5,720 and 8,360.
+fn timing() -> Result<Timing, Fail> {
+    let timing = sample_timing()
+        .with_sectors(1, 3080)?
+        .with_sectors(2, 5720)?
+        .with_sectors(3, 8360)?;
+    Ok(timing)
+}
+
+fn read(id: u64, kind: Kind, lun: u8, block: u16, page: u16) -> Want {
+    want_of(id, kind, Place { lun, block, page })
+}
+
+fn posed(alloc: Global, luns: &[LunState], wants: &[Want]) -> Result<Problem, Fail> {
+    let rules = Rules::new(true, true, false, 1);
+    Ok(Problem::new(alloc, timing()?, rules, 0, luns, wants)?)
+}
+
+fn free() -> LunState {
+    LunState::Free { since: 0 }
+}
+
+fn starts(plan: &Plan, group: usize) -> Option<&[u64]> {
+    match plan.planned.schedule.groups().get(group) {
+        Some(placed) => Some(placed.starts().as_slice()),
+        None => None,
+    }
+}
+
+// One sector of page 0 of a block, and all of page 1 of the block beside it: two groups of one LUN. The second begins where the
+// sector has been put out, at 25,240 + 3,080, and ends 140 + 25,100 + 11,000 later.
+fn a_sector_and_a_page(alloc: Global) -> Result<Problem, Fail> {
+    let wants = [read(0, SECTOR, 0, 0, 0), read(1, Kind::Read, 0, 1, 1)];
+    posed(alloc, &[free()], &wants)
+}
+
+#[test]
+fn a_sector_and_a_page_take_turns(rt: HostRuntime) -> Result<(), Fail> {
+    let alloc = rt.alloc();
+    let problem = a_sector_and_a_page(alloc)?;
+    let plan = plan_known(alloc, &problem, Limit::of(1000).unwrap())?;
+    assert_eq!(rt; (plan.planned.finish, plan.below), (64_560, 64_560));
+    assert_eq!(rt; starts(&plan, 0), Some([0, 25_240].as_slice()));
+    assert_eq!(rt; starts(&plan, 1), Some([28_320, 53_560].as_slice()));
+    let text = plan.text().expect(&rt, "a text");
+    let checked = check_known_text(alloc, &problem, &plan.planned.schedule, text);
+    assert_eq!(rt; checked, Ok(64_560));
+    Ok(())
+}
+
+// Behind the sector's command or the page's so many phases of so many members are left, but not the same output. Who counted
+// them as the same would close the second node by the first.
+#[test]
+fn a_node_with_other_sectors_left_is_no_other(rt: HostRuntime) -> Result<(), Fail> {
+    let alloc = rt.alloc();
+    let problem = a_sector_and_a_page(alloc)?;
+    let plan = plan_known(alloc, &problem, Limit::of(1000).unwrap())?;
+    let schedule = &plan.planned.schedule;
+    let again = b"ONFICERT 3 remember\nB2 B1 B1 B1 X B1 B1 R0\n".as_slice();
+    let told = check_known_text(alloc, &problem, schedule, again);
+    assert_eq!(rt; told, Err(TextFault::Cert(KnownFault::OtherLeft(7))));
+    let opened = b"ONFICERT 3 remember\nB2 B1 B1 B1 X B1 B1 B1 X\n".as_slice();
+    let told = check_known_text(alloc, &problem, schedule, opened);
+    assert_eq!(rt; told, Ok(64_560));
+    Ok(())
+}
+
+// Where both put out one sector the nodes are one.
+#[test]
+fn a_node_with_the_same_sectors_left_is_the_other(rt: HostRuntime) -> Result<(), Fail> {
+    let alloc = rt.alloc();
+    let wants = [read(0, SECTOR, 0, 0, 0), read(1, SECTOR, 0, 1, 1)];
+    let problem = posed(alloc, &[free()], &wants)?;
+    let plan = plan_known(alloc, &problem, Limit::of(1000).unwrap())?;
+    let again = b"ONFICERT 3 remember\nB2 B1 B1 B1 X B1 B1 R0\n".as_slice();
+    let told = check_known_text(alloc, &problem, &plan.planned.schedule, again);
+    assert_eq!(rt; told, Ok(56_640));
+    Ok(())
+}
+
+// Weights of two requests that wait.
+fn weighted(page: u16, sector: u16) -> Weights {
+    Weights {
+        wants: [page, sector, 0, 0, 0, 0, 0, 0],
+        running: [[0; 4]; 8],
+    }
+}
+
+// A page of one LUN and a sector of another. The first data are ready at 25,240; both are put out at 25,240 + 11,000 + 3,080,
+// whichever goes first. Where both count alike, the sector ends at 28,320 and the page at 39,320; a page that counts ten times
+// goes first, and ends at 36,240.
+#[test]
+fn what_counts_more_goes_first_by_its_own_output(rt: HostRuntime) -> Result<(), Fail> {
+    let alloc = rt.alloc();
+    let wants = [read(0, Kind::Read, 0, 0, 0), read(1, SECTOR, 1, 0, 0)];
+    let problem = posed(alloc, &[free(), free()], &wants)?;
+    let mut plan = plan_known(alloc, &problem, Limit::of(1000).unwrap())?;
+    for (weights, cost) in [
+        (weighted(1, 1), 28_320 + 39_320),
+        (weighted(10, 1), 10 * 36_240 + 39_320),
+    ] {
+        improve(alloc, &problem, &mut plan, &weights, 0, 1500)?;
+        assert_eq!(rt; plan.planned.finish, 39_320);
+        assert_eq!(rt; cost_of(&problem, &plan.planned.schedule, &weights), cost);
+    }
+    Ok(())
+}
+
+// A pair in its commands, whose members put out two sectors and one, and a page of another LUN. The page goes first: its data
+// are ready at 25,240, those of the pair 1,000 later; then the two sectors end at 41,960 and the one at 45,040.
+#[test]
+fn each_member_of_what_runs_puts_out_its_own(rt: HostRuntime) -> Result<(), Fail> {
+    let alloc = rt.alloc();
+    let pair = [read(0, SECTORS, 0, 0, 0), read(1, SECTOR, 0, 1, 0)];
+    let running = LunState::Running {
+        group: Group::of(alloc, &pair),
+        next: 1,
+        ready: 1000,
+    };
+    let problem = posed(alloc, &[running, free()], &[read(0, Kind::Read, 1, 0, 0)])?;
+    let plan = plan_known(alloc, &problem, Limit::of(1000).unwrap())?;
+    assert_eq!(rt; plan.planned.finish, 45_040);
+    let mut weights = weighted(1, 0);
+    weights.running[0] = [3, 5, 0, 0];
+    let cost = 36_240 + 3 * 41_960 + 5 * 45_040;
+    assert_eq!(rt; cost_of(&problem, &plan.planned.schedule, &weights), cost);
+    Ok(())
+}
+
+// A page and a sector of two planes: after two commands, with a gap of 600 between them, and one array time the page is put out
+// at 25,980, the sector at 36,980.
+#[test]
+fn the_rule_begins_reads_of_other_sectors_as_one(rt: HostRuntime) -> Result<(), Fail> {
+    let alloc = rt.alloc();
+    let wants = [read(0, Kind::Read, 0, 0, 0), read(1, SECTOR, 0, 1, 0)];
+    let problem = posed(alloc, &[free()], &wants)?;
+    let plan = RulePlanner.plan(alloc, &problem, Limit::of(1).unwrap())?;
+    assert_eq!(rt; (plan.planned.finish, plan.below), (40_060, 40_060));
+    let together = [0, 740, 25_980, 36_980].as_slice();
+    assert_eq!(rt; starts(&plan, 0), Some(together));
+    Ok(())
+}
