@@ -24,8 +24,8 @@ returns-clause-bad c =
       | inr fault ↦ inr (p, said, fault)
     ]) c.open.ensures.bad
 
-pub open-requires-clause-lengths : goal.open-requires-clause-lengths
-open-requires-clause-lengths c =
+pub open-requires : goal.open-requires
+open-requires c =
     let p : Problem = problem_of c.args.timing c.rules.result c.args.channel.now.bus_free c.as_slice.result.now c.as_slice-2.result.now in
     said_lengths c.args.channel.now c.args.luns.now c.args.wants.now p (record {
       timing = c.requires.timing;
