@@ -153,6 +153,7 @@ __all__ = [
     "NODES",
     "NoColumnEnhanced",
     "NoCopy",
+    "NoLengths",
     "NoMultiLun",
     "NoStatusEnhanced",
     "NotDue",

@@ -17,8 +17,8 @@ import support
 TOOL: Any = support.load("make-statuses")
 FILES = (TOOL.PAGE, TOOL.HEADER, TOOL.REFUSED, TOOL.PACKAGE, TOOL.CALLS, TOOL.SOURCE, TOOL.WORDS)
 ROW = "22 | Clock | Times that reach 2^62 ns. | times that reach 2^62 ns\n"
-LAST = ("27 | BadOrder | Numbers of requests are equal or don't rise, or reach the count of all that were accepted. | "
-        "numbers of requests that are equal or fall, or reach the count of all\n")
+LAST = ("28 | NoLengths | A read of so many sectors without a post of as many, or sectors of what is no read. | "
+        "sectors without lengths\n")
 
 
 class Statuses(unittest.TestCase):
@@ -64,7 +64,7 @@ class Statuses(unittest.TestCase):
         said_of: List[Tuple[str, str, str, str]] = [
             (TOOL.SOURCE, ", enum Status", "    /// Times that reach 2^62 ns.\n", "    /// Late times.\n"),
             (TOOL.SOURCE, ", ALL", "    Status::Clock,\n", ""),
-            (TOOL.SOURCE, ", ALL", "[Status; 61]", "[Status; 60]"),
+            (TOOL.SOURCE, ", ALL", "[Status; 62]", "[Status; 60]"),
             (TOOL.SOURCE, ", number", "Status::Clock => 22,", "Status::Clock => 23,"),
             (TOOL.SOURCE, ", text", '"times that reach 2^62 ns"', '"late times"'),
             (TOOL.WORDS, ", its names", " Clock,", ""),
@@ -82,15 +82,15 @@ class Statuses(unittest.TestCase):
             (self.folder / path).write_bytes(before)
 
     def test_a_new_line_of_the_page_is_written_and_asked_for_in_the_source(self) -> None:
-        self.change(TOOL.PAGE, LAST, f"{LAST}28 | TooLate | It is too late. | too late\n")
+        self.change(TOOL.PAGE, LAST, f"{LAST}29 | TooLate | It is too late. | too late\n")
         status, said = self.run_here()
         self.assertEqual((status, said[:3]), (1, [f"wrote {TOOL.HEADER}", f"wrote {TOOL.REFUSED}", f"wrote {TOOL.PACKAGE}"]))
         self.assertEqual(said[3], f"{TOOL.PACKAGE}, __all__: it lacks TooLate")
         self.assertEqual(said[4], f"{TOOL.SOURCE}, enum Status: 'A count of a schedule is out of its range, or a start is 2^63 ns or more. BadSchedule' "
                                   "where the page has 'It is too late. TooLate'")
         self.assertEqual(len(said), 11)
-        self.assertIn("    ONFI_TOO_LATE = 28, /* It is too late. */\n    /* schedules */\n", (self.folder / TOOL.HEADER).read_text(encoding="utf-8"))
-        self.assertIn('class TooLate(Refused):\n    """It is too late."""\n\n    status = 28\n\n\n', (self.folder / TOOL.REFUSED).read_text(encoding="utf-8"))
+        self.assertIn("    ONFI_TOO_LATE = 29, /* It is too late. */\n    /* schedules */\n", (self.folder / TOOL.HEADER).read_text(encoding="utf-8"))
+        self.assertIn('class TooLate(Refused):\n    """It is too late."""\n\n    status = 29\n\n\n', (self.folder / TOOL.REFUSED).read_text(encoding="utf-8"))
 
     def test_a_line_that_is_none_is_told(self) -> None:
         for row in ("22 | Clock | Times that reach 2^62 ns.\n", "21 | Clock | A. | a\n", "x | Clock | A. | a\n", "22 | Clock | \"A\". | a\n", "22 | Clock | A. |\n"):

@@ -1,6 +1,6 @@
 -- Lengths are stated for all that is said: each read puts out all of its page.
-use Rattle.std.proofs.Common.{◌≡◌, ℕ, zero, suc, ◌+◌, ◌*◌, ◌<◌, List, [], ◌∷◌, length, Some, inl, inr, refl, sym, subst}
-use Rattle.std.specs.Prelude.{◌==◌, nat_lt, not, slice_get, slice_set}
+use Rattle.std.proofs.Common.{ℕ, ◌+◌, ◌*◌, List, [], ◌∷◌, length, inl, inr, refl, sym, subst}
+use Rattle.std.specs.Prelude.{◌==◌, nat_lt, not}
 use Rattle.std.specs.List.{AllByRecursion as Each}
 use Rattle.std.proofs.lemmas.Bool.{cases_Bool}
 use Rattle.onfi_timing.specs.declared.timing.Timing.{Timing}
@@ -21,9 +21,10 @@ use Rattle.onfi_c.specs.declared.lun.PlainWant.{PlainWant}
 use Rattle.onfi_c.specs.Said.{IsSaid, kind_of, members_of, state_of, states_of, wants_of}
 
 kind_stated : (timing : Timing) (kind : ℕ) → IsStated timing (kind_of kind)
-kind_stated timing zero = refl
-kind_stated timing (suc zero) = refl
-kind_stated timing (suc (suc kind)) = refl
+kind_stated timing kind = elim (cases_Bool (kind == 0)) [
+  | inl read ↦ rw read refl
+  | inr other ↦ elim (cases_Bool (kind == 1)) [ inl program ↦ rw (other, program) refl | inr erase ↦ rw (other, erase) refl ]
+]
 
 are_stated : (timing : Timing) (bits : ℕ) (wants : List PlainWant) → AreStated timing (wants_of bits wants)
 are_stated timing bits [] = tt

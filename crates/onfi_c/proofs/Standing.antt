@@ -112,9 +112,10 @@ pub record IsPlain (bits : ℕ) (w : Want) : Type 0 where
   pub kind : kind_of (number_of_kind w.kind) ≡ w.kind
 
 kind_again : (kind : ℕ) → kind_of (number_of_kind (kind_of kind)) ≡ kind_of kind
-kind_again zero = refl
-kind_again (suc zero) = refl
-kind_again (suc (suc kind)) = refl
+kind_again kind = elim (cases_Bool (kind == 0)) [
+  | inl read ↦ rw read refl
+  | inr other ↦ elim (cases_Bool (kind == 1)) [ inl program ↦ rw (other, program) refl | inr erase ↦ rw (other, erase) refl ]
+]
 
 are_plain : (bits : ℕ) (wants : List PlainWant) → Each (IsPlain bits) (wants_of bits wants)
 are_plain bits [] = tt

@@ -14,6 +14,8 @@ use std::process::Abort;
 
 const READ: Kind = Kind::Read;
 
+const SECTORS: Kind = Kind::ReadSectors { first: 1, count: 2 };
+
 // A want of page 0 of a block.
 fn want(id: u64, kind: Kind, lun: u8, block: u16) -> Want
     ensures { result.id ≡ id }
@@ -92,6 +94,29 @@ fn reads_come_first_but_behind_their_block(rt: HostRuntime) -> Result<(), AllocE
         (Choice::ReadsFirst, 0, 0, 3, &[0, 1, 3]),
     ];
     chooses(&rt, rt.alloc(), &items, &rows)
+}
+
+#[test]
+fn reads_of_sectors_are_chosen_as_reads(rt: HostRuntime) -> Result<(), AllocError> {
+    let alloc = rt.alloc();
+    let items = [
+        want(0, Kind::Program, 0, 4),
+        want(1, SECTORS, 0, 0),
+        want(2, READ, 0, 2),
+        want(3, READ, 0, 1),
+    ];
+    let rows: [Row; 2] = [
+        (Choice::ByLun, 0, 0, 1, &[0]),
+        (Choice::ReadsFirst, 0, 0, 2, &[1, 3]),
+    ];
+    chooses(&rt, alloc, &items, &rows)?;
+    // a read of sectors is work for its LUN, so the open group waits
+    let waiters = [
+        waiter(want(10, Kind::Program, 0, 0), 0),
+        waiter(want(11, SECTORS, 1, 0), 0),
+    ];
+    let luns = [FREE, FREE];
+    chooses_whole(&rt, alloc, &waiters, &[(&luns, Some(10), 8, &[11])])
 }
 
 #[test]

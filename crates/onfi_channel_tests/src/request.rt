@@ -4,8 +4,10 @@ use onfi_request::{Answer, Bytes, Request, RequestFault, check};
 use onfi_samples::sample_geometry;
 use onfi_timing::Kind;
 
+const SECTORS: Kind = Kind::ReadSectors { first: 0, count: 1 };
+
 /// Kind, LUN, block and page, the count of data bytes, and the first fault.
-const REQUESTS: [(Kind, (u8, u16, u16), u16, Option<RequestFault>); 13] = [
+const REQUESTS: [(Kind, (u8, u16, u16), u16, Option<RequestFault>); 15] = [
     (Kind::Read, (1, 999, 63), 0, None),
     (Kind::Program, (0, 0, 0), 528, None),
     (Kind::Erase, (0, 999, 0), 0, None),
@@ -29,6 +31,8 @@ const REQUESTS: [(Kind, (u8, u16, u16), u16, Option<RequestFault>); 13] = [
         Some(RequestFault::DataLength),
     ),
     (Kind::Erase, (0, 0, 0), 528, Some(RequestFault::DataLength)),
+    (SECTORS, (1, 999, 63), 1, Some(RequestFault::DataLength)),
+    (SECTORS, (1, 999, 63), 0, Some(RequestFault::Sectors)),
 ];
 
 #[test]

@@ -22,6 +22,7 @@ fn texts_of_pages_and_requests(rt: HostRuntime) {
         (RequestFault::Block, "no such block"),
         (RequestFault::Page, "no such page"),
         (RequestFault::DataLength, "a wrong count of data bytes"),
+        (RequestFault::Sectors, "sectors of a page"),
     ] {
         let told = format!(in rt.alloc(); "{fault}").expect(&rt, "memory");
         assert_eq!(rt; told.as_str(), text);

@@ -1,12 +1,14 @@
 //! Plans of reads of some sectors.
 
+use crate::rule_sample::told;
+use crate::sample::free;
 use onfi_addr::Place;
 use onfi_check::TextFault;
 use onfi_early::{Weights, cost_of, improve};
 use onfi_group::{Group, Rules};
 use onfi_known_check::{KnownFault, check_known_text};
 use onfi_known_plan::plan_known;
-use onfi_plan::{Limit, Plan, Planner};
+use onfi_plan::{Limit, Planner};
 use onfi_problem::{LunState, Problem};
 use onfi_request::Want;
 use onfi_samples::{sample_timing, want_of};
@@ -38,17 +40,6 @@ fn posed(alloc: Global, luns: &[LunState], wants: &[Want]) -> Result<Problem, Fa
     Ok(Problem::new(alloc, timing()?, rules, 0, luns, wants)?)
 }
 
-fn free() -> LunState {
-    LunState::Free { since: 0 }
-}
-
-fn starts(plan: &Plan, group: usize) -> Option<&[u64]> {
-    match plan.planned.schedule.groups().get(group) {
-        Some(placed) => Some(placed.starts().as_slice()),
-        None => None,
-    }
-}
-
 // One sector of page 0 of a block, and all of page 1 of the block beside it: two groups of one LUN. The second begins where the
 // sector has been put out, at 25,240 + 3,080, and ends 140 + 25,100 + 11,000 later.
 fn a_sector_and_a_page(alloc: Global) -> Result<Problem, Fail> {
@@ -61,9 +52,8 @@ fn a_sector_and_a_page_take_turns(rt: HostRuntime) -> Result<(), Fail> {
     let alloc = rt.alloc();
     let problem = a_sector_and_a_page(alloc)?;
     let plan = plan_known(alloc, &problem, Limit::of(1000).unwrap())?;
-    assert_eq!(rt; (plan.planned.finish, plan.below), (64_560, 64_560));
-    assert_eq!(rt; starts(&plan, 0), Some([0, 25_240].as_slice()));
-    assert_eq!(rt; starts(&plan, 1), Some([28_320, 53_560].as_slice()));
+    let shown = told(alloc, &plan)?;
+    assert!(rt; shown.as_slice() == b"64560 64560|; 0: 0 25240; 1: 28320 53560".as_slice());
     let text = plan.text().expect(&rt, "a text");
     let checked = check_known_text(alloc, &problem, &plan.planned.schedule, text);
     assert_eq!(rt; checked, Ok(64_560));
@@ -79,11 +69,11 @@ fn a_node_with_other_sectors_left_is_no_other(rt: HostRuntime) -> Result<(), Fai
     let plan = plan_known(alloc, &problem, Limit::of(1000).unwrap())?;
     let schedule = &plan.planned.schedule;
     let again = b"ONFICERT 3 remember\nB2 B1 B1 B1 X B1 B1 R0\n".as_slice();
-    let told = check_known_text(alloc, &problem, schedule, again);
-    assert_eq!(rt; told, Err(TextFault::Cert(KnownFault::OtherLeft(7))));
+    let checked = check_known_text(alloc, &problem, schedule, again);
+    assert_eq!(rt; checked, Err(TextFault::Cert(KnownFault::OtherLeft(7))));
     let opened = b"ONFICERT 3 remember\nB2 B1 B1 B1 X B1 B1 B1 X\n".as_slice();
-    let told = check_known_text(alloc, &problem, schedule, opened);
-    assert_eq!(rt; told, Ok(64_560));
+    let checked = check_known_text(alloc, &problem, schedule, opened);
+    assert_eq!(rt; checked, Ok(64_560));
     Ok(())
 }
 
@@ -95,8 +85,8 @@ fn a_node_with_the_same_sectors_left_is_the_other(rt: HostRuntime) -> Result<(),
     let problem = posed(alloc, &[free()], &wants)?;
     let plan = plan_known(alloc, &problem, Limit::of(1000).unwrap())?;
     let again = b"ONFICERT 3 remember\nB2 B1 B1 B1 X B1 B1 R0\n".as_slice();
-    let told = check_known_text(alloc, &problem, &plan.planned.schedule, again);
-    assert_eq!(rt; told, Ok(56_640));
+    let checked = check_known_text(alloc, &problem, &plan.planned.schedule, again);
+    assert_eq!(rt; checked, Ok(56_640));
     Ok(())
 }
 
@@ -108,6 +98,14 @@ fn weighted(page: u16, sector: u16) -> Weights {
     }
 }
 
+// When a plan ends in which what counts more ends sooner, and what it costs.
+fn weighed(alloc: Global, problem: &Problem, weights: &Weights) -> Result<(u64, u128), Fail> {
+    let mut plan = plan_known(alloc, problem, Limit::of(1000).unwrap())?;
+    improve(alloc, problem, &mut plan, weights, 0, 1500)?;
+    let cost = cost_of(problem, &plan.planned.schedule, weights);
+    Ok((plan.planned.finish, cost))
+}
+
 // A page of one LUN and a sector of another. The first data are ready at 25,240; both are put out at 25,240 + 11,000 + 3,080,
 // whichever goes first. Where both count alike, the sector ends at 28,320 and the page at 39,320; a page that counts ten times
 // goes first, and ends at 36,240.
@@ -116,15 +114,10 @@ fn what_counts_more_goes_first_by_its_own_output(rt: HostRuntime) -> Result<(), 
     let alloc = rt.alloc();
     let wants = [read(0, Kind::Read, 0, 0, 0), read(1, SECTOR, 1, 0, 0)];
     let problem = posed(alloc, &[free(), free()], &wants)?;
-    let mut plan = plan_known(alloc, &problem, Limit::of(1000).unwrap())?;
-    for (weights, cost) in [
-        (weighted(1, 1), 28_320 + 39_320),
-        (weighted(10, 1), 10 * 36_240 + 39_320),
-    ] {
-        improve(alloc, &problem, &mut plan, &weights, 0, 1500)?;
-        assert_eq!(rt; plan.planned.finish, 39_320);
-        assert_eq!(rt; cost_of(&problem, &plan.planned.schedule, &weights), cost);
-    }
+    let alike = weighed(alloc, &problem, &weighted(1, 1))?;
+    assert_eq!(rt; alike, (39_320, 28_320 + 39_320));
+    let page = weighed(alloc, &problem, &weighted(10, 1))?;
+    assert_eq!(rt; page, (39_320, 10 * 36_240 + 39_320));
     Ok(())
 }
 
@@ -157,8 +150,7 @@ fn the_rule_begins_reads_of_other_sectors_as_one(rt: HostRuntime) -> Result<(), 
     let wants = [read(0, Kind::Read, 0, 0, 0), read(1, SECTOR, 0, 1, 0)];
     let problem = posed(alloc, &[free()], &wants)?;
     let plan = RulePlanner.plan(alloc, &problem, Limit::of(1).unwrap())?;
-    assert_eq!(rt; (plan.planned.finish, plan.below), (40_060, 40_060));
-    let together = [0, 740, 25_980, 36_980].as_slice();
-    assert_eq!(rt; starts(&plan, 0), Some(together));
+    let shown = told(alloc, &plan)?;
+    assert!(rt; shown.as_slice() == b"40060 40060|; 0 1: 0 740 25980 36980".as_slice());
     Ok(())
 }

@@ -27,10 +27,12 @@ returns-clause-bad c =
 pub open-requires : goal.open-requires
 open-requires c =
     let p : Problem = problem_of c.args.timing c.rules.result c.args.channel.now.bus_free c.as_slice.result.now c.as_slice-2.result.now in
-    said_lengths c.args.channel.now c.args.luns.now c.args.wants.now p (record {
-      timing = c.requires.timing;
-      rules = c.rules.ensures;
-      bus_free = search rules;
-      states = c.as_slice.ensures.value ∙ c.in-Ok.ensures;
-      requests = c.as_slice-2.ensures.value ∙ c.in-Ok-wants_of.ensures;
-    })
+    record {
+      lengths = said_lengths c.args.channel.now c.args.luns.now c.args.wants.now p (record {
+        timing = c.requires.timing;
+        rules = c.rules.ensures;
+        bus_free = search rules;
+        states = c.as_slice.ensures.value ∙ c.in-Ok.ensures;
+        requests = c.as_slice-2.ensures.value ∙ c.in-Ok-wants_of.ensures;
+      });
+    }
