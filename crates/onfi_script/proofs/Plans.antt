@@ -1,6 +1,6 @@
 -- Plans of the planners, and those that are made better.
-use Rattle.std.proofs.Common.{◌≡◌, ◌≢◌, ℕ, ◌+◌, ◌-◌, ◌/◌, ◌<◌, ◌≤◌, refl, sym, ap, ◌∙◌, subst, arith}
-use Rattle.std.specs.Prelude.{Option, Some, None, Result, Ok, Err, IfOk}
+use Rattle.std.proofs.Common.{◌≡◌, ℕ, ◌+◌, ◌-◌, ◌/◌, ◌<◌, ◌≤◌, refl, sym, ap, ◌∙◌, subst, arith}
+use Rattle.std.specs.Prelude.{Some, None, Result, Ok, Err, IfOk}
 use Rattle.std.proofs.Math.Nat.{mul-zero}
 use Rattle.onfi_problem.specs.Position.{Position}
 use Rattle.onfi_problem.specs.Problem.{Problem}

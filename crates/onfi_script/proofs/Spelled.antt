@@ -1,12 +1,10 @@
 -- Numbers and words as they are written, and the parts that they are read as.
 use Rattle.std.proofs.Common.{◌≡◌, ◌<◌, ◌≤◌, ℕ, suc, zero, ◌^◌, true, false, List, [], ◌∷◌, ◌++◌, length, map, get_or, Some, None, refl, sym, ap, ◌∙◌, arith, cond, codes, append-nil}
-use Rattle.std.specs.Prelude.{◌==◌, ◌&&◌, not, All, nat_lt, nat_le, nat_eq}
+use Rattle.std.specs.Prelude.{◌==◌, ◌&&◌, not, All, nat_le}
 use Rattle.std.specs.List.{list_all, AllByRecursion as Each}
-use Rattle.std.specs.Char.{is_ascii_digit}
 use Rattle.std.specs.Fmt.{decimal}
-use Rattle.std.specs.Str.Parse.{AllDigits, digits_value}
-use Rattle.std.proofs.lemmas.Fmt.{decimal_is_IsNumeral, decimal_digit, first_decimal}
-use Rattle.std.proofs.lemmas.Str.Parse.{digit_from_value, not_in_digits, numerals_by_value, tells_digits}
+use Rattle.std.proofs.lemmas.Fmt.{decimal_is_IsNumeral}
+use Rattle.std.proofs.lemmas.Str.Parse.{not_in_digits, numerals_by_value, tells_digits}
 use Rattle.std.proofs.lemmas.List.{length-map}
 use Rattle.std.proofs.lemmas.List.Elements.{All-append}
 use Rattle.std.proofs.lemmas.List.Sums.{AllPass-from_list_all}

@@ -1,5 +1,5 @@
 -- What a line of a plan text says.
-use Rattle.std.specs.Prelude.{ℕ, ◌==◌, ◌&&◌, nat_le, if◌then◌else◌, Bool, List, [], ◌∷◌, ◌++◌, length, map, find, unwrap_or, Option, Some, None, codes}
+use Rattle.std.specs.Prelude.{ℕ, ◌==◌, ◌&&◌, nat_le, if◌then◌else◌, List, [], ◌∷◌, ◌++◌, length, map, find, unwrap_or, Option, Some, None, codes}
 use Rattle.std.specs.Str.{bytes_eq}
 use Rattle.onfi_timing.specs.Decimal.{written_number}
 use Rattle.onfi_timing.specs.declared.kind.Kind.TheVariants.{Read}

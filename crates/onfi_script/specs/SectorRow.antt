@@ -1,5 +1,5 @@
 -- What the rows of reads of some sectors say.
-use Rattle.std.specs.Prelude.{ℕ, List, drop, Result, Ok}
+use Rattle.std.specs.Prelude.{drop, Result, Ok}
 use Rattle.onfi_script.specs.declared.fault.ScriptFault.{ScriptFault}
 use Rattle.onfi_script.specs.declared.row.Row.{Row}
 use Rattle.onfi_script.specs.declared.row.Row.TheVariants.{SectorPost, Sector, Sectors, RunSectors}

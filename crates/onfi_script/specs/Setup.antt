@@ -1,5 +1,5 @@
 -- What the rows of a script set up on its device.
-use Rattle.std.specs.Prelude.{◌≡◌, ℕ, zero, suc, ◌+◌, ◌==◌, ◌||◌, nat_lt, not, if◌then◌else◌, Bool, true, false, List, [], ◌∷◌, ◌++◌, length, map, take, slice_index_or, Option, Some, None}
+use Rattle.std.specs.Prelude.{◌≡◌, ℕ, zero, suc, ◌+◌, ◌==◌, ◌||◌, nat_lt, not, if◌then◌else◌, Bool, false, List, [], ◌∷◌, ◌++◌, length, map, take, slice_index_or, Option, Some, None}
 use Rattle.std.specs.List.{list_any}
 use Rattle.onfi_addr.specs.Rows.{plane_at}
 use Rattle.onfi_request.specs.declared.want.Want.{Want as WantOf}
