@@ -6,8 +6,8 @@ ghost use Rattle.onfi_problem.specs.Problem.{Problem as AnyProblem};
 ghost use Rattle.onfi_bound.specs.Parts.{AreSums, IsLeft, has_operation};
 
 use crate::chain::Chain;
-use crate::operations::Operations;
 use crate::left::{Left, Sums, list_marked};
+use crate::operations::Operations;
 use crate::posts::{first_post, least_of};
 use crate::waits::work_of_wants;
 use arrayvec::ArrayVec;
@@ -110,14 +110,23 @@ pub fn trail_of(problem: &Problem, commands: u64, operations: Operations) -> Opt
 
 /// The trail bound, in ns, of any problem with these phase lengths whose bus is free from `bus_free` on and to which
 /// commands of these operations are left, with the sum of their lengths.
-pub fn trail_by(timing: &Timing, bus_free: u64, commands: u64, operations: Operations) -> Option<u64>
+pub fn trail_by(
+    timing: &Timing,
+    bus_free: u64,
+    commands: u64,
+    operations: Operations,
+) -> Option<u64>
     requires bus_free { bus_free < 2 ^ 62 }
     requires commands { commands < 2 ^ 62 }
     ensures { (p : AnyProblem) → timing.now ≡ p.timing → bus_free ≡ p.bus_free → commands ≡ all_commands p
         → ((operation : AnyOperation) → has_operation operations operation ≡ has_command p operation) → result ≡ trail p }
 {
     let rest = behind_command(operations.erase, timing.least_rest(Operation::Erase), None);
-    let rest = behind_command(operations.program, timing.least_rest(Operation::Program), rest);
+    let rest = behind_command(
+        operations.program,
+        timing.least_rest(Operation::Program),
+        rest,
+    );
     let rest = behind_command(operations.read, timing.least_rest(Operation::Read), rest)?;
     Some(bus_free + commands + rest)
 }

@@ -34,7 +34,11 @@ impl Class {
         let operation = want.kind.operation();
         Class {
             operation,
-            page: if operation == Operation::Erase { 0 } else { page },
+            page: if operation == Operation::Erase {
+                0
+            } else {
+                page
+            },
             above: if rules.strict {
                 block >> rules.plane_bits
             } else {

@@ -1,5 +1,5 @@
 -- What is read off a command line is what its words name.
-use Rattle.std.proofs.Common.{◌≡◌, ◌≢◌, ℕ, ◌||◌, Bool, List, codes, Some, None, true, false, inl, inr, sym, ap, ◌∙◌, subst, refl}
+use Rattle.std.proofs.Common.{◌≡◌, ℕ, ◌||◌, Bool, List, codes, Some, None, true, false, inl, inr, sym, ap, ◌∙◌, subst, refl}
 use Rattle.std.specs.Prelude.{Option, IsSomeAnd, if◌then◌else◌}
 use Rattle.clap.specs.Words.{Row, first_of, subcommand_of}
 use Rattle.onfi_planners.specs.declared.chosen.ChosenPlanner.{ChosenPlanner}
@@ -12,7 +12,7 @@ use Rattle.onfi_console.specs.declared.parsed.CommandName.TheVariants as called
 use Rattle.onfi_console.specs.declared.parsed.Named.{Named}
 use Rattle.onfi_console.specs.declared.parsed.Named.TheVariants.{Problem, Run, Device}
 use Rattle.onfi_console.specs.declared.parsed.Parsed.{Parsed}
-use Rattle.onfi_console.specs.Words.{Ask, IsCheck, IsLimit, IsNamed, IsParsed, IsPlan, IsPlanByRule, IsWorkers, app, check_command, given, is_alone, output_of, plan_command, planner_of, printed_by, usual_for}
+use Rattle.onfi_console.specs.Words.{Ask, IsLimit, IsNamed, IsParsed, IsPlan, IsPlanByRule, IsWorkers, app, check_command, given, is_alone, output_of, plan_command, planner_of, printed_by, usual_for}
 use Rattle.onfi_console.proofs.RuleLemmas.{one_worker, searches_not, usual_alone}
 use Rattle.onfi_console.specs.Readers.{AreRead, IsLimitRead, IsRead, IsTraceRead, IsWorkersRead, command_in, is_trace, limit_in, trace_in, word_of}
 

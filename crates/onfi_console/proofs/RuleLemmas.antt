@@ -1,6 +1,6 @@
 -- What is given where the rule stands beside no search.
-use Rattle.std.proofs.Common.{◌≡◌, ℕ, List, Bool, true, false, Some, None, refl, ap, ◌∙◌, sym, subst, codes}
-use Rattle.std.specs.Prelude.{Option, ◌||◌, if◌then◌else◌, is_some, Ok}
+use Rattle.std.proofs.Common.{◌≡◌, ℕ, List, Bool, true, false, Some, None, refl, codes}
+use Rattle.std.specs.Prelude.{Option, ◌||◌, if◌then◌else◌, is_some}
 use Rattle.clap.specs.Words.{Row, first_of, first_value, found_of, rows_of}
 use Rattle.clap.specs.declared.parser.matches.ArgMatches.{ArgMatches}
 use Rattle.clap.proofs.WalkLemmas.{first_value-rows}

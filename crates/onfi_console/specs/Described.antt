@@ -82,18 +82,26 @@ unfoldable pub spans_row : List ℕ → Spans → List ℕ
 spans_row name spans = (name ++ decimal spans.cmd) ++ (codes "," ++ decimal spans.gap) ++ (codes "," ++ decimal spans.array)
     ++ (codes "," ++ decimal spans.post) ++ codes "\n"
 
--- the row `sectorpost` of so many sectors, where their post is stated
+-- .. of each kind
+unfoldable pub spans_rows : Timing → List ℕ
+spans_rows timing = spans_row (codes "spans,read,") timing.read ++ spans_row (codes "spans,program,") timing.program
+    ++ spans_row (codes "spans,erase,") timing.erase
+
+-- the row `sectorpost` of so many sectors
+unfoldable pub sector_post_row : ℕ → ℕ → List ℕ
+sector_post_row count post = (codes "sectorpost," ++ decimal count) ++ line (codes ",") post
+
+-- .. where their post is stated
 unfoldable pub sector_row : Timing → ℕ → List ℕ
-sector_row timing count =
-    if states_count timing count
-    then (codes "sectorpost," ++ decimal count) ++ (codes "," ++ decimal (sector_spans timing count).post) ++ codes "\n"
-    else []
+sector_row timing count = if states_count timing count then sector_post_row count (sector_spans timing count).post else []
+
+-- .. of one to seven
+unfoldable pub sector_rows : Timing → List ℕ
+sector_rows timing = flat_map (sector_row timing) counts
 
 -- the rows of the first form, or why it can't be planned for
 unfoldable pub rows_of : Result Of ScriptFault → List ℕ
-rows_of (Ok device) = shape_row device ++ spans_row (codes "spans,read,") device.timing.read
-    ++ spans_row (codes "spans,program,") device.timing.program ++ spans_row (codes "spans,erase,") device.timing.erase
-    ++ flat_map (sector_row device.timing) counts
+rows_of (Ok device) = shape_row device ++ spans_rows device.timing ++ sector_rows device.timing
 rows_of (Err f) = codes "refused," ++ name_of f ++ codes "\n"
 
 -- the rows give a page, and with their sheet this device

@@ -184,7 +184,25 @@ fn put_spans(alloc: Global, text: &mut String, name: &str, spans: Spans) -> Resu
     text.push_str("\n")
 }
 
-/// Appends the row `sectorpost` of so many sectors to a text, where their post is stated.
+/// Appends the rows `spans` of each kind to a text.
+#[tactic(auto, unfolding(crate::specs::Described::spans_rows))]
+fn put_all_spans(alloc: Global, text: &mut String, timing: &Timing) -> Result<(), AllocError>
+    ensures { OnOk result (string_bytes text.new ≡ string_bytes text.old ++ spec.spans_rows timing.now) }
+{
+    put_spans(alloc, text, "spans,read,", timing.read)?;
+    put_spans(alloc, text, "spans,program,", timing.program)?;
+    put_spans(alloc, text, "spans,erase,", timing.erase)
+}
+
+/// Appends the row `sectorpost` of so many sectors to a text.
+fn put_sector_post(alloc: Global, text: &mut String, count: u8, post: u64) -> Result<(), AllocError>
+    ensures { OnOk result (string_bytes text.new ≡ string_bytes text.old ++ spec.sector_post_row count post) }
+{
+    put_number(alloc, text, "sectorpost,", u64::from(count))?;
+    put_line(alloc, text, ",", post)
+}
+
+/// .. where their post is stated.
 #[tactic(auto, unfolding(crate::specs::Described::sector_row))]
 fn put_sector(
     alloc: Global,
@@ -195,12 +213,11 @@ fn put_sector(
     ensures { OnOk result (string_bytes text.new ≡ string_bytes text.old ++ spec.sector_row timing.now count) }
 {
     let kind = Kind::ReadSectors { first: 0, count };
-    if !timing.states(kind) {
-        return Ok(());
+    if timing.states(kind) {
+        put_sector_post(alloc, text, count, timing.spans(kind).post)
+    } else {
+        Ok(())
     }
-    put_number(alloc, text, "sectorpost,", u64::from(count))?;
-    put_number(alloc, text, ",", timing.spans(kind).post)?;
-    text.push_str("\n")
 }
 
 /// Appends the rows `sectorpost` of so many sectors each to a text.
@@ -218,6 +235,14 @@ fn put_sectors(
     Ok(())
 }
 
+/// .. of one to seven.
+#[tactic(auto, unfolding(crate::specs::Described::sector_rows))]
+fn put_all_sectors(alloc: Global, text: &mut String, timing: &Timing) -> Result<(), AllocError>
+    ensures { OnOk result (string_bytes text.new ≡ string_bytes text.old ++ spec.sector_rows timing.now) }
+{
+    put_sectors(alloc, text, timing, &[1, 2, 3, 4, 5, 6, 7])
+}
+
 /// Appends the rows of the first form to a text, or why the device can't be planned for.
 #[tactic(auto, unfolding(crate::specs::Described::rows_of))]
 fn put_rows(
@@ -230,10 +255,8 @@ fn put_rows(
     match device {
         Ok(device) => {
             put_shape(alloc, text, device)?;
-            put_spans(alloc, text, "spans,read,", device.timing.read)?;
-            put_spans(alloc, text, "spans,program,", device.timing.program)?;
-            put_spans(alloc, text, "spans,erase,", device.timing.erase)?;
-            put_sectors(alloc, text, &device.timing, &[1, 2, 3, 4, 5, 6, 7])
+            put_all_spans(alloc, text, &device.timing)?;
+            put_all_sectors(alloc, text, &device.timing)
         }
         Err(fault) => {
             text.push_str("refused,")?;

@@ -1,5 +1,4 @@
-use Rattle.std.proofs.Common.{◌≡◌, ap, inl, inr, refl, sym, ◌∙◌, None}
-use Rattle.clap.specs.Words.{found_of, rows_of}
+use Rattle.std.proofs.Common.{ap, inl, inr, refl, sym, ◌∙◌, None}
 use Rattle.clap.proofs.WalkLemmas.{first_value-rows}
 use Rattle.onfi_planners.specs.declared.chosen.ChosenPlanner.TheVariants.{ByRule}
 use Rattle.onfi_console.specs.Words as spec

@@ -1,4 +1,4 @@
-use Rattle.std.proofs.Common.{◌≡◌, ap, inr, refl, sym, ◌∙◌, subst, codes}
+use Rattle.std.proofs.Common.{ap, inr, refl, sym, ◌∙◌, subst, codes}
 use Rattle.clap.specs.Words.{first_of, found_of, rows_of}
 use Rattle.clap.proofs.WalkLemmas.{first_value-rows}
 use Rattle.onfi_console.specs.Words as spec
