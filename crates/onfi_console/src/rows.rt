@@ -2,7 +2,7 @@
 use std::alloc::{AllocError, Global};
 use strsim::levenshtein;
 
-/// The names of rows; of several that a word is near to, the one that stands first is told.
+/// The names of rows; of several that a word is near to, the first one is given.
 const NAMES: [&str; 29] = [
     "shape",
     "spans",
