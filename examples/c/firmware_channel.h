@@ -43,13 +43,14 @@ const onfi_spans *spans_of(const onfi_timing *timing, unsigned kind);
 
 /* The host. */
 
-enum { MIXED, RANDOM_READS, SEQUENTIAL, WITH_ERASES, WORKLOADS };
+enum { MIXED, RANDOM_READS, SEQUENTIAL, WITH_ERASES, RANDOM_PROGRAMS, WORKLOADS };
 
 /* Where requests come from: the same ones in the same order, whatever is done with them. */
 typedef struct {
     unsigned workload, luns, planes;
     uint64_t wants, arrivals; /* states of random numbers */
     uint64_t programs;        /* how many so far */
+    uint64_t programmed[ONFI_LUNS][ONFI_MEMBERS]; /* and of those at random, by LUN and plane */
     onfi_want mate;           /* the erase after which `mates` more of its planes come */
     unsigned mates;
     double mean_time; /* between arrivals */

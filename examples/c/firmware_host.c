@@ -103,6 +103,14 @@ static onfi_want next_program(host *h)
     return want_of(ONFI_PROGRAM, lun, (FIRST_PROGRAMMED + row / PAGES % PROGRAM_BLOCKS) * h->planes + place % h->planes, row % PAGES);
 }
 
+/* The next page of a plane of any LUN. */
+static onfi_want random_program(host *h)
+{
+    unsigned lun = next_below(&h->wants, h->luns), plane = next_below(&h->wants, h->planes);
+    uint64_t place = h->programmed[lun][plane]++;
+    return want_of(ONFI_PROGRAM, lun, (FIRST_PROGRAMMED + place / PAGES % PROGRAM_BLOCKS) * h->planes + plane, place % PAGES);
+}
+
 /* An erase on plane 0; those of the other planes come after it. */
 static onfi_want first_erase(host *h)
 {
@@ -120,7 +128,7 @@ static onfi_want next_mate(host *h)
 }
 
 /* The share of each kind in the requests. */
-static const double SHARES[WORKLOADS][KINDS] = {{0.7, 0.3, 0}, {1, 0, 0}, {0, 1, 0}, {0.65, 0.3, 0.05}};
+static const double SHARES[WORKLOADS][KINDS] = {{0.7, 0.3, 0}, {1, 0, 0}, {0, 1, 0}, {0.65, 0.3, 0.05}, {0, 1, 0}};
 
 onfi_want host_want(host *h)
 {
@@ -131,6 +139,8 @@ onfi_want host_want(host *h)
         return random_read(h);
     if (h->workload == SEQUENTIAL)
         return next_program(h);
+    if (h->workload == RANDOM_PROGRAMS)
+        return random_program(h);
     double share = next_share(&h->wants), erases = shares[ONFI_ERASE] / h->planes;
     if (share < erases)
         return first_erase(h);

@@ -6,7 +6,8 @@
  *     ./firmware help
  *
  *   device    tlc, slc, qlc                              tlc
- *   workload  mixed, reads, sequential, erases           mixed
+ *   workload  mixed, reads, sequential, erases,          mixed
+ *             random-programs
  *   byte      ns a byte on the bus, 0.001 to 1000        2
  *   luns      1 to 8                                     8
  *   depth     requests outstanding, 1 to 256             64
@@ -372,7 +373,7 @@ enum { VALUES = 5 };
 static const struct {
     const char *name, *value[VALUES];
 } CHOSEN[CHOICES] = {
-    {"device", {"tlc", "slc", "qlc", "", ""}},    {"workload", {"mixed", "reads", "sequential", "erases", ""}},
+    {"device", {"tlc", "slc", "qlc", "", ""}},    {"workload", {"mixed", "reads", "sequential", "erases", "random-programs"}},
     {"told", {"yes", "no", "", "", ""}},          {"way", {"phases", "plans", "greedy", "both", "all"}},
     {"choice", {"by-lun", "in-order", "reads-first", "one-kind", ""}}, {"plan", {"early", "within", "rule", "", ""}},
     {"weights", {"age", "equal", "reads", "", ""}}, {"ends", {"no", "yes", "", "", ""}},

@@ -10,7 +10,7 @@ import subprocess
 from concurrent.futures import ThreadPoolExecutor
 from functools import lru_cache
 from pathlib import Path
-from typing import Dict, Iterator, List, NamedTuple, Optional, Sequence, Tuple
+from typing import Dict, Iterable, Iterator, List, NamedTuple, Optional, Sequence, Tuple
 
 from onfi_tools.channel_bound import bounds_of, read_source, requests_for
 from onfi_tools.rolling_ways import WAYS
@@ -25,7 +25,9 @@ STRICT = ("-std=c99", "-O2", "-Wall", "-Wextra", "-Werror", "-pedantic")
 # So many requests at least are answered where erases come: before, a way gains by leaving them undone.
 WITH_ERASES = 10_000
 
-WORKLOADS = {"reads": "random reads", "mixed": "70 % reads", "sequential": "sequential programs", "erases": "with erases"}
+# The workloads of the 216 configurations; those of others are asked for by their names.
+OF_ALL = {"reads": "random reads", "mixed": "70 % reads", "sequential": "sequential programs", "erases": "with erases"}
+WORKLOADS = {**OF_ALL, "random-programs": "random programs"}
 
 Figures = Dict[str, float]
 
@@ -116,10 +118,15 @@ TWELVE = [
     Configuration("tlc", "mixed", 2, luns=4, depth=16),
     Configuration("tlc", "erases", 2, luns=4, depth=16),
 ]
-ALL = [
-    Configuration(*parts)
-    for parts in itertools.product(("slc", "tlc", "qlc"), WORKLOADS, (20, 2, 0.833), (2, 4, 8), (16, 64))
-]
+
+
+def all_of(workloads: Iterable[str]) -> List[Configuration]:
+    """Each device, these workloads, each bus, number of LUNs and of requests outstanding."""
+    parts = itertools.product(("slc", "tlc", "qlc"), workloads, (20, 2, 0.833), (2, 4, 8), (16, 64))
+    return [Configuration(*part) for part in parts]
+
+
+ALL = all_of(OF_ALL)
 ARRAYS = ("0.7-0.9", "0.4-0.7")
 LOADS = (0.04, 0.4, 0.7)
 

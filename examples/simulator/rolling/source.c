@@ -17,7 +17,8 @@ bool put_device(const char *name, double byte, setup *setup)
 
 bool put_workload(const char *name, unsigned *workload)
 {
-    static const char *const names[WORKLOADS] = {[RANDOM_READS] = "reads", [MIXED] = "mixed", [SEQUENTIAL] = "sequential", [WITH_ERASES] = "erases"};
+    static const char *const names[WORKLOADS] = {[RANDOM_READS] = "reads", [MIXED] = "mixed", [SEQUENTIAL] = "sequential", [WITH_ERASES] = "erases",
+                                                  [RANDOM_PROGRAMS] = "random-programs"};
     for (*workload = 0; *workload < WORKLOADS; ++*workload)
         if (!strcmp(names[*workload], name))
             return true;

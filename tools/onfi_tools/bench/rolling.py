@@ -1,7 +1,7 @@
 """What a channel gets done where requests come while others run: greedy ways, plans, and phase by phase.
 
     tools/bench rolling [--quick] [--library FOLDER] [--requests N] [--seed N] [--limit N] [--jobs N] [--rows FILE] [--ways NAMES]
-                        [--array SHARES]
+                        [--array SHARES] [--workload NAME]
 
 It builds the simulator of a channel (examples/simulator/rolling) with the library of FOLDER (lib; greedy ways alone need none), and runs
 216 configurations by each way, JOBS at a time (one for each processor), until N requests are answered (4,000; with erases at least
@@ -12,8 +12,9 @@ there is something new, and that is counted. Beside each throughput stands a bou
 
 --quick takes twelve of the configurations, and of two of them early arrays and open loops, and 1,000 requests where no N is named:
 within ten minutes of processor time. --ways takes these ways alone, with commas between them, beside the one that each is compared
-with; --array has the arrays of all configurations take less than is stated, by shares such as 0.7-0.9, which LUNs report. --rows keeps all
-figures of all runs in a file, each as it comes; a run that the file has isn't run again.
+with; --array has the arrays of all configurations take less than is stated, by shares such as 0.7-0.9, which LUNs report; --workload takes the
+54 configurations of one workload, `random-programs` too: the next page of a plane of any LUN. --rows keeps all figures of all runs in a
+file, each as it comes; a run that the file has isn't run again.
 
 All that is random comes from the seed, the same for all ways: which requests come and when, and how long arrays take. Devices, buses,
 requests and ways are in docs/WORTH.md.
@@ -29,7 +30,7 @@ from typing import List
 
 from onfi_tools.bench.runs import ROOT, processor_time
 from onfi_tools.rolling_tables import quick_tables, whole_tables
-from onfi_tools.rolling_use import ALL, TWELVE, Asked, Rows, build, measure, open_loops, readiness
+from onfi_tools.rolling_use import ALL, TWELVE, WORKLOADS, Asked, Rows, all_of, build, measure, open_loops, readiness
 from onfi_tools.rolling_ways import BASE, GREEDY, QUICK, SOME, WAYS
 
 
@@ -60,6 +61,7 @@ def words(parser: argparse.ArgumentParser) -> None:
     parser.add_argument("--rows", type=Path)
     parser.add_argument("--ways", type=ways_named)
     parser.add_argument("--array", default="1-1")
+    parser.add_argument("--workload", choices=WORKLOADS)
 
 
 def main(asked: argparse.Namespace) -> int:
@@ -70,7 +72,8 @@ def main(asked: argparse.Namespace) -> int:
         if asked.quick:
             lines = quick(program, ways, how, rows)
         else:
-            lines = whole_tables(measure(program, [of._replace(array=asked.array) for of in ALL], ways, how, rows), ways)
+            chosen = all_of([asked.workload]) if asked.workload else ALL
+            lines = whole_tables(measure(program, [of._replace(array=asked.array) for of in chosen], ways, how, rows), ways)
     print("\n".join([*lines, "", f"seed {how.seed}, {how.requests:,} requests a run, at most {how.limit:,} nodes a search; "
                                  f"{processor_time():,.0f} s of processor time"]))
     return 0
