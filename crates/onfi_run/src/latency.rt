@@ -54,7 +54,11 @@ fn add(latencies: &mut Vec<u64>, operation: Operation, all: &[Completion]) -> Re
 }
 
 /// .. of a host on all channels.
-fn add_got(latencies: &mut Vec<u64>, operation: Operation, got: &[Answers]) -> Result<(), AllocError>
+fn add_got(
+    latencies: &mut Vec<u64>,
+    operation: Operation,
+    got: &[Answers],
+) -> Result<(), AllocError>
     ensures { OnOk result (latencies.new.items ≡ latencies.old.items ++ flat_map (filter_map (spec.latency_of operation)) got.now) }
 {
     for answers in got {

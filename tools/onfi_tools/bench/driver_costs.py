@@ -10,6 +10,7 @@ from pathlib import Path
 from typing import Counter, Dict, Iterator, List, NamedTuple, Sequence
 
 from onfi_tools.bench.runs import ROOT, built, table
+from onfi_tools.callgrind import counted
 
 EXAMPLES = ROOT / "examples" / "c"
 # tlc, 70 % reads, 2 ns a byte, eight LUNs, 64 outstanding: what the driver takes where no word says otherwise.
@@ -101,10 +102,9 @@ class Driver:
 
     def turns(self, way: str, words: Sequence[str] = ()) -> Turns:
         counts = self.room / "counts"
-        tool = ["valgrind", "--tool=callgrind", f"--callgrind-out-file={counts}"]
-        line = [*tool, str(self.program), *WAYS[way].split(), "requests", str(REQUESTS), *words]
-        said = subprocess.run(line, check=True, capture_output=True, text=True).stdout
-        return turns_of(counts.read_text(errors="replace"), said, REQUESTS)
+        ran = counted(counts, [self.program, *WAYS[way].split(), "requests", str(REQUESTS), *words])
+        ran.check_returncode()
+        return turns_of(counts.read_text(errors="replace"), ran.stdout, REQUESTS)
 
 
 def cells_of(turns: Turns, calls: Sequence[str]) -> List[str]:

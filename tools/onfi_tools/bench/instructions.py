@@ -4,7 +4,7 @@
 
 Each PROGRAM has a column: the built onfi_sim, or another with the same options. A plain search that is run as `PROGRAM -l LIMIT FILE`
 and prints `FILE FINISH OPENED ..`, by a name that begins with `bnb`, has the rows of searches alone. Instructions are counted by
-valgrind's callgrind: two runs agree to a part in a thousand.
+valgrind's callgrind, long memory as cleared by vectors: two runs agree to a part in a thousand.
 
 | row | what is counted |
 |---|---|
@@ -49,6 +49,7 @@ from typing import Callable, Counter, List, NamedTuple, Sequence, Tuple
 from onfi_tools.bench import driver_costs, whole_plans
 from onfi_tools.bench.run import script as script_of_reads
 from onfi_tools.bench.runs import HARD, PROGRAM, ROOT, row, table
+from onfi_tools.callgrind import counted
 
 LIMIT = 100_000
 NODES = 32_853
@@ -85,7 +86,7 @@ def count(words: List[str], given: str) -> Count:
     """Runs a program under callgrind."""
     with tempfile.TemporaryDirectory() as folder:
         counts = Path(folder) / "counts"
-        ran = subprocess.run(["valgrind", "--tool=callgrind", f"--callgrind-out-file={counts}", *words], input=given, capture_output=True, text=True)
+        ran = counted(counts, words, given)
         found = re.search(r"Collected : (\d+)", ran.stderr)
         if not found:
             raise ValueError(ran.stderr[-500:])
@@ -178,8 +179,8 @@ def program_table(programs: Sequence[Program], functions: int) -> None:
     ]
     for name, cost in rows:
         print(row([name, *("" if program.plain else f"{cost(program):,.0f}" for program in programs)]), flush=True)
-    for name, counted in most if functions else []:
-        print(f"{name}: " + ", ".join(f"{function} {part / 10} %" for function, part in counted.functions[:functions]))
+    for name, of in most if functions else []:
+        print(f"{name}: " + ", ".join(f"{function} {part / 10} %" for function, part in of.functions[:functions]))
 
 
 def words(parser: argparse.ArgumentParser) -> None:

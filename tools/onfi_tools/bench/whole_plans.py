@@ -11,6 +11,7 @@ from typing import Dict, List, NamedTuple, Optional, Sequence
 
 from onfi_tools.bench.runs import ROOT, at_place, built, table
 from onfi_tools.bench.worth import drawn_batch
+from onfi_tools.callgrind import counted
 from onfi_tools.drawn import SETS
 from onfi_tools.policies import script_of
 
@@ -104,9 +105,9 @@ class Library:
 
     def costs(self, way: str, limit: int, scripts: Sequence[Path]) -> List[Cost]:
         counts = self.room / "counts"
-        tool = ["valgrind", "--tool=callgrind", "--combine-dumps=yes", f"--callgrind-out-file={counts}"]
-        words = [*tool, str(self.program), way, str(limit), *map(str, scripts)]
-        answers = answers_of(subprocess.run(words, check=True, capture_output=True, text=True).stdout)
+        ran = counted(counts, [self.program, way, str(limit), *scripts], parts=True)
+        ran.check_returncode()
+        answers = answers_of(ran.stdout)
         parts = parts_of(counts.read_text(errors="replace"))
         counts.unlink()
         return [Cost(answer, parts[f"plan {at}"], parts.get(f"check {at}", 0)) for at, answer in enumerate(answers)]
