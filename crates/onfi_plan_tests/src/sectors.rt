@@ -60,7 +60,7 @@ fn a_sector_and_a_page_take_turns(rt: HostRuntime) -> Result<(), Fail> {
     Ok(())
 }
 
-// Behind the sector's command or the page's so many phases of so many members are left, but not the same output. Who counted
+// After the sector's command or the page's so many phases of so many members are left, but not the same output. Who counted
 // them as the same would close the second node by the first.
 #[test]
 fn a_node_with_other_sectors_left_is_no_other(rt: HostRuntime) -> Result<(), Fail> {
