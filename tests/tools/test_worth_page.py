@@ -105,7 +105,7 @@ class Stored(unittest.TestCase):
 
     def test_planning(self) -> None:
         said = PAGE.split("### What planning takes\n")[1].split("\n#")[0]
-        rows = [row for row in rows_of("twelve.csv") if row["plan_us"]]
+        rows = [row for row in rows_of("twelve.csv") if row["plan_us"] and row["condition"] == "as stated"]
         for way in ("plan in order", "plan by LUN, near", "plan one kind, near"):
             own = [row for row in rows if row["way"] == way]
             means = [int(row["plan_us"]) for row in own]
