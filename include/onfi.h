@@ -44,7 +44,7 @@ extern "C" {
 #define ONFI_VERSION_NUMBER UINT32_C(10000) /* 10,000 times the first number, 100 times the second, and the third */
 
 /* The greatest counts. */
-enum { ONFI_LUNS = 8, ONFI_WANTS = 8, ONFI_MEMBERS = 4, ONFI_STARTS = 8, ONFI_WAITERS = 64 };
+enum { ONFI_LUNS = 8, ONFI_WANTS = 8, ONFI_MEMBERS = 4, ONFI_STARTS = 8, ONFI_WAITERS = 64, ONFI_SECTORS = 7 };
 
 /* The most nodes that a search may open. */
 #define ONFI_NODES UINT32_C(1048576)
@@ -133,6 +133,9 @@ enum { ONFI_SCRIPT_REFUSED = 1, ONFI_PLAN_REFUSED = 2 };
 /* Kinds of requests. */
 enum onfi_kind { ONFI_READ = 0, ONFI_PROGRAM = 1, ONFI_ERASE = 2 };
 
+/* The kind of a read that puts out so many sectors of its page, 1 to ONFI_SECTORS; only calls onfi_.._by take it. With 0 it is the onfi_kind. */
+#define ONFI_KIND(operation, sectors) ((uint8_t)((operation) | (sectors) << 5))
+
 /* How a batch is chosen: the oldest requests; by LUN, the one that comes free soonest first; by LUN, and of each its reads first. */
 enum onfi_choice { ONFI_IN_ORDER = 0, ONFI_BY_LUN = 1, ONFI_READS_FIRST = 2 };
 
@@ -149,6 +152,11 @@ typedef struct onfi_timing {
     onfi_spans program;
     onfi_spans erase;
 } onfi_timing;
+
+/* How long an output of some sectors of a page holds the bus; all else is as for other reads. For calls onfi_.._by. */
+typedef struct onfi_lengths {
+    uint64_t sectors[ONFI_SECTORS]; /* the post of a read of 1 to 7 sectors, in ns, below 2^50; 0 where none is stated */
+} onfi_lengths;
 
 /* What may run as one on several planes of a LUN. */
 typedef struct onfi_rules {
@@ -167,7 +175,7 @@ typedef struct onfi_channel {
 /* A request. Its plane is the one that the low bits of its block name. */
 typedef struct onfi_want {
     uint64_t id;    /* a number of the caller's; each want of a list has a greater one than that before it */
-    uint8_t kind;   /* an onfi_kind */
+    uint8_t kind;   /* an onfi_kind; for calls onfi_.._by also an ONFI_KIND */
     uint8_t lun;    /* from 0 */
     uint16_t block; /* from 0 */
     uint16_t page;  /* from 0; an erase names page 0 */
@@ -260,7 +268,7 @@ typedef struct onfi_phase {
     uint16_t block;
     uint16_t page;
     uint8_t lun;
-    uint8_t kind;       /* an onfi_kind */
+    uint8_t kind;       /* an onfi_kind; by onfi_due_by that of the want */
     uint8_t number;     /* its number in its group: commands are 0 .., posts follow */
     uint8_t members;    /* how many requests its group has */
     uint8_t opener;     /* the first command byte (ONFI 4.2): 00h, 80h, 60h; of a data output 06h, of a status 78h */
@@ -513,6 +521,48 @@ uint32_t onfi_queue_ran(onfi_channel *channel, onfi_lun *luns, size_t lun_count,
                         uint64_t started);
 
 /*
+ * Reads of some sectors (ONFI 4.2, Change Read Column Enhanced). Each call onfi_.._by does what the call without _by does, where reads
+ * may put out 1 to 7 sectors of their pages: a want or a member of a running group has the kind ONFI_KIND(ONFI_READ, n), and its post is
+ * lengths->sectors[n - 1]. Command, gap and array are those of other reads, with which it may run as one group. Which sectors they are
+ * isn't said: whoever asked for the read knows the column.
+ *
+ * What the call without _by answers is answered, and of sectors: ONFI_LONG_SPAN of the lengths of 1 to 7 of them, after those of
+ * channel->timing; ONFI_BAD_KIND where the five low bits of a kind are above 2; and after ONFI_BAD_LUN, before ONFI_CLOCK, ONFI_NO_LENGTHS,
+ * where a read puts out so many sectors that none is stated of them, or where a program or an erase has sectors. onfi_choose_by looks at
+ * no want so closely: it never answers ONFI_NO_LENGTHS, and counts the post of a page where none is stated.
+ */
+
+/* As onfi_plan_within. At ONFI_NODES it stands for onfi_plan_known too: the plan is optimal where plan->below is plan->finish. */
+uint32_t onfi_plan_within_by(const onfi_lengths *lengths, const onfi_channel *channel, const onfi_lun *luns, size_t lun_count, const onfi_want *wants,
+                             size_t want_count, uint32_t limit, onfi_within *plan, uint8_t *certificate, size_t certificate_room, size_t *certificate_bytes);
+
+/* As onfi_plan_early. */
+uint32_t onfi_plan_early_by(const onfi_lengths *lengths, const onfi_channel *channel, const onfi_lun *luns, size_t lun_count, const onfi_want *wants,
+                            size_t want_count, uint32_t limit, const onfi_weights *weights, uint16_t slack,
+                            onfi_within *plan, uint8_t *certificate, size_t certificate_room, size_t *certificate_bytes);
+
+/* As onfi_plan_rule. */
+uint32_t onfi_plan_rule_by(const onfi_lengths *lengths, const onfi_channel *channel, const onfi_lun *luns, size_t lun_count, const onfi_want *wants,
+                           size_t want_count, onfi_within *plan, uint8_t *certificate, size_t certificate_room, size_t *certificate_bytes);
+
+/* As onfi_check_within. */
+uint32_t onfi_check_within_by(const onfi_lengths *lengths, const onfi_channel *channel, const onfi_lun *luns, size_t lun_count, const onfi_want *wants,
+                              size_t want_count, const onfi_schedule *schedule, uint64_t below, const uint8_t *certificate, size_t certificate_bytes,
+                              onfi_verdict *verdict);
+
+/* As onfi_choose. */
+uint32_t onfi_choose_by(const onfi_lengths *lengths, const onfi_channel *channel, const onfi_lun *luns, size_t lun_count, const onfi_want *wants,
+                        size_t want_count, uint64_t accepted, uint8_t choice, uint8_t batch, size_t chosen[ONFI_WANTS], size_t *chosen_count);
+
+/* As onfi_due. */
+uint32_t onfi_due_by(const onfi_lengths *lengths, const onfi_channel *channel, const onfi_lun *luns, size_t lun_count, const onfi_want *wants,
+                     size_t want_count, const onfi_geometry *geometry, const onfi_schedule *schedule, onfi_phase *phase);
+
+/* As onfi_ran: no later call answers ONFI_CLOCK or ONFI_NO_LENGTHS of what this one made. */
+uint32_t onfi_ran_by(const onfi_lengths *lengths, onfi_channel *channel, onfi_lun *luns, size_t lun_count, onfi_want wants[ONFI_WANTS],
+                     size_t *want_count, onfi_schedule *schedule, uint8_t lun, uint8_t number, uint64_t started);
+
+/*
  * The row address of a page (ONFI 4.2, addressing): page, block and LUN number, from low to high bits.
  *
  * ONFI_DONE; else *row is as it was, and the answer is ONFI_BAD_GEOMETRY, or ONFI_BAD_PLACE, where the device doesn't have the page.
@@ -542,6 +592,16 @@ uint32_t onfi_timing_of_page(const uint8_t *page, size_t page_bytes, const char 
  */
 uint32_t onfi_timing_of_strobes(const uint8_t *page, size_t page_bytes, const char *sheet, size_t sheet_bytes, const char *strobes,
                                 size_t strobes_bytes, onfi_device *device, uint64_t *place);
+
+/*
+ * The same device with the lengths of its sectors: as by onfi_timing_of_page where strobes_bytes is 0, else as by onfi_timing_of_strobes.
+ * The post of 1 to 7 sectors of sector_bytes bytes each is that of a read whose page has their bytes; none is stated of more than a page has
+ * bytes for, spare bytes among them, and none at all where sector_bytes is 0.
+ *
+ * The same is answered; where it isn't ONFI_DONE, *lengths too is as it was.
+ */
+uint32_t onfi_lengths_of_page(const uint8_t *page, size_t page_bytes, const char *sheet, size_t sheet_bytes, const char *strobes, size_t strobes_bytes,
+                              uint16_t sector_bytes, onfi_device *device, onfi_lengths *lengths, uint64_t *place);
 
 /*
  * What `onfi_sim plan` writes for a script (docs/FORMATS.md), or with `trace` what `onfi_sim plan --trace` writes; the

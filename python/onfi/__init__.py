@@ -21,6 +21,7 @@ from onfi.calls import (
     choose,
     choose_whole,
     due,
+    lengths_of_page,
     library_version,
     plan,
     plan_early,
@@ -42,6 +43,7 @@ from onfi.model import (
     Geometry,
     Group,
     Kind,
+    Lengths,
     Lun,
     Phase,
     Plan,
@@ -52,6 +54,7 @@ from onfi.model import (
     Stand,
     Timing,
     Want,
+    kind_by,
 )
 from onfi.refused import (
     # from here on written by tools/make-statuses
@@ -146,6 +149,7 @@ __all__ = [
     "Group",
     "Illegal",
     "Kind",
+    "Lengths",
     "LongSpan",
     "Lun",
     "LunCount",
@@ -208,6 +212,8 @@ __all__ = [
     "choose",
     "choose_whole",
     "due",
+    "kind_by",
+    "lengths_of_page",
     "library_version",
     "plan",
     "plan_early",

@@ -6,9 +6,9 @@ import ctypes
 from typing import Callable, List, Optional, Sequence, Tuple, Union
 
 from onfi.library import library
-from onfi.model import Answer, Channel, Choice, Device, Geometry, Lun, Phase, Plan, PlanWithin, Schedule, Stand, Want
+from onfi.model import Answer, Channel, Choice, Device, Geometry, Lengths, Lun, Phase, Plan, PlanWithin, Schedule, Stand, Want
 from onfi.refused import REFUSALS, Memory, Refused
-from onfi.structs import WANTS, CChannel, CDevice, CGeometry, CLun, CPhase, CPlan, CSchedule, CVerdict, CWant, CWeights, CWithin, number, octets, text
+from onfi.structs import WANTS, CChannel, CDevice, CGeometry, CLengths, CLun, CPhase, CPlan, CSchedule, CVerdict, CWant, CWeights, CWithin, number, octets, text
 
 DONE, NO_ROOM, MEMORY = 0, 3, 4
 MOST_NODES = 1_048_576
@@ -43,13 +43,21 @@ def with_room(call: Callable[..., int]) -> Tuple[int, bytes]:
 
 
 class Problem:
-    """What a caller says of a channel, as the library takes it."""
+    """What a caller says of a channel, as the library takes it; with lengths of reads of some sectors, or without."""
 
-    def __init__(self, channel: Channel, luns: Sequence[Lun], wants: Sequence[Want]) -> None:
+    def __init__(self, channel: Channel, luns: Sequence[Lun], wants: Sequence[Want], lengths: Optional[Lengths] = None) -> None:
         self.channel = CChannel.of(channel)
         self.luns = (CLun * max(len(luns), 1))(*(CLun.of(lun) for lun in luns))
         self.wants = (CWant * max(len(wants), 1))(*(CWant.of(want) for want in wants))
-        self.words = (ctypes.byref(self.channel), self.luns, len(luns), self.wants, len(wants))
+        self.lengths = None if lengths is None else CLengths.of(lengths)
+        told = () if self.lengths is None else (ctypes.byref(self.lengths),)
+        self.stand = (*told, ctypes.byref(self.channel), self.luns, len(luns))
+        self.words = (*self.stand, self.wants, len(wants))
+
+    def call(self, name: str) -> Callable[..., int]:
+        """The call of that name; where lengths are told, the one that takes them."""
+        found: Callable[..., int] = getattr(library(), name if self.lengths is None else f"{name}_by")
+        return found
 
 
 def plan(channel: Channel, luns: Sequence[Lun], wants: Sequence[Want], limit: int = MOST_NODES) -> Plan:
@@ -75,30 +83,35 @@ def plan_known(channel: Channel, luns: Sequence[Lun], wants: Sequence[Want], lim
     return planned(library().onfi_plan_known, Problem(channel, luns, wants), limit)
 
 
-def plan_within(channel: Channel, luns: Sequence[Lun], wants: Sequence[Want], limit: int = USUAL_NODES) -> PlanWithin:
+def plan_within(
+    channel: Channel, luns: Sequence[Lun], wants: Sequence[Want], limit: int = USUAL_NODES, lengths: Optional[Lengths] = None
+) -> PlanWithin:
     """The same, and always a plan: where a search opened `limit` nodes and isn't over, the best that was found.
 
     Its certificate, for `check_within`, shows that nothing ends before the plan's `below`, which is less than its finish
     only where the search tree has more nodes than the limit.
 
-    Raises what `plan` does but `Over`.
+    With `lengths` reads may put out some sectors: their kinds are those of `kind_by`, their posts those of `lengths`.
+
+    Raises what `plan` does but `Over`; with `lengths` `LongSpan` also of them, and after `BadLun` `NoLengths`, where a read puts out
+    so many sectors that none is stated of them, or where a program or an erase has sectors.
     """
-    made = CWithin()
-    certificate = written(library().onfi_plan_within, Problem(channel, luns, wants), limit, made)
+    made, said = CWithin(), Problem(channel, luns, wants, lengths)
+    certificate = written(said.call("onfi_plan_within"), said, limit, made)
     return PlanWithin(made.schedule.told(), made.finish, made.below, certificate)
 
 
-def plan_rule(channel: Channel, luns: Sequence[Lun], wants: Sequence[Want]) -> PlanWithin:
+def plan_rule(channel: Channel, luns: Sequence[Lun], wants: Sequence[Want], lengths: Optional[Lengths] = None) -> PlanWithin:
     """A plan by a rule, in one pass and without a search.
 
     Again and again each LUN gives its next phase, or a group that may start, its oldest read, else program, else erase, with all
     that can join it; and of these phases the one that may start soonest goes. The plan's `below` is the greatest time that a bound
     shows before which nothing ends; where it is the finish the schedule is optimal. Its certificate is for `check_within`.
 
-    Raises what `plan_within` does but `BadLimit`.
+    `lengths` are as by `plan_within`. Raises what that does but `BadLimit`.
     """
-    made = CWithin()
-    certificate = given(library().onfi_plan_rule, Problem(channel, luns, wants), made)
+    made, said = CWithin(), Problem(channel, luns, wants, lengths)
+    certificate = given(said.call("onfi_plan_rule"), said, made)
     return PlanWithin(made.schedule.told(), made.finish, made.below, certificate)
 
 
@@ -110,6 +123,7 @@ def plan_early(
     slack: int = 0,
     limit: int = USUAL_NODES,
     running: Sequence[Sequence[int]] = (),
+    lengths: Optional[Lengths] = None,
 ) -> PlanWithin:
     """The same, made better: requests end early, each by its weight.
 
@@ -119,11 +133,11 @@ def plan_early(
     `slack` the plan may end after its `below` by so many thousandths, 1,000 at most, of what lies between the time from when
     on the bus is free and that `below`; later only where the search tree has more nodes than the limit. `check_within` judges it.
 
-    Raises what `plan_within` does; `ValueError` where a weight or the slack isn't below 65,536.
+    `lengths` are as by `plan_within`. Raises what that does; `ValueError` where a weight or the slack isn't below 65,536.
     """
-    made = CWithin()
+    made, said = CWithin(), Problem(channel, luns, wants, lengths)
     told = (ctypes.byref(CWeights.of(weights, running)), number(slack, 1 << 16, "a slack"))
-    certificate = written(library().onfi_plan_early, Problem(channel, luns, wants), limit, made, *told)
+    certificate = written(said.call("onfi_plan_early"), said, limit, made, *told)
     return PlanWithin(made.schedule.told(), made.finish, made.below, certificate)
 
 
@@ -166,14 +180,23 @@ def check_known(channel: Channel, luns: Sequence[Lun], wants: Sequence[Want], sc
     return judged(library().onfi_check_known, Problem(channel, luns, wants), schedule, certificate)
 
 
-def check_within(channel: Channel, luns: Sequence[Lun], wants: Sequence[Want], schedule: Schedule, below: int, certificate: Text) -> int:
+def check_within(
+    channel: Channel,
+    luns: Sequence[Lun],
+    wants: Sequence[Want],
+    schedule: Schedule,
+    below: int,
+    certificate: Text,
+    lengths: Optional[Lengths] = None,
+) -> int:
     """When the schedule ends, in ns, where it is legal and the certificate shows that no legal schedule ends before `below`.
 
-    The schedule is optimal where that is its end. Raises what `check_known` does, and after `Illegal` `EndsBefore`, where
-    the schedule ends before `below`.
+    The schedule is optimal where that is its end. `lengths` are as by `plan_within`. Raises what `check_known` does, with `lengths`
+    what `plan_within` raises of them, and after `Illegal` `EndsBefore`, where the schedule ends before `below`.
     """
     number(below, 1 << 64, "a time")
-    return judged(library().onfi_check_within, Problem(channel, luns, wants), schedule, certificate, below)
+    said = Problem(channel, luns, wants, lengths)
+    return judged(said.call("onfi_check_within"), said, schedule, certificate, below)
 
 
 def judged(call: Callable[..., int], said: Problem, schedule: Schedule, certificate: Text, *below: int) -> int:
@@ -192,6 +215,7 @@ def choose(
     accepted: int,
     choice: Choice = Choice.BY_LUN,
     batch: int = WANTS,
+    lengths: Optional[Lengths] = None,
 ) -> List[int]:
     """The places, in the list of the requests that wait, of those that a batch of at most `batch` takes, 1 to 8; they rise.
 
@@ -200,11 +224,13 @@ def choose(
     batch is full, or all are chosen; that once 64 later ones started before the oldest, it is chosen; and that `IN_ORDER` takes
     the oldest. Which requests the other choices take beside that is shown by tests alone.
 
+    With `lengths` reads may put out some sectors, as by `plan_within`; where none is stated of so many, the post of a page counts.
+
     Raises what `plan` raises of lengths, plane bits, members and kinds; `BadChoice`, `BadBatch`, `BadOrder`; `Memory`.
     """
-    said, chosen, count = Problem(channel, luns, wants), (ctypes.c_size_t * WANTS)(), ctypes.c_size_t()
+    said, chosen, count = Problem(channel, luns, wants, lengths), (ctypes.c_size_t * WANTS)(), ctypes.c_size_t()
     words = (number(accepted, 1 << 64, "a count"), number(choice, 256, "a choice"), number(batch, 256, "a batch"))
-    status = library().onfi_choose(*said.words, *words, ctypes.byref(chosen), ctypes.byref(count))
+    status = said.call("onfi_choose")(*said.words, *words, ctypes.byref(chosen), ctypes.byref(count))
     if status != DONE:
         raise refusal(status)
     return chosen[: count.value]
@@ -239,35 +265,52 @@ def choose_whole(
     return chosen[: count.value]
 
 
-def due(channel: Channel, luns: Sequence[Lun], wants: Sequence[Want], geometry: Geometry, schedule: Schedule) -> Phase:
+def due(
+    channel: Channel,
+    luns: Sequence[Lun],
+    wants: Sequence[Want],
+    geometry: Geometry,
+    schedule: Schedule,
+    lengths: Optional[Lengths] = None,
+) -> Phase:
     """The phase that is due: the undone one of least start, with its address and its command bytes.
 
-    Only this phase is looked at: of a schedule that isn't legal one may be given that may run.
+    Only this phase is looked at: of a schedule that isn't legal one may be given that may run. `lengths` are as by `plan_within`.
 
-    Raises what `plan` raises of the channel, but for `Memory`; `BadSchedule`; `Illegal` where the phase of least start may not
+    Raises what `plan` raises of the channel, with `lengths` `plan_within`, but for `Memory`; `BadSchedule`; `Illegal` where the phase of least start may not
     run, or none has a start and something waits or runs; `BadGeometry`, `NothingDue`, `BadPlace`.
     """
-    said, phase = Problem(channel, luns, wants), CPhase()
-    status = library().onfi_due(*said.words, ctypes.byref(CGeometry.of(geometry)), ctypes.byref(CSchedule.of(schedule)), ctypes.byref(phase))
+    said, phase = Problem(channel, luns, wants, lengths), CPhase()
+    status = said.call("onfi_due")(*said.words, ctypes.byref(CGeometry.of(geometry)), ctypes.byref(CSchedule.of(schedule)), ctypes.byref(phase))
     if status != DONE:
         raise refusal(status)
     return phase.told()
 
 
-def ran(channel: Channel, luns: Sequence[Lun], wants: Sequence[Want], schedule: Schedule, lun: int, phase: int, started: int) -> Stand:
+def ran(
+    channel: Channel,
+    luns: Sequence[Lun],
+    wants: Sequence[Want],
+    schedule: Schedule,
+    lun: int,
+    phase: int,
+    started: int,
+    lengths: Optional[Lengths] = None,
+) -> Stand:
     """What stands after the phase that is due, once it ran from `started` on, in ns, at or after its start by the schedule.
 
     The bus is free from its end, its LUN goes on or is free, a group that began has left the wants, and the starts that are
-    left are later by as much as this one was. `lun` and `phase` are the LUN of the phase and its number in its group.
+    left are later by as much as this one was. `lun` and `phase` are the LUN of the phase and its number in its group. `lengths` are as
+    by `plan_within`.
 
-    Raises `TooMany` where more than eight wants wait; what `plan` raises of the channel, but for `Memory`; `BadSchedule`,
+    Raises `TooMany` where more than eight wants wait; what `plan` raises of the channel, with `lengths` `plan_within`, but for `Memory`; `BadSchedule`,
     `Illegal` as by `due`, `NothingDue`, `NotDue`, `TooSoon`; `Clock` where a phase would start at 2^62 ns or later, or what is
     left could last until then, so that no later call raises it of what this one made.
     """
-    said, left, count = Problem(channel, luns, wants), CSchedule.of(schedule), ctypes.c_size_t(len(wants))
+    said, left, count = Problem(channel, luns, wants, lengths), CSchedule.of(schedule), ctypes.c_size_t(len(wants))
     waiting = (CWant * WANTS)(*(CWant.of(want) for want in wants[:WANTS]))
     words = (number(lun, 256, "a LUN"), number(phase, 256, "a phase"), number(started, 1 << 64, "a time"))
-    status = library().onfi_ran(*said.words[:3], ctypes.byref(waiting), ctypes.byref(count), ctypes.byref(left), *words)
+    status = said.call("onfi_ran")(*said.stand, ctypes.byref(waiting), ctypes.byref(count), ctypes.byref(left), *words)
     if status != DONE:
         raise refusal(status)
     return Stand(said.channel.told(), tuple(it.told() for it in said.luns[: len(luns)]), tuple(it.told() for it in waiting[: count.value]), left.told())
@@ -311,6 +354,24 @@ def timing_of_page(page: Octets, sheet: Text, strobes: Optional[Text] = None) ->
     if status != DONE:
         raise refusal(status, place.value)
     return device.told()
+
+
+def lengths_of_page(page: Octets, sheet: Text, sector_bytes: int, strobes: Optional[Text] = None) -> Tuple[Device, Lengths]:
+    """The device of `timing_of_page`, with the lengths of reads of 1 to 7 sectors of so many bytes each.
+
+    The post of so many sectors is that of a read whose page has their bytes. None is stated of more sectors than a page has bytes
+    for, its spare bytes among them, nor of any where `sector_bytes` is 0. A text of strobes that is empty is none.
+
+    Raises what `timing_of_page` does; `ValueError` where `sector_bytes` isn't below 65,536.
+    """
+    device, lengths, place = CDevice(), CLengths(), ctypes.c_uint64()
+    texts = [octets(page, "a parameter page"), text(sheet, "a timing sheet"), text(b"" if strobes is None else strobes, "a text of strobes")]
+    words = [word for it in texts for word in (it, len(it))]
+    told = (ctypes.byref(device), ctypes.byref(lengths), ctypes.byref(place))
+    status = library().onfi_lengths_of_page(*words, number(sector_bytes, 65536, "the bytes of a sector"), *told)
+    if status != DONE:
+        raise refusal(status, place.value)
+    return device.told(), lengths.told()
 
 
 def text_plan(script: Text, limit: int = MOST_NODES, trace: bool = False, remember: bool = False, requests: bool = False) -> Answer:

@@ -8,12 +8,13 @@ import os
 import pathlib
 from typing import List, Tuple
 
-from onfi.structs import WANTS, CChannel, CDevice, CGeometry, CLun, CPhase, CPlan, CSchedule, CVerdict, CWant, CWeights, CWithin
+from onfi.structs import WANTS, CChannel, CDevice, CGeometry, CLengths, CLun, CPhase, CPlan, CSchedule, CVerdict, CWant, CWeights, CWithin
 
 SONAME = "libonfi.so.1"
 BYTES, SIZE = ctypes.c_char_p, ctypes.c_size_t
 ROOM = (ctypes.c_void_p, SIZE, ctypes.POINTER(SIZE))
 PROBLEM = (ctypes.POINTER(CChannel), ctypes.POINTER(CLun), SIZE, ctypes.POINTER(CWant), SIZE)
+LENGTHS = ctypes.POINTER(CLengths)
 CALLS = {
     "onfi_version": (),
     "onfi_plan": (*PROBLEM, ctypes.c_uint32, ctypes.POINTER(CPlan), *ROOM),
@@ -40,6 +41,7 @@ CALLS = {
     "onfi_row": (ctypes.POINTER(CGeometry), ctypes.c_uint8, ctypes.c_uint16, ctypes.c_uint16, ctypes.POINTER(ctypes.c_uint32)),
     "onfi_timing_of_page": (BYTES, SIZE, BYTES, SIZE, ctypes.POINTER(CDevice), ctypes.POINTER(ctypes.c_uint64)),
     "onfi_timing_of_strobes": (BYTES, SIZE, BYTES, SIZE, BYTES, SIZE, ctypes.POINTER(CDevice), ctypes.POINTER(ctypes.c_uint64)),
+    "onfi_lengths_of_page": (BYTES, SIZE, BYTES, SIZE, BYTES, SIZE, ctypes.c_uint16, ctypes.POINTER(CDevice), LENGTHS, ctypes.POINTER(ctypes.c_uint64)),
     "onfi_text_plan": (BYTES, SIZE, ctypes.c_uint32, ctypes.c_bool, *ROOM),
     "onfi_text_plan_known": (BYTES, SIZE, ctypes.c_uint32, ctypes.c_bool, *ROOM),
     "onfi_text_trace": (BYTES, SIZE, ctypes.c_uint32, ctypes.c_bool, *ROOM),
@@ -48,6 +50,9 @@ CALLS = {
     "onfi_text_legal": (BYTES, SIZE, *ROOM),
     "onfi_status_text": (ctypes.c_uint32, *ROOM),
 }
+# Those that are told lengths of sectors too, before all else.
+TOLD = ("onfi_plan_within", "onfi_plan_rule", "onfi_plan_early", "onfi_check_within", "onfi_choose", "onfi_due", "onfi_ran")
+CALLS.update({f"{name}_by": (LENGTHS, *CALLS[name]) for name in TOLD})
 
 
 def places() -> List[Tuple[str, str]]:

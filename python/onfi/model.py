@@ -4,7 +4,7 @@ from __future__ import annotations
 
 import enum
 from dataclasses import dataclass
-from typing import Sequence
+from typing import Mapping, Sequence
 
 
 class Kind(enum.IntEnum):
@@ -13,6 +13,16 @@ class Kind(enum.IntEnum):
     READ = 0
     PROGRAM = 1
     ERASE = 2
+
+
+def kind_by(kind: Kind, sectors: int = 0) -> int:
+    """The kind of a read that puts out so many sectors of its page, 1 to 7, for calls that are told `lengths`; with 0 it is the kind.
+
+    `ValueError` where the sectors aren't from 0 to 7.
+    """
+    if not 0 <= sectors <= 7:
+        raise ValueError(f"the sectors of a kind are not from 0 to 7: {sectors}")
+    return kind | sectors << 5
 
 
 class Choice(enum.IntEnum):
@@ -50,6 +60,16 @@ class Timing:
 
 
 @dataclass(frozen=True)
+class Lengths:
+    """How long outputs of some sectors hold the bus: the post, in ns, below 2^50, of reads by how many sectors they put out, 1 to 7.
+
+    All else of them is as for other reads. Of sectors that aren't there, or with 0, none is stated.
+    """
+
+    sectors: Mapping[int, int]
+
+
+@dataclass(frozen=True)
 class Rules:
     """What may run as one on several planes of a LUN."""
 
@@ -78,7 +98,8 @@ class Want:
 
     id: int
     """A number of the caller's, below 2^64; each want of a list has a greater one than that before it."""
-    kind: Kind
+    kind: int
+    """A `Kind`; for calls that are told `lengths` also one of `kind_by`."""
     lun: int
     """From 0."""
     block: int
@@ -158,7 +179,8 @@ class Phase:
     block: int
     page: int
     lun: int
-    kind: Kind
+    kind: int
+    """That of its request."""
     number: int
     """Its number in its group: commands are 0 .., posts follow."""
     members: int

@@ -5,9 +5,9 @@ from __future__ import annotations
 import ctypes
 from typing import Any, Dict, Sequence, Union
 
-from onfi.model import Channel, Device, Geometry, Group, Kind, Lun, Phase, Rules, Schedule, Spans, Timing, Want
+from onfi.model import Channel, Device, Geometry, Group, Kind, Lengths, Lun, Phase, Rules, Schedule, Spans, Timing, Want
 
-LUNS, WANTS, MEMBERS, STARTS = 8, 8, 4, 8
+LUNS, WANTS, MEMBERS, STARTS, SECTORS = 8, 8, 4, 8, 7
 
 
 def number(value: int, below: int, what: str) -> int:
@@ -36,6 +36,11 @@ def text(value: Union[str, bytes, bytearray, memoryview], what: str) -> bytes:
         raise ValueError(f"{what} has half a character, which no text in UTF-8 has") from None
 
 
+def kind_told(kind: int) -> int:
+    """A kind; a `Kind` where it puts out no sectors."""
+    return Kind(kind) if kind in list(Kind) else kind
+
+
 class CSpans(ctypes.Structure):
     _fields_ = [(name, ctypes.c_uint64) for name in ("cmd", "gap", "array", "post")]
 
@@ -52,6 +57,22 @@ class CTiming(ctypes.Structure):
 
     def told(self) -> Timing:
         return Timing(self.read.told(), self.program.told(), self.erase.told())
+
+
+class CLengths(ctypes.Structure):
+    _fields_ = [("sectors", ctypes.c_uint64 * SECTORS)]
+
+    @classmethod
+    def of(cls, lengths: Lengths) -> CLengths:
+        made = cls()
+        for count, post in lengths.sectors.items():
+            if not 1 <= count <= SECTORS:
+                raise ValueError(f"lengths of sectors are those of 1 to {SECTORS}, not of {count}")
+            made.sectors[count - 1] = number(post, 1 << 64, "a length")
+        return made
+
+    def told(self) -> Lengths:
+        return Lengths({at + 1: post for at, post in enumerate(self.sectors) if post})
 
 
 class CRules(ctypes.Structure):
@@ -98,7 +119,7 @@ class CWant(ctypes.Structure):
         )
 
     def told(self) -> Want:
-        return Want(self.id, Kind(self.kind), self.lun, self.block, self.page)
+        return Want(self.id, kind_told(self.kind), self.lun, self.block, self.page)
 
 
 class CLun(ctypes.Structure):
@@ -195,7 +216,7 @@ class CPhase(ctypes.Structure):
 
     def told(self) -> Phase:
         made: Dict[str, Any] = {name: getattr(self, name) for name, *_ in self._fields_}
-        made["kind"] = Kind(self.kind)
+        made["kind"] = kind_told(self.kind)
         return Phase(**made)
 
 

@@ -71,6 +71,30 @@ static void devices(const uint8_t *page, size_t bytes)
     expect("no sheet beside strobes", onfi_timing_of_strobes(page, bytes, NOTHING(char), 0, NOTHING(char), 0, &device, &place), ONFI_SHEET_MISSING);
     expect("no strobes", onfi_timing_of_strobes(page, bytes, BESIDE, sizeof BESIDE - 1, NOTHING(char), 0, &device, &place), ONFI_STROBE_MISSING);
     expect("tells their first parameter", place, 1);
+    onfi_lengths lengths;
+    const char sheet[] = "tWC,20\ntRC,20\ntADL,100\ntWHR,80\ntRHW,100\ntWB,100\ntPLRBSY,500\ntPLPBSY,500\ntPLEBSY,500\n";
+    expect("sectors of no page", onfi_lengths_of_page(NOTHING(uint8_t), 0, NOTHING(char), 0, NOTHING(char), 0, 1, &device, &lengths, &place), ONFI_PAGE_SHORT);
+    expect("sectors by no sheet", onfi_lengths_of_page(page, bytes, NOTHING(char), 0, NOTHING(char), 0, 1, &device, &lengths, &place), ONFI_SHEET_MISSING);
+    expect("sectors without strobes", onfi_lengths_of_page(page, bytes, sheet, sizeof sheet - 1, NOTHING(char), 0, 1, &device, &lengths, &place), ONFI_DONE);
+    expect("of a byte each", lengths.sectors[6] - lengths.sectors[0], 120);
+}
+
+/* Plans with lengths of sectors: of no LUN, of no want, and with none of its certificate. */
+static void by_lengths(void)
+{
+    onfi_lengths none;
+    onfi_within plan;
+    onfi_verdict verdict;
+    uint8_t certificate[64];
+    size_t bytes, count, chosen[ONFI_WANTS];
+    memset(&none, 0, sizeof none);
+    expect("no LUN by lengths", onfi_plan_within_by(&none, &channel, NOTHING(onfi_lun), 0, NOTHING(onfi_want), 0, 1, &plan, NOTHING(uint8_t), 0, &bytes), ONFI_TOO_MANY);
+    expect("no want by lengths", onfi_plan_within_by(&none, &channel, luns, 1, NOTHING(onfi_want), 0, 1, &plan, certificate, sizeof certificate, &bytes), ONFI_DONE);
+    expect("its finish by lengths", plan.finish, 77);
+    expect("is checked by lengths", onfi_check_within_by(&none, &channel, luns, 1, NOTHING(onfi_want), 0, &plan.schedule, 77, certificate, bytes, &verdict), ONFI_DONE);
+    expect("no want by the rule", onfi_plan_rule_by(&none, &channel, luns, 1, NOTHING(onfi_want), 0, &plan, NOTHING(uint8_t), 0, &bytes), ONFI_DONE);
+    expect("nothing to choose", onfi_choose_by(&none, &channel, luns, 1, NOTHING(onfi_want), 0, 0, ONFI_BY_LUN, 8, chosen, &count), ONFI_DONE);
+    expect("nothing is chosen", count, 0);
 }
 
 static const char *const no_script = "script refused 0 NoEnd\n";
@@ -131,6 +155,7 @@ int main(int count, char **words)
     begin();
     plans(onfi_plan, onfi_check);
     plans(onfi_plan_known, onfi_check_known);
+    by_lengths();
     devices(page, bytes);
     text_plans();
     text_checks();

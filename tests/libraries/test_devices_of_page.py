@@ -117,6 +117,37 @@ class Strobes(unittest.TestCase):
         self.refused(onfi.StrobeMissing, "tRC,0\n", 1)
 
 
+class Sectors(unittest.TestCase):
+    def test_lengths(self) -> None:
+        """Four sectors of 132 bytes are a page; each cycle of a read takes 20 ns, and what is given out before and after its bytes 440 ns."""
+        found, lengths = onfi.lengths_of_page(PAGE, SHEET, 132)
+        self.assertEqual(found, onfi.timing_of_page(PAGE, SHEET))
+        self.assertEqual(lengths.sectors, {1: 3_080, 2: 5_720, 3: 8_360, 4: found.timing.read.post})
+        self.assertEqual(onfi.lengths_of_page(PAGE, SHEET, 528)[1].sectors, {1: 11_000})
+        self.assertEqual([*onfi.lengths_of_page(PAGE, SHEET, 1)[1].sectors], [1, 2, 3, 4, 5, 6, 7])
+        for none in (0, 529, 65_535):
+            self.assertEqual(onfi.lengths_of_page(PAGE, SHEET, none), (found, onfi.Lengths({})))
+        self.assertRaises(ValueError, onfi.lengths_of_page, PAGE, SHEET, 65_536)
+
+    def test_lengths_by_strobes(self) -> None:
+        """Two bytes in a cycle of 1.667 ns: 66 cycles less for each sector less, each length rounded up once."""
+        found, lengths = onfi.lengths_of_page(PAGE, BESIDE, 132, STROBES)
+        self.assertEqual(found, onfi.timing_of_page(PAGE, BESIDE, STROBES))
+        self.assertEqual(lengths.sectors, {1: 642, 2: 752, 3: 862, 4: 972})
+        self.assertEqual(onfi.lengths_of_page(PAGE, SHEET, 132, ""), onfi.lengths_of_page(PAGE, SHEET, 132))
+
+    def test_refusals(self) -> None:
+        """As without sectors, with the place of the row or of the parameter."""
+        for name, place, words in (
+            (onfi.PageShort, 0, (PAGE[:255], SHEET, 132)), (onfi.WideBus, 0, (page(wide_bus=1), SHEET, 132)),
+            (onfi.SheetMissing, 2, (PAGE, BESIDE, 132)), (onfi.SheetUnknown, 1, (PAGE, "tXX,1\n" + SHEET, 132)),
+            (onfi.StrobeMissing, 2, (PAGE, BESIDE, 132, "tRPRE,1\n")), (onfi.StrobeUnknown, 1, (PAGE, BESIDE, 132, "tDQ,5\n")),
+        ):
+            with self.assertRaises(name) as told:
+                onfi.lengths_of_page(*words)
+            self.assertEqual(told.exception.place, place)
+
+
 class Devices(unittest.TestCase):
     def test_lengths(self) -> None:
         found = onfi.timing_of_page(PAGE, SHEET)

@@ -75,10 +75,11 @@ class Headers(unittest.TestCase):
     def test_shared_library_shows_its_calls_alone(self) -> None:
         told = run("nm", "-D", "--defined-only", str(LIBRARY / "libonfi.so")).stdout.decode().split()[2::3]
         self.assertEqual(sorted(told), [
-            "onfi_check", "onfi_check_known", "onfi_check_within", "onfi_choose", "onfi_choose_whole", "onfi_due", "onfi_next", "onfi_plan", "onfi_plan_early",
-            "onfi_plan_known", "onfi_plan_rule", "onfi_plan_within", "onfi_queue_accept", "onfi_queue_begin", "onfi_queue_ran", "onfi_ran", "onfi_row",
-            "onfi_status_text", "onfi_text_check", "onfi_text_check_known", "onfi_text_legal", "onfi_text_plan", "onfi_text_plan_known", "onfi_text_trace",
-            "onfi_timing_of_page", "onfi_timing_of_strobes", "onfi_version"])
+            "onfi_check", "onfi_check_known", "onfi_check_within", "onfi_check_within_by", "onfi_choose", "onfi_choose_by", "onfi_choose_whole", "onfi_due",
+            "onfi_due_by", "onfi_lengths_of_page", "onfi_next", "onfi_plan", "onfi_plan_early", "onfi_plan_early_by", "onfi_plan_known", "onfi_plan_rule",
+            "onfi_plan_rule_by", "onfi_plan_within", "onfi_plan_within_by", "onfi_queue_accept", "onfi_queue_begin", "onfi_queue_ran", "onfi_ran",
+            "onfi_ran_by", "onfi_row", "onfi_status_text", "onfi_text_check", "onfi_text_check_known", "onfi_text_legal", "onfi_text_plan",
+            "onfi_text_plan_known", "onfi_text_trace", "onfi_timing_of_page", "onfi_timing_of_strobes", "onfi_version"])
 
     def test_shared_library_is_named_by_its_major_version(self) -> None:
         version = (ROOT / "VERSION").read_text().strip()
@@ -172,6 +173,12 @@ class Choices(unittest.TestCase):
         self.assertEqual((told.returncode, told.stderr, told.stdout), (0, b"", b"21 tried, 0 failed\n"))
 
 
+class Sectors(unittest.TestCase):
+    def test_in_c(self) -> None:
+        told = run(build(ROOT / "tests/libraries/sectors.c"))
+        self.assertEqual((told.returncode, told.stderr, told.stdout), (0, b"", b"1485 tried, 0 failed\n"))
+
+
 class Nothing(unittest.TestCase):
     """Where a count is 0 its pointer may be null."""
 
@@ -183,7 +190,7 @@ class Nothing(unittest.TestCase):
         for compiler in (C11, CXX):
             told = run(build(ROOT / "tests/libraries/nothing.c", compiler), str(page))
             self.assertEqual((told.returncode, told.stderr), (0, b""), told.stdout.decode())
-            self.assertEqual(told.stdout, b"70 tried, 0 failed\n")
+            self.assertEqual(told.stdout, b"81 tried, 0 failed\n")
 
 
 def said(script: str) -> Tuple[onfi.Channel, List[onfi.Lun], List[onfi.Want]]:

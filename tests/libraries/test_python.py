@@ -29,6 +29,10 @@ CHANNEL = onfi.Channel(TIMING, onfi.Rules(read=True, write=True, plane_bits=1))
 LUNS = [onfi.Lun(), onfi.Lun(since=500)]
 WANTS = [onfi.Want(3, onfi.Kind.READ, 0, 0, 5), onfi.Want(5, onfi.Kind.READ, 0, 1, 5), onfi.Want(9, onfi.Kind.READ, 1, 0)]
 
+GEOMETRY = onfi.Geometry(
+    blocks_per_lun=16, page_bits=6, block_bits=4, lun_bits=1, pages_per_block=64, data_bytes=512, spare_bytes=16, lun_count=2, plane_address_bits=1,
+    column_address_cycles=2, row_address_cycles=3, any_page_order=False, multi_plane_writes=True, multi_plane_reads=True)
+
 
 def changed(channel: onfi.Channel, **rules: Any) -> onfi.Channel:
     return dataclasses.replace(channel, rules=dataclasses.replace(channel.rules, **rules))
@@ -218,6 +222,77 @@ class Checks(unittest.TestCase):
         plan = onfi.plan(CHANNEL, LUNS, WANTS)
         short = dataclasses.replace(plan.schedule, groups=[onfi.Group([3], [1])])
         self.assertRaises(ValueError, onfi.check, CHANNEL, LUNS, WANTS, short, plan.certificate)
+
+
+LENGTHS = onfi.Lengths({1: 3_080, 2: 5_720, 3: 8_360})
+SECTORS = [dataclasses.replace(want, kind=onfi.kind_by(onfi.Kind.READ, count)) for want, count in zip(WANTS, (1, 0, 3))]
+
+
+class Sectors(unittest.TestCase):
+    """Reads that put out some sectors of their pages."""
+
+    def test_kinds(self) -> None:
+        self.assertEqual([onfi.kind_by(onfi.Kind.READ, count) for count in (0, 1, 7)], [0, 32, 224])
+        self.assertEqual(onfi.kind_by(onfi.Kind.ERASE), onfi.Kind.ERASE)
+        for count in (-1, 8):
+            self.assertRaises(ValueError, onfi.kind_by, onfi.Kind.READ, count)
+
+    def test_plan_and_check(self) -> None:
+        """The three sectors of LUN 1 are out from 25,740 on, behind them the sector and the page of LUN 0, which run as one."""
+        made = onfi.plan_within(CHANNEL, LUNS, SECTORS, lengths=LENGTHS)
+        self.assertEqual((made.finish, made.below), (48_180, 48_180))
+        self.assertEqual(onfi.check_within(CHANNEL, LUNS, SECTORS, made.schedule, made.below, made.certificate, lengths=LENGTHS), made.finish)
+        for other in (onfi.plan_early(CHANNEL, LUNS, SECTORS, (1, 9), lengths=LENGTHS), onfi.plan_rule(CHANNEL, LUNS, SECTORS, lengths=LENGTHS)):
+            finish = onfi.check_within(CHANNEL, LUNS, SECTORS, other.schedule, other.below, other.certificate, lengths=LENGTHS)
+            self.assertEqual((finish, finish >= made.finish), (other.finish, True))
+        self.assertEqual(onfi.choose(CHANNEL, LUNS, SECTORS, 10, lengths=LENGTHS), [0, 1, 2])
+
+    def test_pages_are_planned_as_without_lengths(self) -> None:
+        for lengths in (onfi.Lengths({}), onfi.Lengths({7: 11_000})):
+            self.assertEqual(onfi.plan_within(CHANNEL, LUNS, WANTS, lengths=lengths), onfi.plan_within(CHANNEL, LUNS, WANTS))
+
+    def test_scripts_say_the_same(self) -> None:
+        rows = ["shape,2,1,1,1", "spans,read,140,600,25100,11000", "spans,program,10800,600,200100,280", "spans,erase,100,600,1500100,280", "free,1,500"]
+        rows += [f"sectorpost,{count},{post}" for count, post in LENGTHS.sectors.items()]
+        wants = ["want,read,0,0,5", "want,read,0,1,5", "want,read,1,0,0", "sectors,0,1", "sectors,2,3"]
+        text = onfi.text_plan("\n".join([*rows, *wants, "end"]) + "\n", remember=True)
+        numbered = [dataclasses.replace(want, id=at) for at, want in enumerate(SECTORS)]
+        made = onfi.plan_within(CHANNEL, LUNS, numbered, 1_048_576, lengths=LENGTHS)
+        self.assertEqual((text.status, text.text), (0, test_libraries.plan_text(made)))
+
+    def test_refusals(self) -> None:
+        def refused(name: Type[onfi.Refused], wants: Any = SECTORS, luns: Any = LUNS, lengths: onfi.Lengths = LENGTHS) -> None:
+            self.assertRaises(name, onfi.plan_within, CHANNEL, luns, wants, lengths=lengths)
+            self.assertRaises(name, onfi.plan_rule, CHANNEL, luns, wants, lengths=lengths)
+            schedule = onfi.Schedule([()] * len(luns), [])
+            self.assertRaises(name, onfi.check_within, CHANNEL, luns, wants, schedule, 0, b"", lengths=lengths)
+            self.assertRaises(name, onfi.due, CHANNEL, luns, wants, GEOMETRY, schedule, lengths=lengths)
+            self.assertRaises(name, onfi.ran, CHANNEL, luns, wants, schedule, 0, 0, 0, lengths=lengths)
+
+        refused(onfi.LongSpan, lengths=onfi.Lengths({1: 1 << 50}))
+        refused(onfi.BadKind, wants=[dataclasses.replace(WANTS[0], kind=35)])
+        refused(onfi.NoLengths, wants=[dataclasses.replace(WANTS[0], kind=onfi.kind_by(onfi.Kind.READ, 4))])
+        refused(onfi.NoLengths, wants=[dataclasses.replace(WANTS[0], kind=onfi.kind_by(onfi.Kind.PROGRAM, 1))])
+        refused(onfi.NoLengths, luns=[onfi.Lun(0, [dataclasses.replace(WANTS[0], kind=onfi.kind_by(onfi.Kind.READ, 5))], 1), onfi.Lun()])
+        refused(onfi.BadLun, wants=[dataclasses.replace(SECTORS[0], lun=2)], lengths=onfi.Lengths({}))
+        for call in (onfi.plan, onfi.plan_known, onfi.plan_within, onfi.plan_rule, onfi.plan_early):
+            self.assertRaises(onfi.BadKind, call, CHANNEL, LUNS, SECTORS)
+        for count in (0, 8):
+            self.assertRaisesRegex(ValueError, f"not of {count}$", onfi.plan_rule, CHANNEL, LUNS, WANTS, lengths=onfi.Lengths({count: 1}))
+
+    def test_phase_by_phase(self) -> None:
+        """Posts end as is stated, and kinds are those of the wants."""
+        schedule = onfi.plan_within(CHANNEL, LUNS, SECTORS, lengths=LENGTHS).schedule
+        stand, kinds = onfi.Stand(CHANNEL, LUNS, SECTORS, schedule), {want.id: want.kind for want in SECTORS}
+        posts = {0: 11_000, **{count << 5: post for count, post in LENGTHS.sectors.items()}}
+        for at in range(6):
+            said = (stand.channel, stand.luns, stand.wants)
+            phase = onfi.due(*said, GEOMETRY, stand.schedule, lengths=LENGTHS)
+            self.assertEqual((phase.kind, phase.end - phase.start), (kinds[phase.want], posts[phase.kind] if phase.is_post else 140))
+            stand = onfi.ran(*said, stand.schedule, phase.lun, phase.number, phase.start, lengths=LENGTHS)
+            self.assertTrue(all(want.kind == kinds[want.id] for lun in stand.luns for want in [*lun.members, *stand.wants]))
+        self.assertEqual((stand.channel.bus_free, stand.wants), (48_180, ()))
+        self.assertRaises(onfi.NothingDue, onfi.due, stand.channel, stand.luns, stand.wants, GEOMETRY, stand.schedule, lengths=LENGTHS)
 
 
 class Packages(unittest.TestCase):

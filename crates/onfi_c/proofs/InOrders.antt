@@ -2,19 +2,20 @@
 use Rattle.std.proofs.Common.{◌≡◌, ℕ, zero, suc, ◌+◌, ◌-◌, ◌*◌, ◌%◌, ◌^◌, ◌<◌, ◌≤◌, Bool, true, false, List, [], ◌∷◌, length, get_or, Option, None, Some, inl, inr, refl, sym, ap, ◌∙◌, subst, arith}
 use Rattle.std.specs.Prelude.{◌==◌, ◌||◌, IfSome, not, nat_lt}
 use Rattle.std.specs.List.{AllByRecursion as Each, list_any}
-use Rattle.std.proofs.lemmas.Bool.{cases_Bool, lt-ltb}
+use Rattle.std.proofs.lemmas.Bool.{cases_Bool}
 use Rattle.std.proofs.lemmas.Bool.Decides.{nat_tests}
 use Rattle.std.proofs.lemmas.List.{length-map}
-use Rattle.onfi_timing.specs.declared.kind.Kind.TheVariants.{Erase}
+use Rattle.onfi_timing.specs.declared.kind.Kind.TheVariants.{Read, ReadSectors, Program, Erase}
 use Rattle.onfi_timing.specs.declared.timing.Timing.{Timing}
 use Rattle.onfi_request.specs.declared.want.Want.{Want}
 use Rattle.onfi_group.specs.declared.rules.Rules.{Rules}
 use Rattle.onfi_group.specs.Group.{IsGroup, lun_of}
 use Rattle.onfi_problem.specs.Checks.{AreLuns, time_of}
 use Rattle.onfi_problem.specs.Left.{InLimits}
-use Rattle.onfi_problem.specs.Problem.{IsProblem, IsRunning, IsSmall, IsWant}
+use Rattle.onfi_problem.specs.Problem.{HasLengths, IsProblem, IsRunning, IsSmall, IsWant}
 use Rattle.onfi_problem.proofs.Sums.{luns_run}
 use Rattle.onfi_c.specs.declared.channel.PlainChannel.{PlainChannel}
+use Rattle.onfi_c.specs.declared.lengths.PlainLengths.{PlainLengths}
 use Rattle.onfi_c.specs.declared.lun.PlainLun.{PlainLun}
 use Rattle.onfi_c.specs.declared.lun.PlainWant.{PlainWant}
 use Rattle.onfi_c.specs.declared.schedule.PlainGroup.{PlainGroup}
@@ -23,7 +24,7 @@ use Rattle.onfi_c.specs.declared.schedule.PlainSchedule.{PlainSchedule}
 use Rattle.onfi_c.specs.Chosen.{RiseFrom}
 use Rattle.onfi_c.specs.Flights.{IsFlightSaid}
 use Rattle.onfi_c.specs.InOrder.{AreEarly, flight_of, has_page, is_foreign, is_half, is_odd_group, is_odd_rest, is_odd_schedule, problem_said}
-use Rattle.onfi_c.specs.Said.{AreRules, IsTiming, kind_of, state_of, states_of, want_of, wants_of}
+use Rattle.onfi_c.specs.Said.{AreRules, IsTiming, have_lacking, kind_of, operation_in, read_of, sectors_in, state_of, states_of, want_of, wants_of}
 use Rattle.onfi_c.specs.SaidSchedule.{groups_of, is_bad_group, is_bad_rest, is_bad_schedule, is_late, rest_of, rests_of, starts_of}
 use Rattle.onfi_c.proofs.Horizons.{horizon_early}
 use Rattle.onfi_c.proofs.Orders.{rise_of}
@@ -36,10 +37,17 @@ plane_low (suc zero) block low = omega arith
 plane_low (suc (suc zero)) block low = omega arith
 plane_low (suc (suc (suc bits))) block low = absurd (omega (arith, low))
 
-erases : (kind : ℕ) → kind_of kind ≡ Erase → nat_lt 1 kind ≡ true
-erases zero is = cc
-erases (suc zero) is = cc
-erases (suc (suc kind)) is = lt-ltb 1 (suc (suc kind)) (omega arith)
+reads : (count : ℕ) → read_of count ≡ Erase → ⊥
+reads count is = elim (cases_Bool (count == 0)) [ inl none ↦ (let z : Read ≡ Erase = rw none at is in cc) | inr some ↦ (let z : ReadSectors 0 count ≡ Erase = rw some at is in cc) ]
+
+erases : (kind : ℕ) → kind_of kind ≡ Erase → nat_lt 1 (operation_in kind) ≡ true
+erases kind is = elim (cases_Bool (operation_in kind == 0)) [
+  | inl read ↦ absurd (reads (sectors_in kind) (rw read at is))
+  | inr other ↦ elim (cases_Bool (operation_in kind == 1)) [
+    | inl program ↦ absurd (let z : Program ≡ Erase = rw (other, program) at is in cc)
+    | inr erase ↦ grind (arith, nat_tests)
+  ]
+]
 
 page_none : (w : PlainWant) → has_page w ≡ false → kind_of w.kind ≡ Erase → w.page ≡ 0
 page_none w none is =
@@ -183,10 +191,10 @@ pub some_tells : {A P : Type 0} (o : Option A) → P → IfSome o (λ _. P)
 some_tells None p = tt
 some_tells (Some x) p = p
 
-pub flight_said : (channel : PlainChannel) (luns : List PlainLun) (wants : List PlainWant) (schedule : PlainSchedule) (timing : Timing) (rules : Rules) → IsTiming channel.timing timing
-    → AreRules channel.rules rules → is_odd_schedule schedule ≡ false → InLimits (problem_said timing rules channel.bus_free luns wants)
-    → IsFlightSaid channel luns wants schedule (flight_of timing rules channel.bus_free luns wants schedule)
-flight_said channel luns wants schedule timing rules is_timing are even limits = record {
+pub flight_said : (by : Option PlainLengths) (channel : PlainChannel) (luns : List PlainLun) (wants : List PlainWant) (schedule : PlainSchedule) (timing : Timing) (rules : Rules) → IsTiming by channel.timing timing
+    → have_lacking by luns wants ≡ false → HasLengths (problem_said timing rules channel.bus_free luns wants) → AreRules channel.rules rules → is_odd_schedule schedule ≡ false → InLimits (problem_said timing rules channel.bus_free luns wants)
+    → IsFlightSaid by channel luns wants schedule (flight_of timing rules channel.bus_free luns wants schedule)
+flight_said by channel luns wants schedule timing rules is_timing lengths measured are even limits = record {
   said = record {
     problem = record {
       timing = is_timing;
@@ -195,8 +203,10 @@ flight_said channel luns wants schedule timing rules is_timing are even limits =
       states = ap (λ b. states_of b luns) are.plane_bits;
       requests = ap (λ b. wants_of b wants) are.plane_bits;
     };
+    lengths = lengths;
     good = even_good schedule even;
     is = refl;
   };
   limits = limits;
+  measured = measured;
 }

@@ -6,7 +6,6 @@ mod Giving
 mod Horizons
 mod InOrders
 mod InPlace
-mod Lengths
 mod NextRan
 mod NextThere
 mod NextTold
@@ -15,7 +14,10 @@ mod Queues
 mod RanInPlace
 mod Recalled
 mod RulePlans
+mod SectorDevices
 mod Standing
+mod Stands
+mod Stated
 mod StepTaken
 mod Unplanned
 mod Wholes

@@ -1,6 +1,8 @@
 -- What is kept after a phase is the problem that it leaves, and what waits then.
-use Rattle.std.proofs.Common.{◌≡◌, ℕ, ◌+◌, ◌≤◌, List, [], ◌∷◌, length, map, Option, Some, None, refl, sym, ap, ◌∙◌, subst}
-use Rattle.std.specs.Prelude.{slice_set}
+use Rattle.std.proofs.Common.{◌≡◌, ℕ, ◌+◌, ◌≤◌, List, [], ◌∷◌, length, map, Option, Some, None, inl, inr, refl, sym, ap, ◌∙◌, subst}
+use Rattle.std.specs.Prelude.{◌==◌, slice_set}
+use Rattle.std.specs.List.{AllByRecursion as Each}
+use Rattle.std.proofs.lemmas.Bool.{cases_Bool}
 use Rattle.onfi_timing.specs.Phases.{phase_length}
 use Rattle.onfi_request.specs.declared.want.Want.{Want}
 use Rattle.onfi_group.specs.Group.{group_spans}
@@ -20,12 +22,13 @@ use Rattle.onfi_c.specs.declared.queue.PlainWaiter.{PlainWaiter}
 use Rattle.onfi_c.specs.declared.queue_ran.NextBehind.{NextBehind}
 use Rattle.onfi_c.specs.declared.status.Status.{Status}
 use Rattle.onfi_c.specs.Next.{IsNextDue, IsNoneDue, IsPhaseIn, no_phase, too_many, unsaid}
-use Rattle.onfi_c.specs.Queue.{waiter_of, waiters_of, waiting_in}
+use Rattle.onfi_c.specs.Queue.{queued_kind, waiter_of, waiters_of, waiting_in}
 use Rattle.onfi_c.specs.QueueRan.{IsKeptBehind, IsQueueNotRan, IsQueueRan, KeptQueue, are_too_many, has_no_phase, isnt_said, left_behind, left_by, left_by_place}
 use Rattle.onfi_c.specs.Ran.{lun_in, telling}
-use Rattle.onfi_c.specs.Said.{state_of, states_of, wants_of}
+use Rattle.onfi_c.specs.Due.{number_of_kind}
+use Rattle.onfi_c.specs.Said.{kind_of, state_of, states_of}
 use Rattle.onfi_c.proofs.Queues.{left_waits}
-use Rattle.onfi_c.proofs.Standing.{goes_on, tells_by}
+use Rattle.onfi_c.proofs.Standing.{IsPlain, goes_on, tells_by}
 
 is_phase : (p : Problem) (lun : ℕ) (members : List Want) (due : Due) → IsPhaseIn p.luns lun members due → IsPhase p (move_by lun members) due.group due.phase
 is_phase p lun [] due h = h
@@ -44,9 +47,15 @@ luns_there p lun [] due started (ready, at) same = ap (λ o. (next_ran p lun o s
 luns_there p lun (m ∷ ms) due started (group, phase) same = let there = sym same in rw (group, phase, there) refl
 
 -- the wants of what waits
-requests : (bits : ℕ) (ws : List PlainWaiter) → map waited (map (waiter_of bits) ws) ≡ wants_of bits (map (λ w. w.want) ws)
-requests bits [] = refl
-requests bits (w ∷ ws) = ap (λ z. (waiter_of bits w).want ∷ z) (requests bits ws)
+queued_again : (kind : ℕ) → kind_of (number_of_kind (queued_kind kind)) ≡ queued_kind kind
+queued_again kind = elim (cases_Bool (kind == 0)) [
+  | inl read ↦ rw read refl
+  | inr other ↦ elim (cases_Bool (kind == 1)) [ inl program ↦ rw (other, program) refl | inr erase ↦ rw (other, erase) refl ]
+]
+
+requests_plain : (bits : ℕ) (ws : List PlainWaiter) → Each (IsPlain bits) (map waited (map (waiter_of bits) ws))
+requests_plain bits [] = tt
+requests_plain bits (w ∷ ws) = (record { plane = refl; kind = queued_again w.want.kind }, requests_plain bits ws)
 
 -- what waits after it: a group began where members did
 left_there : (bits : ℕ) (place : Option ℕ) (lun other : ℕ) (group members : List Want) → due_move other group place ≡ move_by lun members → (ws : List PlainWaiter)
@@ -79,8 +88,8 @@ module _ (old : KeptQueue) (now lun number started : ℕ) (of : NextDue) (d : Is
   says written =
       let phase : IsPhase p (move_of due) due.group due.phase = subst (λ m. IsPhase p m due.group due.phase) (sym d.move) (is_phase p next.lun next.members.items due d.phase.0) in
       let may : IsMove p (move_of due) = subst (IsMove p) (sym d.move) d.is.move in
-      let asked = wants ∙ (ap (map waited) d.waiting.waiting ∙ requests bits (waiting_in old.queue)) in
-      let told = tells_by bits due.place p due.lun due.group due.phase old.luns (map (λ w. w.want) (waiting_in old.queue)) phase may states asked in
+      let plain = subst (Each (IsPlain bits)) (sym (wants ∙ ap (map waited) d.waiting.waiting)) (requests_plain bits (waiting_in old.queue)) in
+      let told = tells_by bits due.place p due.lun due.group due.phase old.luns phase may states plain in
       ap (state_of bits) written ∙ goes_on p.timing due.group due.phase b.bus_free bits (telling old.luns due.place due.lun due.group) (lun_after p.timing due.group due.phase b.bus_free) refl told.some told.tells
 
   pub next_ran_is : due.lun ≡ lun → due.phase ≡ number → due.start ≤ started → b.due ≡ due

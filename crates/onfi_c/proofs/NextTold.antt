@@ -1,5 +1,5 @@
 -- The phase that is next of what is said.
-use Rattle.std.proofs.Common.{◌≡◌, ◌⊎◌, ◌↔◌, ℕ, ◌<◌, ◌≤◌, inl, inr, Bool, false, List, length, take, drop, replicate, Option, Some, refl, sym, subst, ap, ◌∙◌}
+use Rattle.std.proofs.Common.{◌≡◌, ◌⊎◌, ◌↔◌, ℕ, ◌<◌, ◌≤◌, inl, inr, Bool, false, List, length, take, drop, replicate, Option, None, Some, refl, sym, subst, ap, ◌∙◌}
 use Rattle.std.specs.Prelude.{max, slice_get, IsTrue, IfOk, IfErr, Result}
 use Rattle.std.proofs.lemmas.Bool.{cases_lt, false≢true}
 use Rattle.std.proofs.lemmas.List.{length-map}
@@ -42,7 +42,7 @@ states_said bits luns whole is =
     ap (take (length luns)) is ∙ ap (λ n. take n (filled 8 (Free 0) said)) (sym count) ∙ take-append_seam said (drop (length said) (replicate 8 (Free 0)))
 
 module _ (said : PlainChannel) (luns : List PlainLun) (queue : PlainQueue) (now : ℕ) (timing : Timing) (rules : Rules) (whole : List LunState)
-    (few : (length luns ≤ 8) × (queue.count ≤ 64)) (is_timing : IsTiming said.timing timing) (are_rules : AreRules said.rules rules)
+    (few : (length luns ≤ 8) × (queue.count ≤ 64)) (is_timing : IsTiming None said.timing timing) (are_rules : AreRules said.rules rules)
     (states : whole ≡ filled 8 (Free 0) (states_of said.rules.plane_bits luns)) where
   abbrev pub books_said : Books
   books_said = books_of rules said.rules.plane_bits queue

@@ -1,8 +1,8 @@
 -- What the due phase leaves, seen where it is said.
 use Rattle.std.proofs.Common.{◌≡◌, ℕ, zero, suc, ◌+◌, ◌-◌, ◌^◌, ◌<◌, ◌≤◌, Bool, true, false, List, [], ◌∷◌, ◌++◌, length, map, take, drop, get_or, Option, None, Some, inl, inr, refl, sym, ap, ◌∙◌, arith, length-set, length-take-le}
-use Rattle.std.specs.Prelude.{◌==◌, nat_lt, remove, replicate, slice_index_or, slice_set}
+use Rattle.std.specs.Prelude.{◌==◌, remove, replicate, slice_index_or, slice_set}
 use Rattle.std.specs.List.{list_any}
-use Rattle.std.proofs.lemmas.Bool.{cases_Bool, eqb-true, false≢true, lt-ltb}
+use Rattle.std.proofs.lemmas.Bool.{cases_Bool, eqb-true}
 use Rattle.std.proofs.lemmas.Bool.Decides.{nat_tests}
 use Rattle.std.proofs.lemmas.List.{length-drop, length-map, map-set, take_all}
 use Rattle.onfi_request.specs.declared.want.Want.{Want}
@@ -16,12 +16,11 @@ use Rattle.onfi_c.specs.declared.lun.PlainWant.{PlainWant}
 use Rattle.onfi_c.specs.declared.schedule.PlainGroup.{PlainGroup}
 use Rattle.onfi_c.specs.declared.schedule.PlainRest.{PlainRest}
 use Rattle.onfi_c.specs.declared.schedule.PlainSchedule.{PlainSchedule}
-use Rattle.onfi_c.specs.Due.{number_of_kind}
 use Rattle.onfi_c.specs.InOrder.{is_half}
-use Rattle.onfi_c.specs.RanPlain.{later_rest, later_said, others, plain_behind, plain_without, said_by, written_rests}
-use Rattle.onfi_c.specs.Said.{has_bad_kind, kind_of, want_of, wants_of}
+use Rattle.onfi_c.specs.RanPlain.{later_rest, later_said, others, plain_behind, said_by, written_rests}
+use Rattle.onfi_c.specs.Said.{want_of, wants_of}
 use Rattle.onfi_c.specs.SaidSchedule.{group_of, rest_of, starts_of}
-use Rattle.onfi_c.specs.Written.{filled, no_rest, written_group, written_rest, written_want}
+use Rattle.onfi_c.specs.Written.{filled, no_rest, written_group, written_rest}
 use Rattle.onfi_c.proofs.Filled.{filled_next}
 
 -- Starts
@@ -167,35 +166,15 @@ put_more f n from rest front xs at d y made begins low few is so_far =
 
 -- Wants
 
-plain_again : (bits : ℕ) (w : PlainWant) → has_bad_kind w ≡ false → written_want (want_of bits w) ≡ w
-plain_again bits w good = ap (λ k. let x : PlainWant = record { id = w.id; kind = k; lun = w.lun; block = w.block; page = w.page } in x) (kind_back w.kind good)
-  where
-    kind_back : (k : ℕ) → nat_lt 2 k ≡ false → number_of_kind (kind_of k) ≡ k
-    kind_back zero good = refl
-    kind_back (suc zero) good = refl
-    kind_back (suc (suc zero)) good = refl
-    kind_back (suc (suc (suc k))) good = absurd (let t = lt-ltb 2 (suc (suc (suc k))) (omega arith) in false≢true (sym good ∙ t))
-
-pub left_again : (bits : ℕ) (place : Option ℕ) (group : List Want) (wants : List PlainWant) → list_any has_bad_kind wants ≡ false
-    → plain_behind place group wants ≡ map written_want (wants_behind place group (wants_of bits wants))
-left_again bits None group [] good = refl
-left_again bits None group (w ∷ wants) good = elim (cases_Bool (has_bad_kind w)) [
-  | inl hit ↦ absurd (let z : true ≡ false = rw hit at good in cc)
-  | inr miss ↦ (
-      let more : list_any has_bad_kind wants ≡ false = rw miss at good in
-      ap (λ x. x ∷ wants) (sym (plain_again bits w miss)) ∙ ap (λ xs. written_want (want_of bits w) ∷ xs) (left_again bits None group wants more))
-]
-left_again bits (Some at) group [] good = refl
-left_again bits (Some at) group (w ∷ wants) good = elim (cases_Bool (has_bad_kind w)) [
-  | inl hit ↦ absurd (let z : true ≡ false = rw hit at good in cc)
-  | inr miss ↦ (
-      let more : list_any has_bad_kind wants ≡ false = rw miss at good in
-      let rest = left_again bits (Some at) group wants more in
-      elim (cases_Bool (list_any (λ m. m.id == w.id) group)) [
-        | inl has ↦ rw has rest
-        | inr hasnt ↦ rw hasnt (ap (λ x. x ∷ plain_without group wants) (sym (plain_again bits w miss)) ∙ ap (λ xs. written_want (want_of bits w) ∷ xs) rest)
-      ])
-]
+pub left_again : (bits : ℕ) (place : Option ℕ) (group : List Want) (wants : List PlainWant) → wants_of bits (plain_behind place group wants) ≡ wants_behind place group (wants_of bits wants)
+left_again bits None group wants = refl
+left_again bits (Some at) group [] = refl
+left_again bits (Some at) group (w ∷ wants) =
+    let rest = left_again bits (Some at) group wants in
+    elim (cases_Bool (list_any (λ m. m.id == w.id) group)) [
+      | inl has ↦ rw has rest
+      | inr hasnt ↦ rw hasnt (ap (λ xs. want_of bits w ∷ xs) rest)
+    ]
 
 -- Records by their fields
 

@@ -1,5 +1,5 @@
 -- A plan by the rule, as it is given.
-use Rattle.std.proofs.Common.{◌≡◌, ℕ, ◌+◌, ◌≤◌, List, refl, sym, subst}
+use Rattle.std.proofs.Common.{◌≡◌, ℕ, ◌+◌, ◌≤◌, List, false, Option, refl, sym, subst}
 use Rattle.std.specs.Prelude.{IfOk, IfErr, Result, Ok, Err}
 use Rattle.onfi_problem.specs.Position.{Position}
 use Rattle.onfi_problem.specs.Problem.{Problem}
@@ -10,6 +10,7 @@ use Rattle.onfi_plan.specs.Certificate.{IsRemembering, IsSpelled, Remembering, S
 use Rattle.onfi_plan.specs.declared.plan.Plan.{Plan}
 use Rattle.onfi_steady.specs.Rule.{IsByRule}
 use Rattle.onfi_c.specs.declared.channel.PlainChannel.{PlainChannel}
+use Rattle.onfi_c.specs.declared.lengths.PlainLengths.{PlainLengths}
 use Rattle.onfi_c.specs.declared.lun.PlainWant.{PlainWant}
 use Rattle.onfi_c.specs.declared.lun.PlainLun.{PlainLun}
 use Rattle.onfi_c.specs.declared.schedule.PlainSchedule.{PlainSchedule}
@@ -19,7 +20,7 @@ use Rattle.onfi_c.specs.declared.status.Status.TheVariants.{Memory}
 use Rattle.onfi_c.specs.declared.told.Told.{Told}
 use Rattle.onfi_c.specs.Planned.{GivesAsked, IsUngiven}
 use Rattle.onfi_c.specs.Ruled.{GivesByRule, IsPlanByRule, gives_by_rule, lacks_memory}
-use Rattle.onfi_c.specs.Said.{IsSaid}
+use Rattle.onfi_c.specs.Said.{IsSaid, have_lacking}
 use Rattle.onfi_c.specs.Written.{written_schedule}
 use Rattle.onfi_c.proofs.Recalled.{remembers}
 
@@ -42,13 +43,13 @@ planned_by_rule x own plan text begun legal is rule rising least greatest shown 
       written = rw (written, is) refl;
     }
 
-pub by_rule_given : {channel : PlainChannel} {luns : List PlainLun} {wants : List PlainWant} {old new : PlainWithin} {room_old room_new : List ℕ} {bytes result : ℕ}
-    (p : Problem) (told : Result (Told PlainWithin) Status) → IsSaid channel luns wants p
+pub by_rule_given : {by : Option PlainLengths} {channel : PlainChannel} {luns : List PlainLun} {wants : List PlainWant} {old new : PlainWithin} {room_old room_new : List ℕ} {bytes result : ℕ}
+    (p : Problem) (told : Result (Told PlainWithin) Status) → IsSaid by channel luns wants p → have_lacking by luns wants ≡ false
     → IfOk told (λ t. IsPlanByRule p t.plan t.text.items) → IfErr told (λ status. status ≡ Memory)
     → IfOk told (λ t. (new ≡ t.plan) × GivesAsked t.text.items room_old room_new bytes result)
     → IfErr told (λ status. IsUngiven old new room_old room_new bytes result status)
-    → GivesByRule channel luns wants old new room_old room_new bytes result
-by_rule_given p (Ok told) said plan none given ungiven =
-    gives_by_rule p told.text.items said (subst (λ x. IsPlanByRule p x told.text.items) (sym given.0) plan) given.1
-by_rule_given {old = old} {new = new} {room_old = room_old} {room_new = room_new} {bytes = bytes} {result = result} p (Err status) said plan none given ungiven =
-    lacks_memory p said (subst (IsUngiven old new room_old room_new bytes result) none ungiven)
+    → GivesByRule by channel luns wants old new room_old room_new bytes result
+by_rule_given p (Ok told) said lengths plan none given ungiven =
+    gives_by_rule p told.text.items said lengths (subst (λ x. IsPlanByRule p x told.text.items) (sym given.0) plan) given.1
+by_rule_given {old = old} {new = new} {room_old = room_old} {room_new = room_new} {bytes = bytes} {result = result} p (Err status) said lengths plan none given ungiven =
+    lacks_memory p said lengths (subst (IsUngiven old new room_old room_new bytes result) none ungiven)

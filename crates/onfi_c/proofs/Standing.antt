@@ -29,6 +29,7 @@ use Rattle.onfi_flight.specs.Flight.{Flight, IsDue, IsFlight, IsPhase, after_lat
 use Rattle.onfi_flight.proofs.Begins.{due_lun, placed_is}
 use Rattle.onfi_flight.proofs.Stays.{late_stays}
 use Rattle.onfi_c.specs.declared.channel.PlainChannel.{PlainChannel}
+use Rattle.onfi_c.specs.declared.lengths.PlainLengths.{PlainLengths}
 use Rattle.onfi_c.specs.declared.lun.PlainLun.{PlainLun}
 use Rattle.onfi_c.specs.declared.lun.PlainWant.{PlainWant}
 use Rattle.onfi_c.specs.declared.ran.Behind.{Behind}
@@ -37,18 +38,18 @@ use Rattle.onfi_c.specs.declared.status.Status.TheVariants as status
 use Rattle.onfi_c.specs.Due.{number_of_kind}
 use Rattle.onfi_c.specs.Ran.{Flies, IsBehind, IsDueThere, IsRan, Kept, kept_behind, lun_in, no_want, telling}
 use Rattle.onfi_c.specs.Refused.{IsBadProblem, IsFaultSaid}
-use Rattle.onfi_c.specs.Said.{AreRules, IsSaid, IsTiming, kind_of, members_of, state_of, states_of, want_of, wants_of}
+use Rattle.onfi_c.specs.Said.{AreRules, IsSaid, IsTiming, kind_of, members_of, operation_in, read_of, sectors_in, state_of, states_of, want_of, wants_of}
 use Rattle.onfi_c.specs.Status.{problem_status}
 use Rattle.onfi_c.specs.Written.{filled, written_schedule, written_want}
-use Rattle.onfi_c.proofs.Lengths.{kept_lengths}
+use Rattle.onfi_c.proofs.Stated.{kept_lengths}
 
 -- Why what is said is no problem
 
-pub fault_told : (p : Problem) (fault : ProblemFault) → HasLengths p → TellsFault p (Some fault) → IsBadProblem p (problem_status fault)
+pub fault_told : (p : Problem) (fault : ProblemFault) → HasLengths p → TellsFault p (Some fault) → IsBadProblem false p (problem_status fault)
 fault_told p TooMany has tells = tells
 fault_told p BadLun has tells = tells
 fault_told p NoLengths has tells = absurd (tells.2 has)
-fault_told p Clock has tells = (tells.0, tells.1, tells.3)
+fault_told p Clock has tells = (tells.0, tells.1, refl, tells.3)
 fault_told p Memory has tells = tells
 
 -- a problem has no fault but its times
@@ -59,9 +60,9 @@ only_late p NoLengths small ip has tells = absurd (tells.2 has)
 only_late p Clock small ip has tells = tells.3
 only_late p Memory small ip has tells = absurd tells
 
-pub too_many : (channel : PlainChannel) (luns : List PlainLun) (wants : List PlainWant) (timing : Timing) → IsTiming channel.timing timing → channel.rules.plane_bits ≤ 2
-    → (8 < length luns) ⊎ (8 < length wants) → IsFaultSaid channel luns wants status.TooMany
-too_many channel luns wants timing is_timing bits many =
+pub too_many : (by : Option PlainLengths) (channel : PlainChannel) (luns : List PlainLun) (wants : List PlainWant) (timing : Timing) → IsTiming by channel.timing timing → channel.rules.plane_bits ≤ 2
+    → (8 < length luns) ⊎ (8 < length wants) → IsFaultSaid by channel luns wants status.TooMany
+too_many by channel luns wants timing is_timing bits many =
     let said = channel.rules in
     let rules : Rules = record { read = said.read; write = said.write; strict = said.strict; plane_bits = said.plane_bits; few_planes = bits } in (
       problem_of timing rules channel.bus_free (states_of said.plane_bits luns) (wants_of said.plane_bits wants),
@@ -111,13 +112,24 @@ pub record IsPlain (bits : ℕ) (w : Want) : Type 0 where
   pub plane : w.plane ≡ w.block % 2 ^ bits
   pub kind : kind_of (number_of_kind w.kind) ≡ w.kind
 
+read_again : (count : ℕ) → count < 8 → kind_of (number_of_kind (read_of count)) ≡ read_of count
+read_again zero few = refl
+read_again (suc zero) few = refl
+read_again (suc (suc zero)) few = refl
+read_again (suc (suc (suc zero))) few = refl
+read_again (suc (suc (suc (suc zero)))) few = refl
+read_again (suc (suc (suc (suc (suc zero))))) few = refl
+read_again (suc (suc (suc (suc (suc (suc zero)))))) few = refl
+read_again (suc (suc (suc (suc (suc (suc (suc zero))))))) few = refl
+read_again (suc (suc (suc (suc (suc (suc (suc (suc count)))))))) few = absurd (omega (arith, few))
+
 kind_again : (kind : ℕ) → kind_of (number_of_kind (kind_of kind)) ≡ kind_of kind
-kind_again kind = elim (cases_Bool (kind == 0)) [
-  | inl read ↦ rw read refl
-  | inr other ↦ elim (cases_Bool (kind == 1)) [ inl program ↦ rw (other, program) refl | inr erase ↦ rw (other, erase) refl ]
+kind_again kind = elim (cases_Bool (operation_in kind == 0)) [
+  | inl read ↦ rw read (read_again (sectors_in kind) (omega arith))
+  | inr other ↦ elim (cases_Bool (operation_in kind == 1)) [ inl program ↦ rw (other, program) refl | inr erase ↦ rw (other, erase) refl ]
 ]
 
-are_plain : (bits : ℕ) (wants : List PlainWant) → Each (IsPlain bits) (wants_of bits wants)
+pub are_plain : (bits : ℕ) (wants : List PlainWant) → Each (IsPlain bits) (wants_of bits wants)
 are_plain bits [] = tt
 are_plain bits (w ∷ wants) = (record { plane = refl; kind = kind_again w.kind }, are_plain bits wants)
 
@@ -135,7 +147,7 @@ members_keep P wants (m ∷ members) each first = (first_keeps P (on_block m) wa
 pub want_again : (bits : ℕ) (w : Want) → IsPlain bits w → want_of bits (written_want w) ≡ w
 want_again bits w plain = let kind = plain.kind in let plane = plain.plane in rw (kind, ← plane) refl
 
-wants_again : (bits : ℕ) (wants : List Want) → Each (IsPlain bits) wants → wants_of bits (map written_want wants) ≡ wants
+pub wants_again : (bits : ℕ) (wants : List Want) → Each (IsPlain bits) wants → wants_of bits (map written_want wants) ≡ wants
 wants_again bits [] each = refl
 wants_again bits (w ∷ wants) each = ap (λ x. x ∷ wants_of bits (map written_want wants)) (want_again bits w each.0) ∙ ap (λ xs. w ∷ xs) (wants_again bits wants each.1)
 
@@ -159,11 +171,10 @@ tells_new bits wants group luns at lun plain some first =
     record { some = some; tells = ap (wants_of bits) same ∙ wants_again bits group each }
 
 -- .. of a running group as it did, of one that begins by its wants, which wait
-pub tells_by : (bits : ℕ) (place : Option ℕ) (p : Problem) (lun : ℕ) (group : List Want) (phase : ℕ) (luns : List PlainLun) (wants : List PlainWant) → IsPhase p (move_by lun group place) group phase
-    → IsMove p (move_by lun group place) → p.luns ≡ states_of bits luns → p.wants ≡ wants_of bits wants → Tells bits group (telling luns place lun group)
-tells_by bits None p lun group phase luns wants is move states requests = tells_running bits luns lun _ group phase is.0 (ap (λ xs. slice_get xs lun) (sym states) ∙ is.1)
-tells_by bits (Some at) p lun group phase luns wants is move states requests =
-    let plain = subst (Each (IsPlain bits)) (sym requests) (are_plain bits wants) in
+pub tells_by : (bits : ℕ) (place : Option ℕ) (p : Problem) (lun : ℕ) (group : List Want) (phase : ℕ) (luns : List PlainLun) → IsPhase p (move_by lun group place) group phase
+    → IsMove p (move_by lun group place) → p.luns ≡ states_of bits luns → Each (IsPlain bits) p.wants → Tells bits group (telling luns place lun group)
+tells_by bits None p lun group phase luns is move states plain = tells_running bits luns lun _ group phase is.0 (ap (λ xs. slice_get xs lun) (sym states) ∙ is.1)
+tells_by bits (Some at) p lun group phase luns is move states plain =
     tells_new bits p.wants group luns at lun plain move.2.group.some move.2.first
 
 -- The wants that wait
@@ -183,7 +194,7 @@ set_there [] i x low = absurd (omega (arith, low))
 set_there (y ∷ xs) zero x low = refl
 set_there (y ∷ xs) (suc i) x low = set_there xs i x (omega (arith, low))
 
-module _ (channel : PlainChannel) (luns : List PlainLun) (wants : List PlainWant) (f : Flight) (due : Due) (started : ℕ) (said : IsSaid channel luns wants f.now) (is : IsDue f due) where
+module _ (by : Option PlainLengths) (channel : PlainChannel) (luns : List PlainLun) (wants : List PlainWant) (f : Flight) (due : Due) (started : ℕ) (said : IsSaid by channel luns wants f.now) (is : IsDue f due) where
   abbrev g : Flight
   g = after_late f due started
 
@@ -217,7 +228,8 @@ module _ (channel : PlainChannel) (luns : List PlainLun) (wants : List PlainWant
   -- what the LUN says then it does
   lun_says : (lun : PlainLun) → ((x : LunState) → slice_get g.now.luns due.lun ≡ Some x → lun ≡ lun_in x (telling luns due.place due.lun due.group)) → state_of channel.rules.plane_bits lun ≡ state
   lun_says lun written =
-      let told = tells_by channel.rules.plane_bits due.place f.now due.lun due.group due.phase luns wants is.phase is.is_move said.states said.requests in
+      let plain = subst (Each (IsPlain channel.rules.plane_bits)) (sym said.requests) (are_plain channel.rules.plane_bits wants) in
+      let told = tells_by channel.rules.plane_bits due.place f.now due.lun due.group due.phase luns is.phase is.is_move said.states plain in
       let at = ap (λ xs. slice_get xs due.lun) luns_are ∙ set_there f.now.luns due.lun state (due_lun f due is) in
       ap (state_of channel.rules.plane_bits) (written state at)
       ∙ goes_on f.now.timing due.group due.phase (started + phase_length (group_spans f.now.timing due.group) (length due.group) due.phase)
@@ -225,27 +237,23 @@ module _ (channel : PlainChannel) (luns : List PlainLun) (wants : List PlainWant
 
   -- what is said of the bus, of that LUN and of what waits, is the problem then
   pub said_then : (bus_free : ℕ) (lun : PlainLun) (waiting : List PlainWant) → bus_free ≡ g.now.bus_free
-      → ((x : LunState) → slice_get g.now.luns due.lun ≡ Some x → lun ≡ lun_in x (telling luns due.place due.lun due.group)) → waiting ≡ map written_want g.now.wants
-      → IsSaid (record channel { bus_free = bus_free }) (slice_set luns due.lun lun) waiting g.now
+      → ((x : LunState) → slice_get g.now.luns due.lun ≡ Some x → lun ≡ lun_in x (telling luns due.place due.lun due.group)) → wants_of channel.rules.plane_bits waiting ≡ g.now.wants
+      → IsSaid by (record channel { bus_free = bus_free }) (slice_set luns due.lun lun) waiting g.now
   said_then bus_free lun waiting bus written left = record {
-    timing = subst (IsTiming channel.timing) (sym (ap (λ (p : Problem). p.timing) (placed_is f due started is))) said.timing;
+    timing = subst (IsTiming by channel.timing) (sym (ap (λ (p : Problem). p.timing) (placed_is f due started is))) said.timing;
     rules = subst (AreRules channel.rules) (sym (ap (λ (p : Problem). p.rules) (placed_is f due started is))) said.rules;
     bus_free = sym bus;
     states = luns_are ∙ ap (λ xs. slice_set xs due.lun state) said.states ∙ ap (slice_set (states_of channel.rules.plane_bits luns) due.lun) (sym (lun_says lun written))
         ∙ sym (map_set (state_of channel.rules.plane_bits) luns due.lun lun);
-    requests = (
-        let plain = subst (Each (IsPlain channel.rules.plane_bits)) (sym said.requests) (are_plain channel.rules.plane_bits wants) in
-        let kept = subst (Each (IsPlain channel.rules.plane_bits)) (sym wants_are) (waiting_plain channel.rules.plane_bits due.place due.group f.now.wants plain) in
-        sym (ap (wants_of channel.rules.plane_bits) left ∙ wants_again channel.rules.plane_bits g.now.wants kept)
-        );
+    requests = sym left;
   }
 
 -- that of the bus, of the LUN, of what waits and of the schedule is what a caller keeps then
 pub ran_then : (old : Kept) (f : Flight) (due : Due) (lun number started bus_free : ℕ) (behind : PlainLun) (waiting : List PlainWant) (schedule : PlainSchedule) → Flies old f → IsDueThere f due lun number
     → due.start ≤ started → bus_free ≡ (after_late f due started).now.bus_free
     → ((x : LunState) → slice_get (after_late f due started).now.luns due.lun ≡ Some x → behind ≡ lun_in x (telling old.luns due.place due.lun due.group))
-    → waiting ≡ map written_want (after_late f due started).now.wants → schedule ≡ written_schedule (after_late f due started).left → InLimits (after_late f due started).now
-    → IsRan old (record { channel = record old.channel { bus_free = bus_free }; luns = slice_set old.luns lun behind; wants = waiting; schedule = schedule }) lun number started
+    → wants_of old.channel.rules.plane_bits waiting ≡ (after_late f due started).now.wants → schedule ≡ written_schedule (after_late f due started).left → InLimits (after_late f due started).now
+    → IsRan old (record { lengths = old.lengths; channel = record old.channel { bus_free = bus_free }; luns = slice_set old.luns lun behind; wants = waiting; schedule = schedule }) lun number started
 ran_then old f due lun number started bus_free behind waiting schedule said there on_time bus written left later limits = record {
   flight = f;
   said = said;
@@ -253,9 +261,10 @@ ran_then old f due lun number started bus_free behind waiting schedule said ther
   there = there;
   on_time = on_time;
   legal = λ legal. (late_stays f due started (flies f said.limits legal) there.is on_time).legal;
-  after = subst (λ n. IsSaid (record old.channel { bus_free = bus_free }) (slice_set old.luns n behind) waiting (after_late f due started).now) there.lun_is
-      (said_then old.channel old.luns old.wants f due started said.said.problem there.is bus_free behind waiting bus written left);
+  after = subst (λ n. IsSaid old.lengths (record old.channel { bus_free = bus_free }) (slice_set old.luns n behind) waiting (after_late f due started).now) there.lun_is
+      (said_then old.lengths old.channel old.luns old.wants f due started said.said.problem there.is bus_free behind waiting bus written left);
   limits = limits;
+  measured = kept_lengths f.now (move_of due) started said.measured there.is.is_move;
   later = later;
 }
 
@@ -263,7 +272,12 @@ ran_then old f due lun number started bus_free behind waiting schedule said ther
 pub ran_behind : (old : Kept) (f : Flight) (due : Due) (lun number started : ℕ) (b : Behind) → Flies old f → IsDueThere f due lun number → due.start ≤ started
     → IsBehind old.luns due (after_late f due started) b → InLimits (after_late f due started).now → IsRan old (kept_behind old lun b) lun number started
 ran_behind old f due lun number started b said there on_time written limits =
-    ran_then old f due lun number started b.bus_free b.lun b.wants.items b.schedule said there on_time written.bus_free written.lun written.wants written.schedule limits
+    let bits = old.channel.rules.plane_bits in
+    let behind : (after_late f due started).now.wants ≡ wants_behind due.place due.group f.now.wants = ap (λ (p : Problem). p.wants) (placed_is f due started there.is) in
+    let plain = subst (Each (IsPlain bits)) (sym said.said.problem.requests) (are_plain bits old.wants) in
+    let kept = subst (Each (IsPlain bits)) (sym behind) (waiting_plain bits due.place due.group f.now.wants plain) in
+    ran_then old f due lun number started b.bus_free b.lun b.wants.items b.schedule said there on_time written.bus_free written.lun
+    (ap (wants_of bits) written.wants ∙ wants_again bits (after_late f due started).now.wants kept) written.schedule limits
 
 -- the problem that a due phase leaves has no fault but its times
 pub only_late_behind : (f : Flight) (due : Due) (started : ℕ) (fault : ProblemFault) → InLimits f.now → HasLengths f.now → IsDue f due → TellsFault (after_late f due started).now (Some fault)

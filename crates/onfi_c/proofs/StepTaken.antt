@@ -1,5 +1,5 @@
 -- The due phase of what is said, once it ran, where all is in the earlier half of the clock.
-use Rattle.std.proofs.Common.{◌≡◌, ℕ, ◌+◌, ◌-◌, ◌*◌, ◌^◌, ◌<◌, ◌≤◌, false, List, [], ◌∷◌, ◌++◌, length, map, take, drop, Option, None, Some, inl, inr, refl, sym, ap, ◌∙◌, subst, arith}
+use Rattle.std.proofs.Common.{◌≡◌, ℕ, ◌+◌, ◌-◌, ◌*◌, ◌^◌, ◌<◌, ◌≤◌, List, [], ◌∷◌, ◌++◌, length, take, drop, Option, None, Some, inl, inr, refl, sym, ap, ◌∙◌, subst, arith}
 use Rattle.std.specs.Prelude.{◌==◌, not, nat_lt, slice_get, slice_set}
 use Rattle.std.specs.List.{AllByRecursion as Each, list_any}
 use Rattle.std.proofs.Math.Seq.{take-append_seam}
@@ -24,6 +24,7 @@ use Rattle.onfi_flight.specs.Times.{later}
 use Rattle.onfi_flight.proofs.Begins.{due_lun, placed_is}
 use Rattle.onfi_flight.proofs.Lists.{All-set}
 use Rattle.onfi_c.specs.declared.channel.PlainChannel.{PlainChannel}
+use Rattle.onfi_c.specs.declared.lengths.PlainLengths.{PlainLengths}
 use Rattle.onfi_c.specs.declared.lun.PlainLun.{PlainLun}
 use Rattle.onfi_c.specs.declared.lun.PlainWant.{PlainWant}
 use Rattle.onfi_c.specs.declared.ran.Step.{Step}
@@ -31,11 +32,11 @@ use Rattle.onfi_c.specs.declared.schedule.PlainSchedule.{PlainSchedule}
 use Rattle.onfi_c.specs.InOrder.{AreEarly, flight_of}
 use Rattle.onfi_c.specs.Ran.{GivesRan, IsRan, Kept, gives_ran, lun_in, telling}
 use Rattle.onfi_c.specs.RanPlain.{IsStep, end_of, plain_behind}
-use Rattle.onfi_c.specs.Said.{has_bad_kind, has_bad_member}
+use Rattle.onfi_c.specs.Said.{wants_of}
 use Rattle.onfi_c.specs.SaidSchedule.{schedule_of}
-use Rattle.onfi_c.specs.Written.{written_schedule, written_want}
+use Rattle.onfi_c.specs.Written.{written_schedule}
 use Rattle.onfi_c.proofs.Horizons.{horizon_early, wait_short}
-use Rattle.onfi_c.proofs.InOrders.{both_false, times_early}
+use Rattle.onfi_c.proofs.InOrders.{times_early}
 use Rattle.onfi_c.proofs.RanInPlace.{left_again}
 use Rattle.onfi_c.proofs.Standing.{plain_there, ran_then, set_there}
 
@@ -67,13 +68,13 @@ limits_after timing rules bus_free luns wants schedule due started limits early 
     record { small = small; problem = problem; horizon = omega (arith, less) }
 
 -- what is kept then is what it leaves
-pub step_kept : (channel : PlainChannel) (luns : List PlainLun) (wants : List PlainWant) (schedule : PlainSchedule) (lun number started : ℕ) (step : Step) (waiting : List PlainWant) (new : PlainSchedule)
-    → IsStep channel luns wants schedule lun number started step → list_any has_bad_kind wants ≡ false → waiting ≡ plain_behind step.due.place step.due.group wants
+pub step_kept : (by : Option PlainLengths) (channel : PlainChannel) (luns : List PlainLun) (wants : List PlainWant) (schedule : PlainSchedule) (lun number started : ℕ) (step : Step) (waiting : List PlainWant) (new : PlainSchedule)
+    → IsStep by channel luns wants schedule lun number started step → waiting ≡ plain_behind step.due.place step.due.group wants
     → ((all : List Want) → new ≡ written_schedule (later (started - step.due.start) (left_behind (schedule_of all schedule) step.due)))
-    → IsRan (record { channel = channel; luns = luns; wants = wants; schedule = schedule })
-    (record { channel = record channel { bus_free = step.ended }; luns = slice_set luns lun step.lun; wants = waiting; schedule = new }) lun number started
-step_kept channel luns wants schedule lun number started step waiting new taken kinds left later_is =
-    let old : Kept = record { channel = channel; luns = luns; wants = wants; schedule = schedule } in
+    → IsRan (record { lengths = by; channel = channel; luns = luns; wants = wants; schedule = schedule })
+    (record { lengths = by; channel = record channel { bus_free = step.ended }; luns = slice_set luns lun step.lun; wants = waiting; schedule = new }) lun number started
+step_kept by channel luns wants schedule lun number started step waiting new taken left later_is =
+    let old : Kept = record { lengths = by; channel = channel; luns = luns; wants = wants; schedule = schedule } in
     let f : Flight = flight_of taken.timing taken.rules channel.bus_free luns wants schedule in
     let due = step.due in
     let is = taken.there.is in
@@ -89,7 +90,8 @@ step_kept channel luns wants schedule lun number started step waiting new taken 
     let e : Some state ≡ Some x = sym there ∙ at in
     let same : state ≡ x = cc in
     taken.lun_is ∙ ap (λ n. lun_in (lun_after taken.timing due.group due.phase n) (telling luns due.place due.lun due.group)) taken.ended ∙ ap (λ z. lun_in z (telling luns due.place due.lun due.group)) same)
-    (left ∙ left_again taken.rules.plane_bits due.place due.group wants kinds ∙ ap (map written_want) (sym wants_then))
+    (ap (wants_of channel.rules.plane_bits) left ∙ left_again channel.rules.plane_bits due.place due.group wants
+    ∙ ap (wants_behind due.place due.group) (sym taken.said.said.problem.requests) ∙ sym wants_then)
     (later_is f.now.wants)
     taken.limits
 
@@ -102,18 +104,17 @@ left_fewer None group wants = omega arith
 left_fewer (Some at) group wants = filter_shorter (λ (w : PlainWant). not (list_any (λ (m : Want). m.id == w.id) group)) wants
 
 -- .. in the caller's memory
-pub step_given : (channel : PlainChannel) (luns : List PlainLun) (room_old : List PlainWant) (count : ℕ) (schedule : PlainSchedule) (lun number started : ℕ) (step : Step) (waiting : List PlainWant)
-    (new : PlainSchedule) (at n : ℕ) (room : List PlainWant) → IsStep channel luns (take count room_old) schedule lun number started step
+pub step_given : (by : Option PlainLengths) (channel : PlainChannel) (luns : List PlainLun) (room_old : List PlainWant) (count : ℕ) (schedule : PlainSchedule) (lun number started : ℕ) (step : Step) (waiting : List PlainWant)
+    (new : PlainSchedule) (at n : ℕ) (room : List PlainWant) → IsStep by channel luns (take count room_old) schedule lun number started step
     → waiting ≡ plain_behind step.due.place step.due.group (take count room_old)
     → ((all : List Want) → new ≡ written_schedule (later (started - step.due.start) (left_behind (schedule_of all schedule) step.due))) → at ≡ lun → n ≡ length waiting
     → room ≡ waiting ++ drop (length waiting) room_old
-    → GivesRan (record { channel = channel; luns = luns; wants = take count room_old; schedule = schedule })
-    (record { channel = record channel { bus_free = step.ended }; luns = slice_set luns at step.lun; wants = take n room; schedule = new }) room_old room count n lun number started 0
-step_given channel luns room_old count schedule lun number started step waiting new at n room taken left later_is same_lun same_count is =
-    let old : Kept = record { channel = channel; luns = luns; wants = take count room_old; schedule = schedule } in
-    let now : ℕ → List PlainWant → Kept = λ i ws. record { channel = record channel { bus_free = step.ended }; luns = slice_set luns i step.lun; wants = ws; schedule = new } in
-    let kinds = (both_false (list_any has_bad_member luns) (list_any has_bad_kind (take count room_old)) taken.kinds).1 in
-    let kept_is : IsRan old (now lun waiting) lun number started = step_kept channel luns (take count room_old) schedule lun number started step waiting new taken kinds left later_is in
+    → GivesRan (record { lengths = by; channel = channel; luns = luns; wants = take count room_old; schedule = schedule })
+    (record { lengths = by; channel = record channel { bus_free = step.ended }; luns = slice_set luns at step.lun; wants = take n room; schedule = new }) room_old room count n lun number started 0
+step_given by channel luns room_old count schedule lun number started step waiting new at n room taken left later_is same_lun same_count is =
+    let old : Kept = record { lengths = by; channel = channel; luns = luns; wants = take count room_old; schedule = schedule } in
+    let now : ℕ → List PlainWant → Kept = λ i ws. record { lengths = by; channel = record channel { bus_free = step.ended }; luns = slice_set luns i step.lun; wants = ws; schedule = new } in
+    let kept_is : IsRan old (now lun waiting) lun number started = step_kept by channel luns (take count room_old) schedule lun number started step waiting new taken left later_is in
     let rest = drop (length waiting) room_old in
     let front : take n room ≡ waiting = ap (take n) is ∙ ap (λ k. take k (waiting ++ rest)) same_count ∙ take-append_seam waiting rest in
     let behind : drop n room ≡ drop n room_old =
@@ -125,9 +126,9 @@ step_given channel luns room_old count schedule lun number started step waiting 
     (omega (arith, same_count, told, fewer, taken_few)) behind refl
 
 -- its LUN is there
-pub step_there : (channel : PlainChannel) (luns : List PlainLun) (wants : List PlainWant) (schedule : PlainSchedule) (lun number started : ℕ) (step : Step) (at : ℕ)
-    → IsStep channel luns wants schedule lun number started step → at ≡ lun → at < length luns
-step_there channel luns wants schedule lun number started step at taken same =
-    let low = plain_there channel luns wants (flight_of taken.timing taken.rules channel.bus_free luns wants schedule) step.due started taken.said.said.problem taken.there.is in
+pub step_there : (by : Option PlainLengths) (channel : PlainChannel) (luns : List PlainLun) (wants : List PlainWant) (schedule : PlainSchedule) (lun number started : ℕ) (step : Step) (at : ℕ)
+    → IsStep by channel luns wants schedule lun number started step → at ≡ lun → at < length luns
+step_there by channel luns wants schedule lun number started step at taken same =
+    let low = plain_there by channel luns wants (flight_of taken.timing taken.rules channel.bus_free luns wants schedule) step.due started taken.said.said.problem taken.there.is in
     let lun_is = taken.there.lun_is in
     omega (arith, same, low, lun_is)

@@ -1,5 +1,5 @@
 -- What a caller is answered of a schedule with its certificate.
-use Rattle.std.specs.Prelude.{◌≡◌, ℕ, List}
+use Rattle.std.specs.Prelude.{◌≡◌, ℕ, List, Option}
 use Rattle.onfi_problem.specs.Problem.{Problem}
 use Rattle.onfi_schedule.specs.Schedule.{Schedule, finish}
 use Rattle.onfi_check.specs.Faults.{IsTextFault}
@@ -10,6 +10,7 @@ use Rattle.onfi_known_check.specs.Faults.{IsTextFault as IsKnownTextFault}
 use Rattle.onfi_known_check.specs.declared.fault.KnownFault.{KnownFault}
 use Rattle.onfi_known_check.specs.declared.fault.KnownTextFault.{KnownTextFault}
 use Rattle.onfi_c.specs.declared.channel.PlainChannel.{PlainChannel}
+use Rattle.onfi_c.specs.declared.lengths.PlainLengths.{PlainLengths}
 use Rattle.onfi_c.specs.declared.lun.PlainWant.{PlainWant}
 use Rattle.onfi_c.specs.declared.lun.PlainLun.{PlainLun}
 use Rattle.onfi_c.specs.declared.schedule.PlainSchedule.{PlainSchedule}
@@ -41,11 +42,11 @@ pub record IsRefusedBy (refusal : Refusal) (verdict : PlainVerdict) (result : �
 -- a caller is given when the schedule ends that he says, where its certificate shows this of it; or by a number and a place why
 -- it is refused: what is said then of the two, or why there is no such schedule
 pub data GivesVerdict (Shows : Problem → Schedule → List ℕ → Type 0) (Tells : Problem → Schedule → List ℕ → Refusal → Type 0)
-    (channel : PlainChannel) (luns : List PlainLun) (wants : List PlainWant) (schedule : PlainSchedule) (certificate : List ℕ) (verdict : PlainVerdict)
+    (by : Option PlainLengths) (channel : PlainChannel) (luns : List PlainLun) (wants : List PlainWant) (schedule : PlainSchedule) (certificate : List ℕ) (verdict : PlainVerdict)
     (result : ℕ) : Type 0 where
-  accepts : (p : Problem) (s : Schedule) → IsScheduleSaid channel luns wants schedule p s → Shows p s certificate → finish p s ≡ verdict.finish
-      → verdict.place ≡ 0 → result ≡ 0 → GivesVerdict Shows Tells channel luns wants schedule certificate verdict result
-  refuses : (p : Problem) (s : Schedule) → IsScheduleSaid channel luns wants schedule p s → (refusal : Refusal) → Tells p s certificate refusal
-      → IsRefusedBy refusal verdict result → GivesVerdict Shows Tells channel luns wants schedule certificate verdict result
-  is_unsaid : (status : Status) → IsNoSchedule channel luns wants schedule status → IsRefusedBy (whole status) verdict result
-      → GivesVerdict Shows Tells channel luns wants schedule certificate verdict result
+  accepts : (p : Problem) (s : Schedule) → IsScheduleSaid by channel luns wants schedule p s → Shows p s certificate → finish p s ≡ verdict.finish
+      → verdict.place ≡ 0 → result ≡ 0 → GivesVerdict Shows Tells by channel luns wants schedule certificate verdict result
+  refuses : (p : Problem) (s : Schedule) → IsScheduleSaid by channel luns wants schedule p s → (refusal : Refusal) → Tells p s certificate refusal
+      → IsRefusedBy refusal verdict result → GivesVerdict Shows Tells by channel luns wants schedule certificate verdict result
+  is_unsaid : (status : Status) → IsNoSchedule by channel luns wants schedule status → IsRefusedBy (whole status) verdict result
+      → GivesVerdict Shows Tells by channel luns wants schedule certificate verdict result

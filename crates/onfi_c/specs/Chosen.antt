@@ -1,10 +1,11 @@
 -- Which of the requests that wait a batch takes, by their places.
-use Rattle.std.specs.Prelude.{◌≡◌, ◌⊎◌, ℕ, ◌+◌, ◌<◌, ◌≤◌, ◌==◌, ◌++◌, if◌then◌else◌, List, [], ◌∷◌, length, map, take, drop, Some, slice_get}
+use Rattle.std.specs.Prelude.{◌≡◌, ◌⊎◌, ℕ, ◌+◌, ◌<◌, ◌≤◌, ◌==◌, ◌++◌, if◌then◌else◌, List, [], ◌∷◌, length, map, take, drop, Some, slice_get, Option}
 use Rattle.onfi_request.specs.declared.want.Want.{Want}
 use Rattle.onfi_core.specs.Choice.{IsChoice}
 use Rattle.onfi_core.specs.declared.setup.Choice.{Choice}
 use Rattle.onfi_core.specs.declared.setup.Choice.TheVariants.{InOrder, ByLun, ReadsFirst, WholeGroups}
 use Rattle.onfi_c.specs.declared.channel.PlainChannel.{PlainChannel}
+use Rattle.onfi_c.specs.declared.lengths.PlainLengths.{PlainLengths}
 use Rattle.onfi_c.specs.declared.lun.PlainLun.{PlainLun}
 use Rattle.onfi_c.specs.declared.lun.PlainWant.{PlainWant}
 use Rattle.onfi_c.specs.declared.status.Status.{Status}
@@ -40,8 +41,8 @@ pub record ArePlaces (channel : PlainChannel) (wants : List PlainWant) (accepted
   pub there : AreThere (wants_of channel.rules.plane_bits wants) places chosen
 
 -- the batch that is chosen of what is said
-pub record IsChosen (channel : PlainChannel) (luns : List PlainLun) (wants : List PlainWant) (accepted choice batch : ℕ) (places : List ℕ) : Type 0 where
-  pub said : AreSaid channel luns wants
+pub record IsChosen (by : Option PlainLengths) (channel : PlainChannel) (luns : List PlainLun) (wants : List PlainWant) (accepted choice batch : ℕ) (places : List ℕ) : Type 0 where
+  pub said : AreSaid by channel luns wants
   pub some_choice : choice ≤ 2
   pub some_batch : 1 ≤ batch
   pub few_batch : batch ≤ 8
@@ -49,16 +50,16 @@ pub record IsChosen (channel : PlainChannel) (luns : List PlainLun) (wants : Lis
   pub are : ArePlaces channel wants accepted choice batch places
 
 -- why none is chosen: the first of these
-pub data IsUnchosen (channel : PlainChannel) (luns : List PlainLun) (wants : List PlainWant) (accepted choice batch : ℕ) (status : Status) : Type 0 where
-  is_unsaid : IsUnsaid channel luns wants status → IsUnchosen channel luns wants accepted choice batch status
-  is_no_choice : AreSaid channel luns wants → 2 < choice → status ≡ BadChoice → IsUnchosen channel luns wants accepted choice batch status
-  is_no_batch : AreSaid channel luns wants → choice ≤ 2 → (batch ≡ 0) ⊎ (8 < batch) → status ≡ BadBatch → IsUnchosen channel luns wants accepted choice batch status
-  is_no_order : AreSaid channel luns wants → choice ≤ 2 → 1 ≤ batch → batch ≤ 8 → (RiseFrom 0 accepted wants → ⊥) → status ≡ BadOrder → IsUnchosen channel luns wants accepted choice batch status
-  is_no_memory : AreSaid channel luns wants → choice ≤ 2 → 1 ≤ batch → batch ≤ 8 → RiseFrom 0 accepted wants → status ≡ Memory → IsUnchosen channel luns wants accepted choice batch status
+pub data IsUnchosen (by : Option PlainLengths) (channel : PlainChannel) (luns : List PlainLun) (wants : List PlainWant) (accepted choice batch : ℕ) (status : Status) : Type 0 where
+  is_unsaid : IsUnsaid by channel luns wants status → IsUnchosen by channel luns wants accepted choice batch status
+  is_no_choice : AreSaid by channel luns wants → 2 < choice → status ≡ BadChoice → IsUnchosen by channel luns wants accepted choice batch status
+  is_no_batch : AreSaid by channel luns wants → choice ≤ 2 → (batch ≡ 0) ⊎ (8 < batch) → status ≡ BadBatch → IsUnchosen by channel luns wants accepted choice batch status
+  is_no_order : AreSaid by channel luns wants → choice ≤ 2 → 1 ≤ batch → batch ≤ 8 → (RiseFrom 0 accepted wants → ⊥) → status ≡ BadOrder → IsUnchosen by channel luns wants accepted choice batch status
+  is_no_memory : AreSaid by channel luns wants → choice ≤ 2 → 1 ≤ batch → batch ≤ 8 → RiseFrom 0 accepted wants → status ≡ Memory → IsUnchosen by channel luns wants accepted choice batch status
 
 -- a caller is given the places of the batch, and how many, or a number that says why there are none, and nothing else
-pub data GivesChosen (channel : PlainChannel) (luns : List PlainLun) (wants : List PlainWant) (accepted choice batch : ℕ) (room_old room_new : List ℕ) (count_old count_new result : ℕ) : Type 0 where
-  gives_chosen : (places : List ℕ) → IsChosen channel luns wants accepted choice batch places → room_new ≡ places ++ drop (length places) room_old → count_new ≡ length places → result ≡ 0
-      → GivesChosen channel luns wants accepted choice batch room_old room_new count_old count_new result
-  refuses_choice : (status : Status) → IsUnchosen channel luns wants accepted choice batch status → room_new ≡ room_old → count_new ≡ count_old → result ≡ number_of status
-      → GivesChosen channel luns wants accepted choice batch room_old room_new count_old count_new result
+pub data GivesChosen (by : Option PlainLengths) (channel : PlainChannel) (luns : List PlainLun) (wants : List PlainWant) (accepted choice batch : ℕ) (room_old room_new : List ℕ) (count_old count_new result : ℕ) : Type 0 where
+  gives_chosen : (places : List ℕ) → IsChosen by channel luns wants accepted choice batch places → room_new ≡ places ++ drop (length places) room_old → count_new ≡ length places → result ≡ 0
+      → GivesChosen by channel luns wants accepted choice batch room_old room_new count_old count_new result
+  refuses_choice : (status : Status) → IsUnchosen by channel luns wants accepted choice batch status → room_new ≡ room_old → count_new ≡ count_old → result ≡ number_of status
+      → GivesChosen by channel luns wants accepted choice batch room_old room_new count_old count_new result

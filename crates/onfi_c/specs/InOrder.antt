@@ -18,12 +18,12 @@ use Rattle.onfi_c.specs.declared.lun.PlainWant.{PlainWant}
 use Rattle.onfi_c.specs.declared.schedule.PlainGroup.{PlainGroup}
 use Rattle.onfi_c.specs.declared.schedule.PlainRest.{PlainRest}
 use Rattle.onfi_c.specs.declared.schedule.PlainSchedule.{PlainSchedule}
-use Rattle.onfi_c.specs.Said.{states_of, wants_of}
+use Rattle.onfi_c.specs.Said.{operation_in, states_of, wants_of}
 use Rattle.onfi_c.specs.SaidSchedule.{groups_of, rest_of, rests_of, schedule_of, starts_of}
 
 -- an erase that names a page
 abbrev pub has_page : PlainWant → Bool
-has_page w = nat_lt 1 w.kind && not (w.page == 0)
+has_page w = nat_lt 1 (operation_in w.kind) && not (w.page == 0)
 
 -- of a LUN that isn't there
 abbrev pub is_foreign : ℕ → PlainWant → Bool

@@ -20,6 +20,7 @@ pub mod SaidGeometry
 pub mod SaidLegal
 pub mod SaidSchedule
 pub mod Script
+pub mod SectorDevice
 pub mod Status
 pub mod StatusText
 pub mod StrobedDevice

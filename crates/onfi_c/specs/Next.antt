@@ -1,5 +1,5 @@
 -- The phase that is next on a channel that plans no batch, as a plain struct gives it.
-use Rattle.std.specs.Prelude.{◌≡◌, ◌⊎◌, ℕ, ◌*◌, ◌<◌, ◌≤◌, ◌^◌, max, List, [], ◌∷◌, length, Some, slice_get}
+use Rattle.std.specs.Prelude.{◌≡◌, ◌⊎◌, ℕ, ◌*◌, ◌<◌, ◌≤◌, ◌^◌, max, List, [], ◌∷◌, length, Some, slice_get, None}
 use Rattle.onfi_timing.specs.declared.timing.Timing.{Timing}
 use Rattle.onfi_request.specs.declared.want.Want.{Want}
 use Rattle.onfi_problem.specs.declared.lun_state.LunState.{LunState}
@@ -57,7 +57,7 @@ IsUntold luns geometry next status = IsNoPhase luns next status ⊎ ((due : Due)
 pub record IsWaiting (said : PlainChannel) (luns : List PlainLun) (queue : PlainQueue) (now : ℕ) (books : Books) (p : Problem) : Type 0 where
   pub few_luns : length luns ≤ 8
   pub few : queue.count ≤ 64
-  pub timing : IsTiming said.timing p.timing
+  pub timing : IsTiming None said.timing p.timing
   pub rules : AreRules said.rules books.rules
   pub waiting : books.waiting ≡ waiters_of said.rules.plane_bits queue
   pub newest : books.newest ≡ newest_of queue
@@ -84,8 +84,8 @@ pub record IsNextDue (said : PlainChannel) (luns : List PlainLun) (queue : Plain
 
 -- why none is: the first of these
 pub data IsNoneDue (said : PlainChannel) (luns : List PlainLun) (queue : PlainQueue) (now : ℕ) (status : Status) : Type 0 where
-  unsaid : IsUnsaid said luns [] status → IsNoneDue said luns queue now status
-  too_many : AreSaid said luns [] → (8 < length luns) ⊎ (64 < queue.count) → status ≡ TooMany → IsNoneDue said luns queue now status
+  unsaid : IsUnsaid None said luns [] status → IsNoneDue said luns queue now status
+  too_many : AreSaid None said luns [] → (8 < length luns) ⊎ (64 < queue.count) → status ≡ TooMany → IsNoneDue said luns queue now status
   no_phase : (books : Books) (p : Problem) → IsWaiting said luns queue now books p → (next : NextPhase) → IsNextPhase books p next
       → IsNoPhase p.luns next status → IsNoneDue said luns queue now status
 
@@ -100,8 +100,8 @@ pub record IsNextSaid (said : PlainChannel) (luns : List PlainLun) (queue : Plai
 
 -- why none is given: the first of these
 pub data IsNoneNext (said : PlainChannel) (luns : List PlainLun) (queue : PlainQueue) (geometry : PlainGeometry) (now : ℕ) (status : Status) : Type 0 where
-  is_unsaid : IsUnsaid said luns [] status → IsNoneNext said luns queue geometry now status
-  are_many : AreSaid said luns [] → (8 < length luns) ⊎ (64 < queue.count) → status ≡ TooMany → IsNoneNext said luns queue geometry now status
+  is_unsaid : IsUnsaid None said luns [] status → IsNoneNext said luns queue geometry now status
+  are_many : AreSaid None said luns [] → (8 < length luns) ⊎ (64 < queue.count) → status ≡ TooMany → IsNoneNext said luns queue geometry now status
   is_idle : (books : Books) (p : Problem) → IsWaiting said luns queue now books p → IsIdle p → IsOverTold geometry status → IsNoneNext said luns queue geometry now status
   is_untold : (books : Books) (p : Problem) → IsWaiting said luns queue now books p → (next : NextPhase) → IsNextPhase books p next
       → IsUntold p.luns geometry next status → IsNoneNext said luns queue geometry now status

@@ -1,5 +1,5 @@
 -- What a caller is given for a problem that is to be planned.
-use Rattle.std.specs.Prelude.{◌≡◌, ◌≤◌, ℕ, List, length}
+use Rattle.std.specs.Prelude.{◌≡◌, ◌≤◌, ℕ, false, List, length, Option}
 use Rattle.onfi_problem.specs.Problem.{Problem}
 use Rattle.onfi_schedule.specs.Schedule.{Schedule, Optimal, finish}
 use Rattle.onfi_cert.specs.declared.token.Token.{Token}
@@ -13,6 +13,7 @@ use Rattle.onfi_plan.specs.Certificate.{Remembering as Remembers}
 use Rattle.onfi_planners.specs.declared.chosen.ChosenPlanner.TheVariants.{Remembering}
 use Rattle.onfi_script.specs.Answer.{IsProved}
 use Rattle.onfi_c.specs.declared.channel.PlainChannel.{PlainChannel}
+use Rattle.onfi_c.specs.declared.lengths.PlainLengths.{PlainLengths}
 use Rattle.onfi_c.specs.declared.lun.PlainWant.{PlainWant}
 use Rattle.onfi_c.specs.declared.lun.PlainLun.{PlainLun}
 use Rattle.onfi_c.specs.declared.schedule.PlainPlan.{PlainPlan}
@@ -20,7 +21,7 @@ use Rattle.onfi_c.specs.declared.status.Status.{Status}
 use Rattle.onfi_c.specs.declared.status.Status.TheVariants.{BadLimit, Memory, Over}
 use Rattle.onfi_c.specs.Refused.{IsRefused}
 use Rattle.onfi_c.specs.Room.{Gives}
-use Rattle.onfi_c.specs.Said.{IsSaid}
+use Rattle.onfi_c.specs.Said.{IsSaid, have_lacking}
 use Rattle.onfi_c.specs.Script.{IsBadLimit}
 use Rattle.onfi_c.specs.Status.{number_of}
 use Rattle.onfi_c.specs.Written.{written_plan}
@@ -58,16 +59,17 @@ IsUnplanned p limit Over = HasMoreNodes p limit
 IsUnplanned p limit Memory = Unit {0}
 IsUnplanned p limit _ = ⊥
 
--- the problem that a caller says, which a search of so many nodes is to plan
-pub record IsPosed (channel : PlainChannel) (luns : List PlainLun) (wants : List PlainWant) (limit : ℕ) (p : Problem) : Type 0 where
+-- the problem that a caller says, with lengths of all that is put out, which a search of so many nodes is to plan
+pub record IsPosed (by : Option PlainLengths) (channel : PlainChannel) (luns : List PlainLun) (wants : List PlainWant) (limit : ℕ) (p : Problem) : Type 0 where
   pub some : 1 ≤ limit
   pub few : limit ≤ 1048576
-  pub said : IsSaid channel luns wants p
+  pub said : IsSaid by channel luns wants p
+  pub lengths : have_lacking by luns wants ≡ false
 
 -- why there is none: the first of these
-pub data IsUnposed (channel : PlainChannel) (luns : List PlainLun) (wants : List PlainWant) (limit : ℕ) (status : Status) : Type 0 where
-  is_limit : IsBadLimit limit → status ≡ BadLimit → IsUnposed channel luns wants limit status
-  is_refused : 1 ≤ limit → limit ≤ 1048576 → IsRefused channel luns wants status → IsUnposed channel luns wants limit status
+pub data IsUnposed (by : Option PlainLengths) (channel : PlainChannel) (luns : List PlainLun) (wants : List PlainWant) (limit : ℕ) (status : Status) : Type 0 where
+  is_limit : IsBadLimit limit → status ≡ BadLimit → IsUnposed by channel luns wants limit status
+  is_refused : 1 ≤ limit → limit ≤ 1048576 → IsRefused by channel luns wants status → IsUnposed by channel luns wants limit status
 
 -- a text is given where there is room for any
 pub data GivesAsked (text old new : List ℕ) (bytes result : ℕ) : Type 0 where
@@ -84,11 +86,11 @@ pub record IsUngiven {Plan : Type 0} (old new : Plan) (room_old room_new : List 
 -- a caller is given a plan of what he says, of which this is promised, and its certificate; or a number that says why there is
 -- none, of the problem or before, and nothing else
 pub data GivesPlan {Plan : Type 0} (Promises : Problem → ℕ → Plan → List ℕ → Type 0) (Tells : Problem → ℕ → Status → Type 0)
-    (channel : PlainChannel) (luns : List PlainLun) (wants : List PlainWant) (limit : ℕ) (old new : Plan) (room_old room_new : List ℕ)
+    (by : Option PlainLengths) (channel : PlainChannel) (luns : List PlainLun) (wants : List PlainWant) (limit : ℕ) (old new : Plan) (room_old room_new : List ℕ)
     (bytes result : ℕ) : Type 0 where
-  gives : (p : Problem) (text : List ℕ) → IsPosed channel luns wants limit p → Promises p limit new text → GivesAsked text room_old room_new bytes result
-      → GivesPlan Promises Tells channel luns wants limit old new room_old room_new bytes result
-  refuses : (p : Problem) (status : Status) → IsPosed channel luns wants limit p → Tells p limit status
-      → IsUngiven old new room_old room_new bytes result status → GivesPlan Promises Tells channel luns wants limit old new room_old room_new bytes result
-  is_unposed : (status : Status) → IsUnposed channel luns wants limit status → IsUngiven old new room_old room_new bytes result status
-      → GivesPlan Promises Tells channel luns wants limit old new room_old room_new bytes result
+  gives : (p : Problem) (text : List ℕ) → IsPosed by channel luns wants limit p → Promises p limit new text → GivesAsked text room_old room_new bytes result
+      → GivesPlan Promises Tells by channel luns wants limit old new room_old room_new bytes result
+  refuses : (p : Problem) (status : Status) → IsPosed by channel luns wants limit p → Tells p limit status
+      → IsUngiven old new room_old room_new bytes result status → GivesPlan Promises Tells by channel luns wants limit old new room_old room_new bytes result
+  is_unposed : (status : Status) → IsUnposed by channel luns wants limit status → IsUngiven old new room_old room_new bytes result status
+      → GivesPlan Promises Tells by channel luns wants limit old new room_old room_new bytes result

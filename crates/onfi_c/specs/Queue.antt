@@ -1,6 +1,8 @@
 -- What waits on a channel, as a queue in the caller's memory says it.
 use Rattle.std.specs.Prelude.{◌≡◌, ℕ, ◌+◌, ◌-◌, ◌<◌, ◌≤◌, ◌==◌, min, nat_lt, not, if◌then◌else◌, Bool, true, false, List, [], ◌∷◌, ◌++◌, map, take, Option, Some, None, slice_get}
 use Rattle.std.specs.List.{filter, list_any}
+use Rattle.onfi_timing.specs.declared.kind.Kind.{Kind}
+use Rattle.onfi_timing.specs.declared.kind.Kind.TheVariants.{Read, Program, Erase}
 use Rattle.onfi_request.specs.declared.want.Want.{Want}
 use Rattle.onfi_group.specs.declared.rules.Rules.{Rules}
 use Rattle.onfi_steady.specs.declared.waiter.Waiter.{Waiter}
@@ -14,8 +16,12 @@ use Rattle.onfi_c.specs.declared.queue.PlainWaiter.{PlainWaiter}
 use Rattle.onfi_c.specs.declared.status.Status.{Status}
 use Rattle.onfi_c.specs.declared.status.Status.TheVariants.{BadKind, BadLun, BadOrder, TooMany}
 
+-- kinds by their numbers, as a queue has them: a read puts out all of its page, and what is no read or program is an erase
+abbrev pub queued_kind : ℕ → Kind
+queued_kind kind = if kind == 0 then Read else (if kind == 1 then Program else Erase)
+
 abbrev pub waiter_of : ℕ → PlainWaiter → Waiter
-waiter_of plane_bits w = record { want = want_of plane_bits w.want; passed = w.passed }
+waiter_of plane_bits w = record { want = record (want_of plane_bits w.want) { kind = queued_kind w.want.kind }; passed = w.passed }
 
 -- what waits, oldest first
 abbrev pub waiting_in : PlainQueue → List PlainWaiter

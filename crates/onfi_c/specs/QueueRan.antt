@@ -70,8 +70,8 @@ pub record IsQueueRan (old new : KeptQueue) (now lun number started : ℕ) : Typ
 
 -- why nothing is done: the first of these
 pub data IsQueueNotRan (said : PlainChannel) (luns : List PlainLun) (queue : PlainQueue) (now lun number started : ℕ) (status : Status) : Type 0 where
-  isnt_said : IsUnsaid said luns [] status → IsQueueNotRan said luns queue now lun number started status
-  are_too_many : AreSaid said luns [] → (8 < length luns) ⊎ (64 < queue.count) → status ≡ TooMany → IsQueueNotRan said luns queue now lun number started status
+  isnt_said : IsUnsaid None said luns [] status → IsQueueNotRan said luns queue now lun number started status
+  are_too_many : AreSaid None said luns [] → (8 < length luns) ⊎ (64 < queue.count) → status ≡ TooMany → IsQueueNotRan said luns queue now lun number started status
   none_is_next : (books : Books) (p : Problem) → IsWaiting said luns queue now books p → IsIdle p → status ≡ NothingDue → IsQueueNotRan said luns queue now lun number started status
   has_no_phase : (books : Books) (p : Problem) → IsWaiting said luns queue now books p → (next : NextPhase) → IsNextPhase books p next
       → IsNoPhase p.luns next status → IsQueueNotRan said luns queue now lun number started status

@@ -5,10 +5,12 @@ use Rattle.onfi_problem.specs.declared.lun_state.LunState.{LunState}
 use Rattle.onfi_problem.specs.declared.lun_state.LunState.TheVariants.{Free, Running}
 use Rattle.onfi_problem.specs.Left.{horizon, InLimits}
 use Rattle.onfi_problem.specs.Moves.{IsDone}
+use Rattle.onfi_problem.specs.Problem.{HasLengths}
 use Rattle.onfi_schedule.specs.Schedule.{Legal}
 use Rattle.onfi_flight.specs.declared.due.Due.{Due}
 use Rattle.onfi_flight.specs.Flight.{Flight, IsDue, IsOver, IsStuck, after_late, latest_late}
 use Rattle.onfi_c.specs.declared.channel.PlainChannel.{PlainChannel}
+use Rattle.onfi_c.specs.declared.lengths.PlainLengths.{PlainLengths}
 use Rattle.onfi_c.specs.declared.lun.PlainLun.{PlainLun}
 use Rattle.onfi_c.specs.declared.lun.PlainWant.{PlainWant}
 use Rattle.onfi_c.specs.declared.ran.Behind.{Behind}
@@ -40,8 +42,9 @@ pub record IsBehind (luns : List PlainLun) (due : Due) (f : Flight) (b : Behind)
   pub wants : b.wants.items ≡ map written_want f.now.wants
   pub schedule : b.schedule ≡ written_schedule f.left
 
--- what a caller keeps of a channel; these wants wait
+-- what a caller says of sectors, if he does, and keeps of a channel; these wants wait
 pub record Kept : Type 0 where
+  pub lengths : Option PlainLengths
   pub channel : PlainChannel
   pub luns : List PlainLun
   pub wants : List PlainWant
@@ -50,6 +53,7 @@ pub record Kept : Type 0 where
 -- what is kept once a phase of that LUN ran
 abbrev pub kept_behind : Kept → ℕ → Behind → Kept
 kept_behind old lun b = record {
+  lengths = old.lengths;
   channel = record old.channel { bus_free = b.bus_free };
   luns = slice_set old.luns lun b.lun;
   wants = b.wants.items;
@@ -58,7 +62,7 @@ kept_behind old lun b = record {
 
 -- the problem that is kept, and what is left of its schedule
 abbrev pub Flies : Kept → Flight → Type 0
-Flies k f = IsFlightSaid k.channel k.luns k.wants k.schedule f
+Flies k f = IsFlightSaid k.lengths k.channel k.luns k.wants k.schedule f
 
 -- the phase that is due is of that LUN and has that number
 pub record IsDueThere (f : Flight) (due : Due) (lun number : ℕ) : Type 0 where
@@ -66,8 +70,8 @@ pub record IsDueThere (f : Flight) (due : Due) (lun number : ℕ) : Type 0 where
   pub lun_is : due.lun ≡ lun
   pub number_is : due.phase ≡ number
 
--- the phase that was due ran from `started` on: what is kept then is the problem that it leaves, in the limits that each call
--- asks, and all other phases, later by as much as it was: a legal schedule of it where it was legal before
+-- the phase that was due ran from `started` on: what is kept then is the problem that it leaves, in the limits and with the
+-- lengths that each call asks, and all other phases, later by as much as it was: a legal schedule of it where it was legal before
 pub record IsRan (old new : Kept) (lun number started : ℕ) : Type 0 where
   pub flight : Flight
   pub said : Flies old flight
@@ -75,8 +79,9 @@ pub record IsRan (old new : Kept) (lun number started : ℕ) : Type 0 where
   pub there : IsDueThere flight due lun number
   pub on_time : due.start ≤ started
   pub legal : Legal flight.now flight.left → Legal (after_late flight due started).now (after_late flight due started).left
-  pub after : IsSaid new.channel new.luns new.wants (after_late flight due started).now
+  pub after : IsSaid new.lengths new.channel new.luns new.wants (after_late flight due started).now
   pub limits : InLimits (after_late flight due started).now
+  pub measured : HasLengths (after_late flight due started).now
   pub later : new.schedule ≡ written_schedule (after_late flight due started).left
 
 -- this phase, or one that is left, would start at 2^62 or later; or what is left could reach it, so that each later call would
@@ -86,7 +91,7 @@ IsLate f due started = (2 ^ 62 ≤ latest_late f due started) ⊎ (2 ^ 62 ≤ ho
 
 -- why nothing is done: the first of these
 pub data IsNotRan (old : Kept) (lun number started : ℕ) (status : Status) : Type 0 where
-  is_no_flight : IsNoFlight old.channel old.luns old.wants old.schedule status → IsNotRan old lun number started status
+  is_no_flight : IsNoFlight old.lengths old.channel old.luns old.wants old.schedule status → IsNotRan old lun number started status
   is_illegal : (f : Flight) → Flies old f → IsStuck f → status ≡ Illegal → IsNotRan old lun number started status
   is_over : (f : Flight) → Flies old f → IsOver f.left → IsDone f.now → status ≡ NothingDue → IsNotRan old lun number started status
   is_not_due : (f : Flight) → Flies old f → (due : Due) → IsDue f due → ((due.lun ≡ lun) × (due.phase ≡ number) → ⊥) → status ≡ NotDue → IsNotRan old lun number started status

@@ -13,6 +13,7 @@ use Rattle.onfi_flight.specs.declared.due.Due.{Due}
 use Rattle.onfi_flight.specs.Flight.{after_late}
 use Rattle.onfi_flight.specs.Times.{later_group, later_starts}
 use Rattle.onfi_c.specs.declared.channel.PlainChannel.{PlainChannel}
+use Rattle.onfi_c.specs.declared.lengths.PlainLengths.{PlainLengths}
 use Rattle.onfi_c.specs.declared.lun.PlainLun.{PlainLun}
 use Rattle.onfi_c.specs.declared.lun.PlainWant.{PlainWant}
 use Rattle.onfi_c.specs.declared.ran.Step.{Step}
@@ -22,7 +23,6 @@ use Rattle.onfi_c.specs.declared.schedule.PlainSchedule.{PlainSchedule}
 use Rattle.onfi_c.specs.Flights.{IsFlightSaid}
 use Rattle.onfi_c.specs.InOrder.{flight_of, is_odd_schedule}
 use Rattle.onfi_c.specs.Ran.{IsDueThere, lun_in, telling}
-use Rattle.onfi_c.specs.Said.{have_bad_kind}
 use Rattle.onfi_c.specs.SaidSchedule.{group_of, rest_of}
 use Rattle.onfi_c.specs.Written.{filled, no_rest, written_group, written_rest}
 
@@ -61,15 +61,14 @@ abbrev pub end_of : Timing → Due → ℕ → ℕ
 end_of timing due started = started + phase_length (group_spans timing due.group) (length due.group) due.phase
 
 -- the due phase of what is said is that one, and ends then; its LUN says so, and the problem that is left is in its limits
-pub record IsStep (channel : PlainChannel) (luns : List PlainLun) (wants : List PlainWant) (schedule : PlainSchedule) (lun number started : ℕ) (step : Step) : Type 0 where
+pub record IsStep (by : Option PlainLengths) (channel : PlainChannel) (luns : List PlainLun) (wants : List PlainWant) (schedule : PlainSchedule) (lun number started : ℕ) (step : Step) : Type 0 where
   pub timing : Timing
   pub rules : Rules
-  pub said : IsFlightSaid channel luns wants schedule (flight_of timing rules channel.bus_free luns wants schedule)
+  pub said : IsFlightSaid by channel luns wants schedule (flight_of timing rules channel.bus_free luns wants schedule)
   pub there : IsDueThere (flight_of timing rules channel.bus_free luns wants schedule) step.due lun number
   pub on_time : step.due.start ≤ started
   pub early : started < 2 ^ 61
   pub even : is_odd_schedule schedule ≡ false
-  pub kinds : have_bad_kind luns wants ≡ false
   pub limits : InLimits (after_late (flight_of timing rules channel.bus_free luns wants schedule) step.due started).now
   pub ended : step.ended ≡ end_of timing step.due started
   pub lun_is : step.lun ≡ lun_in (lun_after timing step.due.group step.due.phase step.ended) (telling luns step.due.place step.due.lun step.due.group)

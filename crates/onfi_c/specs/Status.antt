@@ -1,5 +1,5 @@
 -- What calls answer by numbers.
-use Rattle.std.specs.Prelude.{ℕ, List, codes}
+use Rattle.std.specs.Prelude.{ℕ, List, Option, Some, codes}
 use Rattle.onfi_planner.specs.declared.fault.PlanFault.{PlanFault}
 use Rattle.onfi_planner.specs.declared.fault.PlanFault.TheVariants.{Over as SearchOver, Memory as SearchMemory}
 use Rattle.onfi_problem.specs.declared.fault.ProblemFault.{ProblemFault}
@@ -148,6 +148,12 @@ problem_status problem.BadLun = BadLun
 problem_status problem.NoLengths = NoLengths
 problem_status problem.Clock = Clock
 problem_status problem.Memory = Memory
+
+-- .. of what is said with sectors that have no length
+abbrev pub lacking_status : Option ProblemFault → Status
+lacking_status (Some problem.TooMany) = TooMany
+lacking_status (Some problem.BadLun) = BadLun
+lacking_status _ = NoLengths
 
 abbrev pub plan_status : PlanFault → Status
 plan_status (SearchOver opened) = Over

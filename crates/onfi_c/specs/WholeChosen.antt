@@ -35,7 +35,7 @@ AreRising wants = RiseFrom 0 (2 ^ 64 - 1) wants
 -- the choice is of these requests on the channel that is said
 pub record ChoosesWhole (said : PlainChannel) (luns : List PlainLun) (wants : List PlainWant) (passed : List ℕ) (newest : Option ℕ) (batch : ℕ) (chosen rest : List Want) : Type 0 where
   pub timing : Timing
-  pub is_timing : IsTiming said.timing timing
+  pub is_timing : IsTiming None said.timing timing
   pub rules : Rules
   pub are_rules : AreRules said.rules rules
   pub books : Books
@@ -52,7 +52,7 @@ pub record AreWholePlaces (said : PlainChannel) (luns : List PlainLun) (wants : 
 
 -- the batch that is chosen of what is said
 pub record IsWholeChosen (said : PlainChannel) (luns : List PlainLun) (wants : List PlainWant) (passed : List ℕ) (newest : Option ℕ) (batch : ℕ) (places : List ℕ) : Type 0 where
-  pub in_range : AreSaid said luns wants
+  pub in_range : AreSaid None said luns wants
   pub some_batch : 1 ≤ batch
   pub few_batch : batch ≤ 8
   pub order : AreRising wants
@@ -60,10 +60,10 @@ pub record IsWholeChosen (said : PlainChannel) (luns : List PlainLun) (wants : L
 
 -- why none is chosen: the first of these
 pub data IsNoneWhole (said : PlainChannel) (luns : List PlainLun) (wants : List PlainWant) (batch : ℕ) (status : Status) : Type 0 where
-  is_unsaid : IsUnsaid said luns wants status → IsNoneWhole said luns wants batch status
-  is_no_batch : AreSaid said luns wants → (batch ≡ 0) ⊎ (8 < batch) → status ≡ BadBatch → IsNoneWhole said luns wants batch status
-  is_no_order : AreSaid said luns wants → 1 ≤ batch → batch ≤ 8 → (AreRising wants → ⊥) → status ≡ BadOrder → IsNoneWhole said luns wants batch status
-  is_no_memory : AreSaid said luns wants → 1 ≤ batch → batch ≤ 8 → AreRising wants → status ≡ Memory → IsNoneWhole said luns wants batch status
+  is_unsaid : IsUnsaid None said luns wants status → IsNoneWhole said luns wants batch status
+  is_no_batch : AreSaid None said luns wants → (batch ≡ 0) ⊎ (8 < batch) → status ≡ BadBatch → IsNoneWhole said luns wants batch status
+  is_no_order : AreSaid None said luns wants → 1 ≤ batch → batch ≤ 8 → (AreRising wants → ⊥) → status ≡ BadOrder → IsNoneWhole said luns wants batch status
+  is_no_memory : AreSaid None said luns wants → 1 ≤ batch → batch ≤ 8 → AreRising wants → status ≡ Memory → IsNoneWhole said luns wants batch status
 
 -- a caller is given the places of the batch, and how many, or a number that says why there are none, and nothing else
 pub data GivesWhole (said : PlainChannel) (luns : List PlainLun) (wants : List PlainWant) (passed : List ℕ) (newest : Option ℕ) (batch : ℕ) (room_old room_new : List ℕ) (count_old count_new result : ℕ) : Type 0 where

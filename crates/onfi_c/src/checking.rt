@@ -1,5 +1,5 @@
 //! Checks of schedules that plain structs say.
-ghost use Rattle.std.specs.Prelude.{◌≡◌, IfOk, IfErr};
+ghost use Rattle.std.specs.Prelude.{◌≡◌, None, IfOk, IfErr};
 ghost use Rattle.onfi_schedule.specs.Schedule.{finish};
 ghost use Rattle.onfi_planners.specs.declared.chosen.ChosenPlanner.TheVariants.{Plain};
 ghost use Rattle.onfi_script.specs.Answer.{IsProved};
@@ -60,7 +60,7 @@ pub extern "C" fn onfi_check(
     certificate: &[u8],
     verdict: &mut PlainVerdict,
 ) -> u32
-    ensures { GivesVerdict (IsProved Plain) IsFaultTold channel.now luns.now wants.now schedule.now certificate.now verdict.new result }
+    ensures { GivesVerdict (IsProved Plain) IsFaultTold None channel.now luns.now wants.now schedule.now certificate.now verdict.new result }
 {
     match said_of(alloc, channel, luns, wants, schedule) {
         Ok(stand) => give_verdict(judge(alloc, &stand, certificate), verdict),

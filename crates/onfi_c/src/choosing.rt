@@ -1,14 +1,18 @@
 //! Which of the requests that wait a batch takes.
-ghost use Rattle.std.specs.Prelude.{◌≡◌, ◌==◌, ◌++◌, ℕ, ◌<◌, ◌≤◌, ◌↔◌, Some, false, drop, length, slice_get, take, IfOk, IfErr, IsTrue};
+ghost use Rattle.std.specs.Prelude.{◌≡◌, ◌==◌, ◌++◌, ℕ, ◌<◌, ◌≤◌, ◌↔◌, Option, None, Some, false, drop, length, slice_get, take, IfOk, IfErr, IsTrue};
 ghost use Rattle.std.specs.List.{list_any};
 ghost use Rattle.onfi_request.specs.declared.want.Want.{Want as AWant};
 ghost use Rattle.onfi_core.specs.Choice.{Rise};
+ghost use Rattle.onfi_c.specs.declared.lengths.PlainLengths.{PlainLengths as ALengths};
 ghost use Rattle.onfi_c.specs.Chosen as spec;
+ghost use Rattle.onfi_c.specs.Refused.{AreSaid};
 ghost use Rattle.onfi_c.specs.Said.{has_bad_count};
 
 use crate::channel::PlainChannel;
+use crate::lengths::PlainLengths;
 use crate::lun::{PlainLun, PlainWant};
 use crate::said::{rules, states_of, timing_said, wants_of};
+use crate::said_lengths::timing_by;
 use crate::status::Status;
 use arrayvec::ArrayVec;
 use onfi_core::{Choice, choose};
@@ -120,7 +124,7 @@ pub fn places_of(items: &[Want], chosen: &[Want]) -> ArrayVec<usize, 8>
 /// The places of the wants that a batch takes of these, which rise.
 fn choose_places(
     alloc: Global,
-    timing: Timing,
+    timing: &Timing,
     channel: &PlainChannel,
     luns: &[PlainLun],
     wants: &[PlainWant],
@@ -140,7 +144,7 @@ fn choose_places(
     let items = wants.as_slice();
     let chosen = choose_of(
         alloc,
-        &timing,
+        timing,
         &rules(&channel.rules),
         choice_of(choice),
         channel.bus_free,
@@ -152,9 +156,10 @@ fn choose_places(
     Ok(places_of(items, chosen.as_slice()))
 }
 
-/// The same of what is said.
-fn choose_said(
+/// The same of what is said, whose numbers are in their ranges.
+fn choose_of_said(
     alloc: Global,
+    timing: &Timing,
     channel: &PlainChannel,
     luns: &[PlainLun],
     wants: &[PlainWant],
@@ -162,11 +167,14 @@ fn choose_said(
     choice: u8,
     batch: u8,
 ) -> Result<ArrayVec<usize, 8>, Status>
-    ensures chosen { IfOk result (λ places. spec.IsChosen channel.now luns.now wants.now accepted choice batch places.items) }
+    requires bits { channel.now.rules.plane_bits ≤ 2 }
+    requires counts { list_any has_bad_count luns.now ≡ false }
+    ensures chosen { (by : Option ALengths) → AreSaid by channel.now luns.now wants.now
+        → IfOk result (λ places. spec.IsChosen by channel.now luns.now wants.now accepted choice batch places.items) }
     ensures few { IfOk result (λ places. length places.items ≤ 8) }
-    ensures none { IfErr result (λ status. spec.IsUnchosen channel.now luns.now wants.now accepted choice batch status) }
+    ensures none { (by : Option ALengths) → AreSaid by channel.now luns.now wants.now
+        → IfErr result (spec.IsUnchosen by channel.now luns.now wants.now accepted choice batch) }
 {
-    let timing = timing_said(channel, luns, wants)?;
     if choice > 2 {
         return Err(Status::BadChoice);
     }
@@ -179,6 +187,51 @@ fn choose_said(
     match choose_places(alloc, timing, channel, luns, wants, accepted, choice, batch) {
         Ok(places) => Ok(places),
         Err(_) => Err(Status::Memory),
+    }
+}
+
+/// The same of what is said.
+fn choose_said(
+    alloc: Global,
+    channel: &PlainChannel,
+    luns: &[PlainLun],
+    wants: &[PlainWant],
+    accepted: u64,
+    choice: u8,
+    batch: u8,
+) -> Result<ArrayVec<usize, 8>, Status>
+    ensures chosen { IfOk result (λ places. spec.IsChosen None channel.now luns.now wants.now accepted choice batch places.items) }
+    ensures few { IfOk result (λ places. length places.items ≤ 8) }
+    ensures none { IfErr result (spec.IsUnchosen None channel.now luns.now wants.now accepted choice batch) }
+{
+    match timing_said(channel, luns, wants) {
+        Ok(timing) => choose_of_said(
+            alloc, &timing, channel, luns, wants, accepted, choice, batch,
+        ),
+        Err(status) => Err(status),
+    }
+}
+
+/// The same with lengths of reads of some sectors.
+fn choose_by(
+    alloc: Global,
+    lengths: &PlainLengths,
+    channel: &PlainChannel,
+    luns: &[PlainLun],
+    wants: &[PlainWant],
+    accepted: u64,
+    choice: u8,
+    batch: u8,
+) -> Result<ArrayVec<usize, 8>, Status>
+    ensures chosen { IfOk result (λ places. spec.IsChosen (Some lengths.now) channel.now luns.now wants.now accepted choice batch places.items) }
+    ensures few { IfOk result (λ places. length places.items ≤ 8) }
+    ensures none { IfErr result (spec.IsUnchosen (Some lengths.now) channel.now luns.now wants.now accepted choice batch) }
+{
+    match timing_by(lengths, channel, luns, wants) {
+        Ok(timing) => choose_of_said(
+            alloc, &timing, channel, luns, wants, accepted, choice, batch,
+        ),
+        Err(status) => Err(status),
     }
 }
 
@@ -209,12 +262,43 @@ pub extern "C" fn onfi_choose(
     chosen: &mut [usize; 8],
     count: &mut usize,
 ) -> u32
-    ensures { spec.GivesChosen channel.now luns.now wants.now accepted choice batch chosen.old chosen.new count.old count.new result }
+    ensures { spec.GivesChosen None channel.now luns.now wants.now accepted choice batch chosen.old chosen.new count.old count.new result }
 {
     match choose_said(alloc, channel, luns, wants, accepted, choice, batch) {
         Ok(places) => {
             put(chosen, places.as_slice());
             *count = places.len();
+            0
+        }
+        Err(status) => status.number(),
+    }
+}
+
+/// Chooses a batch as [`onfi_choose`] does, where reads may put out some sectors: their posts are those of `lengths`, and that of
+/// a page where none is stated.
+///
+/// Answers what `onfi_choose` does, `LongSpan` also of these posts, after those of a channel's lengths; and nothing is given.
+#[unsafe(no_mangle)]
+pub extern "C" fn onfi_choose_by(
+    alloc: Global,
+    lengths: &PlainLengths,
+    channel: &PlainChannel,
+    luns: &[PlainLun],
+    wants: &[PlainWant],
+    accepted: u64,
+    choice: u8,
+    batch: u8,
+    chosen: &mut [usize; 8],
+    count: &mut usize,
+) -> u32
+    ensures { spec.GivesChosen (Some lengths.now) channel.now luns.now wants.now accepted choice batch chosen.old chosen.new count.old count.new result }
+{
+    match choose_by(
+        alloc, lengths, channel, luns, wants, accepted, choice, batch,
+    ) {
+        Ok(taken) => {
+            put(chosen, taken.as_slice());
+            *count = taken.len();
             0
         }
         Err(status) => status.number(),

@@ -1,21 +1,27 @@
 //! The phase that is due.
-ghost use Rattle.std.specs.Prelude.{◌≡◌, ◌*◌, ◌<◌, ◌^◌, length, IfOk, IfErr, IfNone, IfSome};
+ghost use Rattle.std.specs.Prelude.{◌≡◌, ◌*◌, ◌<◌, ◌≤◌, ◌^◌, false, length, Option, None, Some, IfOk, IfErr, IfNone, IfSome};
+ghost use Rattle.std.specs.List.{list_any};
+ghost use Rattle.onfi_c.specs.declared.lengths.PlainLengths.{PlainLengths as ALengths};
 ghost use Rattle.onfi_c.specs.Due.{GivesDue, IsDueSaid, IsNoneDue, IsOffDevice, IsOnDevice, IsOutside, IsOverTold, IsWritten, closer_of as spec_closer_of, number_of_kind, opener_of as spec_opener_of};
+ghost use Rattle.onfi_c.specs.Refused.{IsMeasured};
+ghost use Rattle.onfi_c.specs.Said.{AreRules, has_bad_count};
 
 use crate::channel::PlainChannel;
 use crate::device::PlainGeometry;
 use crate::due_plain::due_in_order;
 use crate::flight::{fill, timing_of};
 use crate::geometry::geometry_of;
+use crate::lengths::PlainLengths;
 use crate::lun::{PlainLun, PlainWant};
 use crate::phase::PlainPhase;
 use crate::row::row_in;
 use crate::said::rules;
+use crate::said_lengths::timing_in_flight;
 use crate::schedule::PlainSchedule;
 use crate::status::Status;
 use onfi_addr::{Geometry, Place};
 use onfi_flight::{Due, Flight, Next};
-use onfi_group::phase_length;
+use onfi_group::{Rules, phase_length};
 use onfi_timing::{Kind, Operation, Timing};
 use std::alloc::Global;
 
@@ -120,27 +126,29 @@ pub fn over_status(geometry: &PlainGeometry) -> Status
     }
 }
 
-/// The phase that is due of what is said.
-fn due_said(
+/// The phase that is due of what is said, with these lengths of all that is put out, or why there is none: a flight is made of it.
+// A flight has some thousand bytes, which a caller whose phase is in order need not clear.
+#[inline(never)]
+fn due_in_flight(
     alloc: Global,
+    timing: &Timing,
+    rules: Rules,
     channel: &PlainChannel,
     luns: &[PlainLun],
     wants: &[PlainWant],
     geometry: &PlainGeometry,
     schedule: &PlainSchedule,
 ) -> Result<PlainPhase, Status>
-    ensures due { IfOk result (λ phase. IsDueSaid channel.now luns.now wants.now geometry.now schedule.now phase) }
-    ensures none { IfErr result (λ status. IsNoneDue channel.now luns.now wants.now geometry.now schedule.now status) }
+    requires bits { channel.now.rules.plane_bits ≤ 2 }
+    requires counts { list_any has_bad_count luns.now ≡ false }
+    requires few { (length luns.now ≤ 8) × (length wants.now ≤ 8) }
+    requires rules { AreRules channel.now.rules rules }
+    ensures due { (by : Option ALengths) → IsMeasured by channel.now luns.now wants.now timing.now
+        → IfOk result (IsDueSaid by channel.now luns.now wants.now geometry.now schedule.now) }
+    ensures none { (by : Option ALengths) → IsMeasured by channel.now luns.now wants.now timing.now
+        → IfErr result (IsNoneDue by channel.now luns.now wants.now geometry.now schedule.now) }
 {
-    let timing = match timing_of(channel, luns, wants) {
-        Ok(timing) => timing,
-        Err(status) => return Err(status),
-    };
-    let rules = rules(&channel.rules);
-    if let Some(due) = due_in_order(alloc, &rules, channel, luns, wants, schedule) {
-        return phase_on(&timing, geometry, &due);
-    }
-    let mut flight = Flight::idle(alloc, timing, rules, channel.bus_free, luns.len() as u8);
+    let mut flight = Flight::idle(alloc, *timing, rules, channel.bus_free, luns.len() as u8);
     match fill(alloc, &mut flight, channel, luns, wants, schedule) {
         Ok(()) => {}
         Err(status) => return Err(status),
@@ -149,6 +157,70 @@ fn due_said(
         Next::Due(due) => phase_on(&flight.timing(), geometry, &due),
         Next::Done => Err(over_status(geometry)),
         Next::Illegal => Err(Status::Illegal),
+    }
+}
+
+/// The same, seen where it is said if it is in order.
+fn due_of(
+    alloc: Global,
+    timing: &Timing,
+    channel: &PlainChannel,
+    luns: &[PlainLun],
+    wants: &[PlainWant],
+    geometry: &PlainGeometry,
+    schedule: &PlainSchedule,
+) -> Result<PlainPhase, Status>
+    requires bits { channel.now.rules.plane_bits ≤ 2 }
+    requires counts { list_any has_bad_count luns.now ≡ false }
+    requires few { (length luns.now ≤ 8) × (length wants.now ≤ 8) }
+    ensures due { (by : Option ALengths) → IsMeasured by channel.now luns.now wants.now timing.now
+        → IfOk result (IsDueSaid by channel.now luns.now wants.now geometry.now schedule.now) }
+    ensures none { (by : Option ALengths) → IsMeasured by channel.now luns.now wants.now timing.now
+        → IfErr result (IsNoneDue by channel.now luns.now wants.now geometry.now schedule.now) }
+{
+    let rules = rules(&channel.rules);
+    if let Some(due) = due_in_order(alloc, &rules, channel, luns, wants, schedule) {
+        return phase_on(timing, geometry, &due);
+    }
+    due_in_flight(
+        alloc, timing, rules, channel, luns, wants, geometry, schedule,
+    )
+}
+
+/// The same of a channel whose lengths are all that is said of them.
+fn due_said(
+    alloc: Global,
+    channel: &PlainChannel,
+    luns: &[PlainLun],
+    wants: &[PlainWant],
+    geometry: &PlainGeometry,
+    schedule: &PlainSchedule,
+) -> Result<PlainPhase, Status>
+    ensures due { IfOk result (IsDueSaid None channel.now luns.now wants.now geometry.now schedule.now) }
+    ensures none { IfErr result (IsNoneDue None channel.now luns.now wants.now geometry.now schedule.now) }
+{
+    match timing_of(channel, luns, wants) {
+        Ok(timing) => due_of(alloc, &timing, channel, luns, wants, geometry, schedule),
+        Err(status) => Err(status),
+    }
+}
+
+/// The same with lengths of reads of some sectors.
+fn due_by(
+    alloc: Global,
+    lengths: &PlainLengths,
+    channel: &PlainChannel,
+    luns: &[PlainLun],
+    wants: &[PlainWant],
+    geometry: &PlainGeometry,
+    schedule: &PlainSchedule,
+) -> Result<PlainPhase, Status>
+    ensures due { IfOk result (IsDueSaid (Some lengths.now) channel.now luns.now wants.now geometry.now schedule.now) }
+    ensures none { IfErr result (IsNoneDue (Some lengths.now) channel.now luns.now wants.now geometry.now schedule.now) }
+{
+    match timing_in_flight(alloc, lengths, channel, luns, wants) {
+        Ok(timing) => due_of(alloc, &timing, channel, luns, wants, geometry, schedule),
+        Err(status) => Err(status),
     }
 }
 
@@ -169,9 +241,35 @@ pub extern "C" fn onfi_due(
     schedule: &PlainSchedule,
     phase: &mut PlainPhase,
 ) -> u32
-    ensures { GivesDue channel.now luns.now wants.now geometry.now schedule.now phase.old phase.new result }
+    ensures { GivesDue None channel.now luns.now wants.now geometry.now schedule.now phase.old phase.new result }
 {
     match due_said(alloc, channel, luns, wants, geometry, schedule) {
+        Ok(due) => {
+            *phase = due;
+            0
+        }
+        Err(status) => status.number(),
+    }
+}
+
+/// Gives the phase that is due as [`onfi_due`] does, where reads may put out some sectors: their posts are those of `lengths`.
+///
+/// Answers what `onfi_due` does, `LongSpan` also of these posts, after those of a channel's lengths, and after `BadLun` that of
+/// `NoLengths`; and the phase is as it was.
+#[unsafe(no_mangle)]
+pub extern "C" fn onfi_due_by(
+    alloc: Global,
+    lengths: &PlainLengths,
+    channel: &PlainChannel,
+    luns: &[PlainLun],
+    wants: &[PlainWant],
+    geometry: &PlainGeometry,
+    schedule: &PlainSchedule,
+    phase: &mut PlainPhase,
+) -> u32
+    ensures { GivesDue (Some lengths.now) channel.now luns.now wants.now geometry.now schedule.now phase.old phase.new result }
+{
+    match due_by(alloc, lengths, channel, luns, wants, geometry, schedule) {
         Ok(due) => {
             *phase = due;
             0

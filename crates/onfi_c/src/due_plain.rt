@@ -1,15 +1,16 @@
 //! The phase of least start, where it may run, seen where it is said: only its own group is made.
-ghost use Rattle.std.specs.Prelude.{◌≡◌, ◌≤◌, false, length, IfSome};
+ghost use Rattle.std.specs.Prelude.{◌≡◌, ◌≤◌, false, length, Option, IfSome};
 ghost use Rattle.std.specs.List.{list_any};
 ghost use Rattle.onfi_timing.specs.declared.timing.Timing.{Timing as Lengths};
 ghost use Rattle.onfi_flight.specs.Flight.{Flight, IsDue};
 ghost use Rattle.onfi_flight.specs.Turns.{IsTurn};
 ghost use Rattle.onfi_flight.specs.declared.turn.Turn.TheVariants as turn;
+ghost use Rattle.onfi_c.specs.declared.lengths.PlainLengths.{PlainLengths as ALengths};
 ghost use Rattle.onfi_c.specs.Flights.{IsFlightSaid};
 ghost use Rattle.onfi_c.specs.InOrder.{AreEarly, IsFirst, flight_of, start_of};
 ghost use Rattle.onfi_c.specs.InOrder as order;
-ghost use Rattle.onfi_c.specs.Refused.{AreSaid};
-ghost use Rattle.onfi_c.specs.Said.{AreRules, IsTiming, has_bad_count, states_of};
+ghost use Rattle.onfi_c.specs.Refused.{IsMeasured};
+ghost use Rattle.onfi_c.specs.Said.{AreRules, has_bad_count, states_of};
 
 use crate::channel::PlainChannel;
 use crate::in_order::{HALF, is_in_order, is_odd_schedule};
@@ -136,10 +137,10 @@ pub fn due_in_order(
     schedule: &PlainSchedule,
 ) -> Option<Due>
     requires rules { AreRules channel.now.rules rules.now }
-    requires said { AreSaid channel.now luns.now wants.now }
+    requires counts { list_any has_bad_count luns.now ≡ false }
     requires few { (length luns.now ≤ 8) × (length wants.now ≤ 8) }
-    ensures said { (timing : Lengths) → IsTiming channel.now.timing timing
-        → IfSome result (λ _. IsFlightSaid channel.now luns.now wants.now schedule.now (flight_of timing rules.now channel.now.bus_free luns.now wants.now schedule.now)) }
+    ensures said { (by : Option ALengths) (timing : Lengths) → IsMeasured by channel.now luns.now wants.now timing
+        → IfSome result (λ _. IsFlightSaid by channel.now luns.now wants.now schedule.now (flight_of timing rules.now channel.now.bus_free luns.now wants.now schedule.now)) }
     ensures due { (timing : Lengths) → IfSome result (IsDue (flight_of timing rules.now channel.now.bus_free luns.now wants.now schedule.now)) }
     ensures early { IfSome result (λ _. AreEarly luns.now) }
     ensures even { IfSome result (λ _. order.is_odd_schedule schedule.now ≡ false) }

@@ -1,10 +1,12 @@
 //! Plans that are made better.
+ghost use Rattle.std.specs.Prelude.{None, Some};
 ghost use Rattle.onfi_c.specs.Planned.{GivesPlan};
 ghost use Rattle.onfi_c.specs.Within.{IsNoMemory, IsPlanNear};
 
 use crate::channel::PlainChannel;
+use crate::lengths::PlainLengths;
 use crate::lun::{PlainLun, PlainWant};
-use crate::planning::{give_told, problem_posed};
+use crate::planning::{give_told, problem_posed, problem_posed_by};
 use crate::schedule::PlainWithin;
 use crate::within::tell;
 use onfi_early::Weights;
@@ -46,7 +48,7 @@ pub extern "C" fn onfi_plan_early(
     certificate: &mut [u8],
     bytes: &mut usize,
 ) -> u32
-    ensures { GivesPlan (IsPlanNear slack) IsNoMemory channel.now luns.now wants.now limit plan.old plan.new certificate.old certificate.new bytes.new result }
+    ensures { GivesPlan (IsPlanNear slack) IsNoMemory None channel.now luns.now wants.now limit plan.old plan.new certificate.old certificate.new bytes.new result }
 {
     match problem_posed(alloc, channel, luns, wants, limit) {
         Ok(problem) => give_told(
@@ -56,5 +58,36 @@ pub extern "C" fn onfi_plan_early(
             bytes,
         ),
         Err(status) => give_told(Err(status), plan, certificate, bytes),
+    }
+}
+
+/// Plans the wants of a channel as [`onfi_plan_early`] does, where reads may put out some sectors: their posts are those of
+/// `lengths`.
+///
+/// Answers what [`onfi_plan_within_by`](crate::within::onfi_plan_within_by) does.
+#[unsafe(no_mangle)]
+pub extern "C" fn onfi_plan_early_by(
+    alloc: Global,
+    lengths: &PlainLengths,
+    channel: &PlainChannel,
+    luns: &[PlainLun],
+    wants: &[PlainWant],
+    limit: u32,
+    weights: &PlainWeights,
+    slack: u16,
+    plan: &mut PlainWithin,
+    certificate: &mut [u8],
+    bytes: &mut usize,
+) -> u32
+    ensures { GivesPlan (IsPlanNear slack) IsNoMemory (Some lengths.now) channel.now luns.now wants.now limit plan.old plan.new certificate.old certificate.new bytes.new result }
+{
+    match problem_posed_by(alloc, lengths, channel, luns, wants, limit) {
+        Ok(posed) => give_told(
+            tell(alloc, &posed, &weights.weights(), Some(slack), limit),
+            plan,
+            certificate,
+            bytes,
+        ),
+        Err(refused) => give_told(Err(refused), plan, certificate, bytes),
     }
 }

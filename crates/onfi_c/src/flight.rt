@@ -1,11 +1,12 @@
 //! From what a caller says to what is left of a schedule. No call here asks for memory, and none judges the schedule.
-ghost use Rattle.std.specs.Prelude.{◌≡◌, ◌⊎◌, ◌↔◌, ◌<◌, ◌≤◌, false, length, replicate, IfErr, IfOk, IsTrue};
+ghost use Rattle.std.specs.Prelude.{◌≡◌, ◌⊎◌, ◌↔◌, ◌<◌, ◌≤◌, false, length, replicate, Option, None, IfErr, IfOk, IsTrue};
 ghost use Rattle.std.specs.List.{list_any};
 ghost use Rattle.onfi_problem.specs.Kept.{problem_of as parts_of};
 ghost use Rattle.onfi_problem.specs.Faults.{TellsFault};
 ghost use Rattle.onfi_problem.specs.declared.lun_state.LunState.TheVariants.{Free};
+ghost use Rattle.onfi_c.specs.declared.lengths.PlainLengths.{PlainLengths as ALengths};
 ghost use Rattle.onfi_c.specs.declared.schedule.PlainSchedule.{PlainSchedule as Plan};
-ghost use Rattle.onfi_c.specs.Refused.{AreSaid};
+ghost use Rattle.onfi_c.specs.Refused.{IsMeasured};
 ghost use Rattle.onfi_c.specs.Flights.{IsFlightSaid, IsNoFlight};
 ghost use Rattle.onfi_c.specs.Said as spec;
 
@@ -22,7 +23,7 @@ use onfi_timing::Timing;
 use std::alloc::Global;
 
 /// Whether more is said than a problem may have.
-fn are_many(luns: &[PlainLun], wants: &[PlainWant]) -> bool
+pub fn are_many(luns: &[PlainLun], wants: &[PlainWant]) -> bool
     ensures { IsTrue result ↔ ((8 < length luns.now) ⊎ (8 < length wants.now)) }
 {
     luns.len() > 8 || wants.len() > 8
@@ -47,10 +48,9 @@ pub fn timing_of(
     luns: &[PlainLun],
     wants: &[PlainWant],
 ) -> Result<Timing, Status>
-    ensures timing { IfOk result (λ timing. spec.IsTiming channel.now.timing timing) }
-    ensures said { IfOk result (λ _. AreSaid channel.now luns.now wants.now) }
+    ensures measured { IfOk result (IsMeasured None channel.now luns.now wants.now) }
     ensures few { IfOk result (λ _. (length luns.now ≤ 8) × (length wants.now ≤ 8)) }
-    ensures none { (schedule : Plan) → IfErr result (λ status. IsNoFlight channel.now luns.now wants.now schedule status) }
+    ensures none { (schedule : Plan) → IfErr result (IsNoFlight None channel.now luns.now wants.now schedule) }
 {
     let timing = timing_said(channel, luns, wants)?;
     if are_many(luns, wants) {
@@ -86,14 +86,16 @@ pub fn fill(
     wants: &[PlainWant],
     schedule: &PlainSchedule,
 ) -> Result<(), Status>
-    requires said { AreSaid channel.now luns.now wants.now }
+    requires bits { channel.now.rules.plane_bits ≤ 2 }
+    requires counts { list_any spec.has_bad_count luns.now ≡ false }
     requires few { (length luns.now ≤ 8) × (length wants.now ≤ 8) }
-    requires timing { spec.IsTiming channel.now.timing flight.old.now.timing }
     requires rules { spec.AreRules channel.now.rules flight.old.now.rules }
     requires bus_free { flight.old.now.bus_free ≡ channel.now.bus_free }
     requires idle { flight.old.now.luns ≡ replicate (length luns.now) (Free 0) }
-    ensures said { IfOk result (λ _. IsFlightSaid channel.now luns.now wants.now schedule.now flight.new) }
-    ensures none { IfErr result (λ status. IsNoFlight channel.now luns.now wants.now schedule.now status) }
+    ensures said { (by : Option ALengths) → IsMeasured by channel.now luns.now wants.now flight.old.now.timing
+        → IfOk result (λ _. IsFlightSaid by channel.now luns.now wants.now schedule.now flight.new) }
+    ensures none { (by : Option ALengths) → IsMeasured by channel.now luns.now wants.now flight.old.now.timing
+        → IfErr result (IsNoFlight by channel.now luns.now wants.now schedule.now) }
 {
     set_luns(alloc, flight, channel.rules.plane_bits, luns);
     let wants = few_wants_of(channel.rules.plane_bits, wants);

@@ -24,7 +24,7 @@ pub const HALF: u64 = 1 << 61;
 fn has_page(want: &PlainWant) -> bool
     ensures { result ≡ spec.has_page want.now }
 {
-    want.kind > 1 && want.page != 0
+    want.kind % 32 > 1 && want.page != 0
 }
 
 /// Whether one of them is.

@@ -9,9 +9,10 @@ use crate::device::PlainGeometry;
 use crate::due::{over_status, phase_on};
 use crate::lun::PlainLun;
 use crate::phase::PlainPhase;
-use crate::queue::{PlainQueue, waiting_of};
+use crate::queue::{PlainQueue, list_waiting};
 use crate::said::{few_states_of, rules, timing_said};
 use crate::status::Status;
+use arrayvec::ArrayVec;
 use onfi_flight::Due;
 use onfi_group::Group;
 use onfi_problem::LunState;
@@ -114,7 +115,8 @@ pub fn next_due(
     let plane_bits = channel.rules.plane_bits;
     let states = few_states_of(alloc, plane_bits, luns);
     let states = &states[..luns.len()];
-    let waiting = waiting_of(plane_bits, luns, queue);
+    let mut waiting = ArrayVec::new();
+    list_waiting(&mut waiting, plane_bits, luns, queue);
     let next = match next_phase_of(
         &timing,
         channel.bus_free,

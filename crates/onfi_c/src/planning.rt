@@ -1,12 +1,14 @@
 //! Plans of problems that plain structs say.
-ghost use Rattle.std.specs.Prelude.{◌≡◌, ◌≤◌, IfOk, IfErr};
+ghost use Rattle.std.specs.Prelude.{◌≡◌, ◌≤◌, None, Some, IfOk, IfErr};
 ghost use Rattle.onfi_cert.specs.Text.{text_of};
 ghost use Rattle.onfi_c.specs.Planned.{GivesAsked, GivesPlan, IsPlan, IsPosed, IsUngiven, IsUnplanned, IsUnposed};
 
 use crate::channel::PlainChannel;
+use crate::lengths::PlainLengths;
 use crate::lun::{PlainLun, PlainWant};
 use crate::room::give;
 use crate::said::problem_of;
+use crate::said_lengths::problem_by;
 use crate::schedule::PlainPlan;
 use crate::status::Status;
 use crate::told::Told;
@@ -25,14 +27,33 @@ pub fn problem_posed(
     wants: &[PlainWant],
     limit: u32,
 ) -> Result<Problem, Status>
-    ensures posed { IfOk result (λ p. IsPosed channel.now luns.now wants.now limit p.problem) }
+    ensures posed { IfOk result (λ p. IsPosed None channel.now luns.now wants.now limit p.problem) }
     ensures begun { IfOk result (λ p. p.all ≡ p.problem.wants) }
-    ensures none { IfErr result (λ status. IsUnposed channel.now luns.now wants.now limit status) }
+    ensures none { IfErr result (IsUnposed None channel.now luns.now wants.now limit) }
 {
     if Limit::of(limit).is_none() {
         return Err(Status::BadLimit);
     }
     problem_of(alloc, channel, luns, wants)
+}
+
+/// The same with lengths of reads of some sectors.
+pub fn problem_posed_by(
+    alloc: Global,
+    lengths: &PlainLengths,
+    channel: &PlainChannel,
+    luns: &[PlainLun],
+    wants: &[PlainWant],
+    limit: u32,
+) -> Result<Problem, Status>
+    ensures posed { IfOk result (λ p. IsPosed (Some lengths.now) channel.now luns.now wants.now limit p.problem) }
+    ensures begun { IfOk result (λ p. p.all ≡ p.problem.wants) }
+    ensures none { IfErr result (IsUnposed (Some lengths.now) channel.now luns.now wants.now limit) }
+{
+    let Some(_) = Limit::of(limit) else {
+        return Err(Status::BadLimit);
+    };
+    problem_by(alloc, lengths, channel, luns, wants)
 }
 
 /// Gives a text where there is room for any, and says how many bytes it has.
@@ -118,7 +139,7 @@ pub extern "C" fn onfi_plan(
     certificate: &mut [u8],
     bytes: &mut usize,
 ) -> u32
-    ensures { GivesPlan IsPlan IsUnplanned channel.now luns.now wants.now limit plan.old plan.new certificate.old certificate.new bytes.new result }
+    ensures { GivesPlan IsPlan IsUnplanned None channel.now luns.now wants.now limit plan.old plan.new certificate.old certificate.new bytes.new result }
 {
     match problem_posed(alloc, channel, luns, wants, limit) {
         Ok(problem) => give_told(tell(alloc, &problem, limit), plan, certificate, bytes),

@@ -4,11 +4,12 @@ ghost use Rattle.onfi_c.specs.Queue as spec;
 ghost use Rattle.onfi_steady.specs.Waiting.{greatest_number};
 
 use crate::lun::{PlainLun, PlainWant};
-use crate::said::want_of;
+use crate::said::want_with;
 use crate::status::Status;
 use arrayvec::ArrayVec;
 use onfi_request::Want;
 use onfi_steady::Waiter;
+use onfi_timing::Kind;
 
 /// A request that waits, and how many groups with a later request began on its LUN since it was accepted.
 #[repr(C)]
@@ -41,13 +42,26 @@ impl PlainQueue {
     }
 }
 
+/// The kind of a number in a queue: a read puts out all of its page, and what is no read or program is an erase.
+fn queued_kind(kind: u8) -> Kind
+    ensures { result ≡ spec.queued_kind kind }
+{
+    if kind == 0 {
+        return Kind::Read;
+    }
+    if kind == 1 {
+        return Kind::Program;
+    }
+    Kind::Erase
+}
+
 /// A request that waits.
 fn waiter_of(plane_bits: u8, said: &PlainWaiter) -> Waiter
     requires { plane_bits ≤ 2 }
     ensures { result ≡ spec.waiter_of plane_bits said.now }
 {
     Waiter {
-        want: want_of(plane_bits, &said.want),
+        want: want_with(plane_bits, &said.want, queued_kind(said.want.kind)),
         passed: said.passed,
     }
 }
@@ -91,16 +105,20 @@ fn list_shown(
     }
 }
 
-/// What waits in a queue for LUNs of the channel that run nothing.
-pub fn waiting_of(plane_bits: u8, luns: &[PlainLun], queue: &PlainQueue) -> ArrayVec<Waiter, 64>
+/// Puts what waits in a queue for LUNs of the channel that run nothing, in its order, into the empty list.
+pub fn list_waiting(
+    list: &mut ArrayVec<Waiter, 64>,
+    plane_bits: u8,
+    luns: &[PlainLun],
+    queue: &PlainQueue,
+)
+    requires none { list.old.items ≡ [] }
     requires bits { plane_bits ≤ 2 }
     requires few { queue.now.count ≤ 64 }
-    ensures { result.items ≡ spec.shown_of plane_bits luns.now (spec.waiting_in queue.now) }
+    ensures { list.new.items ≡ spec.shown_of plane_bits luns.now (spec.waiting_in queue.now) }
 {
-    let mut list = ArrayVec::new();
     let waiters = &queue.waiter[..usize::from(queue.count)];
-    list_shown(&mut list, plane_bits, luns, waiters);
-    list
+    list_shown(list, plane_bits, luns, waiters);
 }
 
 /// The greatest of the numbers of these members.

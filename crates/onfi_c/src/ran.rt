@@ -1,11 +1,15 @@
 //! What stands after a phase, in place of what stood before it.
-ghost use Rattle.std.specs.Prelude.{◌≡◌, ◌↔◌, ◌++◌, ◌<◌, ◌≤◌, drop, length, map, take, IfOk, IfErr, IfSome, IsTrue};
+ghost use Rattle.std.specs.Prelude.{◌≡◌, ◌↔◌, ◌++◌, ◌<◌, ◌≤◌, false, drop, length, map, take, Option, None, Some, IfOk, IfErr, IfSome, IsTrue};
+ghost use Rattle.std.specs.List.{list_any};
+ghost use Rattle.onfi_c.specs.declared.lengths.PlainLengths.{PlainLengths as ALengths};
 ghost use Rattle.onfi_flight.specs.Flight.{IsDue, after_late};
 ghost use Rattle.onfi_problem.specs.Left.{InLimits};
 ghost use Rattle.onfi_problem.specs.Problem.{HasLengths};
 ghost use Rattle.onfi_c.specs.Ran.{GivesRan, IsLate, IsNotRan, IsRan, Kept, kept_behind};
 ghost use Rattle.onfi_c.specs.Ran as spec;
 ghost use Rattle.onfi_c.specs.RanPlain.{IsStep};
+ghost use Rattle.onfi_c.specs.Refused.{IsMeasured};
+ghost use Rattle.onfi_c.specs.Said.{has_bad_count};
 ghost use Rattle.onfi_c.specs.Written.{filled, written_want};
 ghost use Rattle.onfi_c.specs.declared.status.Status.TheVariants.{Clock};
 
@@ -13,9 +17,11 @@ use crate::channel::PlainChannel;
 use crate::due_plain::due_in_order;
 use crate::flight::{fault_of, fill, timing_of};
 use crate::in_order::HALF;
+use crate::lengths::PlainLengths;
 use crate::lun::{PlainLun, PlainWant};
 use crate::ran_plain::{delay_schedule, lun_behind, wants_left};
 use crate::said::rules;
+use crate::said_lengths::timing_in_flight;
 use crate::schedule::PlainSchedule;
 use crate::status::Status;
 use crate::written::{self, plain_want, plain_wants};
@@ -24,6 +30,7 @@ use onfi_flight::{Due, Flight, Next};
 use onfi_group::phase_length;
 use onfi_problem::LunState;
 use onfi_request::Want;
+use onfi_timing::Timing;
 use std::alloc::Global;
 
 /// What stands after a phase.
@@ -136,9 +143,10 @@ pub fn is_due(due: &Due, lun: u8, number: u8) -> bool
     due.lun == lun && due.phase == number
 }
 
-/// What stands after the phase that is due of what is said, if it is this one.
+/// What stands after the phase that is due of what is said, with these lengths of all that is put out, if it is this one.
 fn ran_said(
     alloc: Global,
+    timing: &Timing,
     channel: &PlainChannel,
     luns: &[PlainLun],
     wants: &[PlainWant],
@@ -147,19 +155,21 @@ fn ran_said(
     number: u8,
     started: u64,
 ) -> Result<Behind, Status>
-    ensures ran { let old : Kept = record { channel = channel.now; luns = luns.now; wants = wants.now; schedule = schedule.now } in
+    requires bits { channel.now.rules.plane_bits ≤ 2 }
+    requires counts { list_any has_bad_count luns.now ≡ false }
+    requires few { (length luns.now ≤ 8) × (length wants.now ≤ 8) }
+    requires measured { (by : Option ALengths) × IsMeasured by channel.now luns.now wants.now timing.now }
+    ensures ran { (by : Option ALengths) → IsMeasured by channel.now luns.now wants.now timing.now
+        → let old : Kept = record { lengths = by; channel = channel.now; luns = luns.now; wants = wants.now; schedule = schedule.now } in
         IfOk result (λ b. IsRan old (kept_behind old lun b) lun number started) }
-    ensures there { IfOk result (λ b. lun < length luns.now) }
-    ensures fewer { IfOk result (λ b. length b.wants.items ≤ length wants.now) }
-    ensures none { let old : Kept = record { channel = channel.now; luns = luns.now; wants = wants.now; schedule = schedule.now } in
-        IfErr result (λ status. IsNotRan old lun number started status) }
+    ensures there { (by : Option ALengths) → IsMeasured by channel.now luns.now wants.now timing.now → IfOk result (λ b. lun < length luns.now) }
+    ensures fewer { (by : Option ALengths) → IsMeasured by channel.now luns.now wants.now timing.now → IfOk result (λ b. length b.wants.items ≤ length wants.now) }
+    ensures none { (by : Option ALengths) → IsMeasured by channel.now luns.now wants.now timing.now
+        → let old : Kept = record { lengths = by; channel = channel.now; luns = luns.now; wants = wants.now; schedule = schedule.now } in
+        IfErr result (IsNotRan old lun number started) }
 {
-    let timing = match timing_of(channel, luns, wants) {
-        Ok(timing) => timing,
-        Err(status) => return Err(status),
-    };
     let rules = rules(&channel.rules);
-    let mut flight = Flight::idle(alloc, timing, rules, channel.bus_free, luns.len() as u8);
+    let mut flight = Flight::idle(alloc, *timing, rules, channel.bus_free, luns.len() as u8);
     match fill(alloc, &mut flight, channel, luns, wants, schedule) {
         Ok(()) => {}
         Err(status) => return Err(status),
@@ -197,9 +207,11 @@ struct Step {
     lun: PlainLun,
 }
 
-/// The phase that is due of what is said, if it is this one, where all is in order, and so it is once this one ran from then on.
+/// The phase that is due of what is said, with these lengths of all that is put out, if it is this one, where all is in order,
+/// and so it is once this one ran from then on.
 fn step_in_order(
     alloc: Global,
+    timing: &Timing,
     channel: &PlainChannel,
     luns: &[PlainLun],
     wants: &[PlainWant],
@@ -208,19 +220,108 @@ fn step_in_order(
     number: u8,
     started: u64,
 ) -> Option<Step>
-    ensures { IfSome result (IsStep channel.now luns.now wants.now schedule.now lun number started) }
+    requires bits { channel.now.rules.plane_bits ≤ 2 }
+    requires counts { list_any has_bad_count luns.now ≡ false }
+    requires few { (length luns.now ≤ 8) × (length wants.now ≤ 8) }
+    requires measured { (by : Option ALengths) × IsMeasured by channel.now luns.now wants.now timing.now }
+    ensures { (by : Option ALengths) → IsMeasured by channel.now luns.now wants.now timing.now
+        → IfSome result (IsStep by channel.now luns.now wants.now schedule.now lun number started) }
 {
-    let Ok(timing) = timing_of(channel, luns, wants) else {
-        return None;
-    };
     let rules = rules(&channel.rules);
     let due = due_in_order(alloc, &rules, channel, luns, wants, schedule)?;
     if !is_due(&due, lun, number) || started < due.start || started >= HALF {
         return None;
     }
-    let ended = started + phase_length(&timing, due.group.members(), usize::from(due.phase));
-    let lun = lun_behind(&timing, luns, &due, ended);
+    let ended = started + phase_length(timing, due.group.members(), usize::from(due.phase));
+    let lun = lun_behind(timing, luns, &due, ended);
     Some(Step { due, ended, lun })
+}
+
+/// Has all that is said, with these lengths of all that is put out, be what stands after the phase that is due: a flight is made
+/// of it.
+// What comes of it has some thousand bytes, which a caller whose phase is in order need not clear.
+#[inline(never)]
+fn run_in_flight(
+    alloc: Global,
+    timing: &Timing,
+    channel: &mut PlainChannel,
+    luns: &mut [PlainLun],
+    wants: &mut [PlainWant; 8],
+    count: &mut usize,
+    schedule: &mut PlainSchedule,
+    lun: u8,
+    number: u8,
+    started: u64,
+) -> u32
+    requires bits { channel.old.rules.plane_bits ≤ 2 }
+    requires counts { list_any has_bad_count luns.old ≡ false }
+    requires few { (length luns.old ≤ 8) × (count.old ≤ 8) }
+    requires measured { (by : Option ALengths) × IsMeasured by channel.old luns.old (take count.old wants.old) timing.now }
+    ensures { (by : Option ALengths) → IsMeasured by channel.old luns.old (take count.old wants.old) timing.now → GivesRan
+        (record { lengths = by; channel = channel.old; luns = luns.old; wants = take count.old wants.old; schedule = schedule.old })
+        (record { lengths = by; channel = channel.new; luns = luns.new; wants = take count.new wants.new; schedule = schedule.new })
+        wants.old wants.new count.old count.new lun number started result }
+{
+    match ran_said(
+        alloc,
+        timing,
+        channel,
+        luns,
+        &wants[..*count],
+        schedule,
+        lun,
+        number,
+        started,
+    ) {
+        Ok(behind) => {
+            channel.bus_free = behind.bus_free;
+            luns[usize::from(lun)] = behind.lun;
+            *count = behind.wants.len();
+            put(wants, behind.wants.as_slice());
+            *schedule = behind.schedule;
+            0
+        }
+        Err(status) => status.number(),
+    }
+}
+
+/// The same, made where it is said if it is in order.
+fn run_due(
+    alloc: Global,
+    timing: &Timing,
+    channel: &mut PlainChannel,
+    luns: &mut [PlainLun],
+    wants: &mut [PlainWant; 8],
+    count: &mut usize,
+    schedule: &mut PlainSchedule,
+    lun: u8,
+    number: u8,
+    started: u64,
+) -> u32
+    requires bits { channel.old.rules.plane_bits ≤ 2 }
+    requires counts { list_any has_bad_count luns.old ≡ false }
+    requires few { (length luns.old ≤ 8) × (count.old ≤ 8) }
+    requires measured { (by : Option ALengths) × IsMeasured by channel.old luns.old (take count.old wants.old) timing.now }
+    ensures { (by : Option ALengths) → IsMeasured by channel.old luns.old (take count.old wants.old) timing.now → GivesRan
+        (record { lengths = by; channel = channel.old; luns = luns.old; wants = take count.old wants.old; schedule = schedule.old })
+        (record { lengths = by; channel = channel.new; luns = luns.new; wants = take count.new wants.new; schedule = schedule.new })
+        wants.old wants.new count.old count.new lun number started result }
+{
+    let waiting = &wants[..*count];
+    if let Some(step) = step_in_order(
+        alloc, timing, channel, luns, waiting, schedule, lun, number, started,
+    ) {
+        let left = wants_left(&step.due, waiting);
+        *schedule = delay_schedule(started - step.due.start, schedule, &step.due);
+        channel.bus_free = step.ended;
+        luns[usize::from(lun)] = step.lun;
+        *count = left.len();
+        put(wants, left.as_slice());
+        return 0;
+    }
+    run_in_flight(
+        alloc, timing, channel, luns, wants, count, schedule, lun, number, started,
+    )
 }
 
 /// What stands after the phase that is due, once it ran from `started` on, in ns, at or after its start by the schedule:
@@ -246,36 +347,51 @@ pub extern "C" fn onfi_ran(
     started: u64,
 ) -> u32
     ensures { GivesRan
-        (record { channel = channel.old; luns = luns.old; wants = take count.old wants.old; schedule = schedule.old })
-        (record { channel = channel.new; luns = luns.new; wants = take count.new wants.new; schedule = schedule.new })
+        (record { lengths = None; channel = channel.old; luns = luns.old; wants = take count.old wants.old; schedule = schedule.old })
+        (record { lengths = None; channel = channel.new; luns = luns.new; wants = take count.new wants.new; schedule = schedule.new })
         wants.old wants.new count.old count.new lun number started result }
 {
     if *count > 8 {
         return Status::TooMany.number();
     }
-    let waiting = &wants[..*count];
-    if let Some(step) = step_in_order(
-        alloc, channel, luns, waiting, schedule, lun, number, started,
-    ) {
-        let left = wants_left(&step.due, waiting);
-        *schedule = delay_schedule(started - step.due.start, schedule, &step.due);
-        channel.bus_free = step.ended;
-        luns[usize::from(lun)] = step.lun;
-        *count = left.len();
-        put(wants, left.as_slice());
-        return 0;
+    match timing_of(channel, luns, &wants[..*count]) {
+        Ok(timing) => run_due(
+            alloc, &timing, channel, luns, wants, count, schedule, lun, number, started,
+        ),
+        Err(status) => status.number(),
     }
-    match ran_said(
-        alloc, channel, luns, waiting, schedule, lun, number, started,
-    ) {
-        Ok(behind) => {
-            channel.bus_free = behind.bus_free;
-            luns[usize::from(lun)] = behind.lun;
-            *count = behind.wants.len();
-            put(wants, behind.wants.as_slice());
-            *schedule = behind.schedule;
-            0
-        }
+}
+
+/// Makes of all that is said what stands after the phase that is due as [`onfi_ran`] does, where reads may put out some sectors: their
+/// posts are those of `lengths`.
+///
+/// Answers what `onfi_ran` does, `LongSpan` also of these posts, after those of a channel's lengths, and after `BadLun` that of
+/// `NoLengths`; and all is as it was.
+#[unsafe(no_mangle)]
+pub extern "C" fn onfi_ran_by(
+    alloc: Global,
+    lengths: &PlainLengths,
+    channel: &mut PlainChannel,
+    luns: &mut [PlainLun],
+    wants: &mut [PlainWant; 8],
+    count: &mut usize,
+    schedule: &mut PlainSchedule,
+    lun: u8,
+    number: u8,
+    started: u64,
+) -> u32
+    ensures { GivesRan
+        (record { lengths = Some lengths.now; channel = channel.old; luns = luns.old; wants = take count.old wants.old; schedule = schedule.old })
+        (record { lengths = Some lengths.now; channel = channel.new; luns = luns.new; wants = take count.new wants.new; schedule = schedule.new })
+        wants.old wants.new count.old count.new lun number started result }
+{
+    if 8 < *count {
+        return Status::TooMany.number();
+    }
+    match timing_in_flight(alloc, lengths, channel, luns, &wants[..*count]) {
+        Ok(timing) => run_due(
+            alloc, &timing, channel, luns, wants, count, schedule, lun, number, started,
+        ),
         Err(status) => status.number(),
     }
 }

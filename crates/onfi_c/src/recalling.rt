@@ -1,5 +1,5 @@
 //! Plans by a search that remembers states, and checks by certificates that do so.
-ghost use Rattle.std.specs.Prelude.{◌≡◌, ◌≤◌, IfOk, IfErr};
+ghost use Rattle.std.specs.Prelude.{◌≡◌, ◌≤◌, None, IfOk, IfErr};
 ghost use Rattle.onfi_schedule.specs.Schedule.{finish};
 ghost use Rattle.onfi_planners.specs.declared.chosen.ChosenPlanner.TheVariants.{Remembering};
 ghost use Rattle.onfi_script.specs.Answer.{IsProved};
@@ -71,7 +71,7 @@ pub extern "C" fn onfi_plan_known(
     certificate: &mut [u8],
     bytes: &mut usize,
 ) -> u32
-    ensures { GivesPlan IsRecalled IsUnplanned channel.now luns.now wants.now limit plan.old plan.new certificate.old certificate.new bytes.new result }
+    ensures { GivesPlan IsRecalled IsUnplanned None channel.now luns.now wants.now limit plan.old plan.new certificate.old certificate.new bytes.new result }
 {
     match problem_posed(alloc, channel, luns, wants, limit) {
         Ok(problem) => give_told(tell(alloc, &problem, limit), plan, certificate, bytes),
@@ -106,7 +106,7 @@ pub extern "C" fn onfi_check_known(
     certificate: &[u8],
     verdict: &mut PlainVerdict,
 ) -> u32
-    ensures { GivesVerdict (IsProved Remembering) IsKnownFaultTold channel.now luns.now wants.now schedule.now certificate.now verdict.new result }
+    ensures { GivesVerdict (IsProved Remembering) IsKnownFaultTold None channel.now luns.now wants.now schedule.now certificate.now verdict.new result }
 {
     match said_of(alloc, channel, luns, wants, schedule) {
         Ok(stand) => give_verdict(judge(alloc, &stand, certificate), verdict),

@@ -1,12 +1,14 @@
 //! Plans by a rule, without a search.
-ghost use Rattle.std.specs.Prelude.{◌≡◌, IfOk, IfErr};
+ghost use Rattle.std.specs.Prelude.{◌≡◌, None, Some, IfOk, IfErr};
 ghost use Rattle.onfi_c.specs.Ruled.{GivesByRule, IsPlanByRule};
 ghost use Rattle.onfi_c.specs.declared.status.Status.TheVariants.{Memory};
 
 use crate::channel::PlainChannel;
+use crate::lengths::PlainLengths;
 use crate::lun::{PlainLun, PlainWant};
 use crate::planning::give_told;
 use crate::said::problem_of;
+use crate::said_lengths::problem_by;
 use crate::schedule::PlainWithin;
 use crate::status::Status;
 use crate::told::Told;
@@ -17,6 +19,8 @@ use onfi_steady::plan_by_rule_with_text;
 use std::alloc::Global;
 
 /// The plan by the rule, as it is given.
+// A plan has some thousand bytes, and each call that isn't inlined hands it on by a copy.
+#[inline(always)]
 fn tell(alloc: Global, problem: &Problem) -> Result<Told<PlainWithin>, Status>
     requires begun { problem.now.all ≡ problem.now.problem.wants }
     ensures plan { IfOk result (λ t. IsPlanByRule problem.now.problem t.plan t.text.items) }
@@ -61,10 +65,33 @@ pub extern "C" fn onfi_plan_rule(
     certificate: &mut [u8],
     bytes: &mut usize,
 ) -> u32
-    ensures { GivesByRule channel.now luns.now wants.now plan.old plan.new certificate.old certificate.new bytes.new result }
+    ensures { GivesByRule None channel.now luns.now wants.now plan.old plan.new certificate.old certificate.new bytes.new result }
 {
     match problem_of(alloc, channel, luns, wants) {
         Ok(problem) => give_told(tell(alloc, &problem), plan, certificate, bytes),
         Err(status) => give_told(Err(status), plan, certificate, bytes),
+    }
+}
+
+/// Plans the wants of a channel by the rule as [`onfi_plan_rule`] does, where reads may put out some sectors: their posts are those
+/// of `lengths`.
+///
+/// Answers what [`onfi_plan_within_by`](crate::within::onfi_plan_within_by) does, but for the number of `BadLimit`.
+#[unsafe(no_mangle)]
+pub extern "C" fn onfi_plan_rule_by(
+    alloc: Global,
+    lengths: &PlainLengths,
+    channel: &PlainChannel,
+    luns: &[PlainLun],
+    wants: &[PlainWant],
+    plan: &mut PlainWithin,
+    certificate: &mut [u8],
+    bytes: &mut usize,
+) -> u32
+    ensures { GivesByRule (Some lengths.now) channel.now luns.now wants.now plan.old plan.new certificate.old certificate.new bytes.new result }
+{
+    match problem_by(alloc, lengths, channel, luns, wants) {
+        Ok(posed) => give_told(tell(alloc, &posed), plan, certificate, bytes),
+        Err(refused) => give_told(Err(refused), plan, certificate, bytes),
     }
 }

@@ -1,15 +1,17 @@
 //! From what a caller says to a problem.
-ghost use Rattle.std.specs.Prelude.{◌≡◌, ◌⊎◌, ◌≤◌, Bool, false, true, length, replicate, IfOk, IfErr, MatchResult};
+ghost use Rattle.std.specs.Prelude.{◌≡◌, ◌⊎◌, ◌≤◌, Bool, false, true, length, replicate, Option, None, Some, IfOk, IfErr, MatchResult};
 ghost use Rattle.std.specs.List.{list_any};
+ghost use Rattle.onfi_c.specs.declared.lengths.PlainLengths.{PlainLengths as ALengths};
 ghost use Rattle.onfi_c.specs.Said as spec;
 ghost use Rattle.onfi_c.specs.Written.{filled};
 ghost use Rattle.onfi_problem.specs.declared.lun_state.LunState.TheVariants.{Free};
-ghost use Rattle.onfi_c.specs.Refused.{AreBadSpans, AreGoodSpans, IsBadTiming, IsGoodTiming, IsBadProblem, IsBadSaid, IsRefused, IsUnsaid, AreSaid};
+ghost use Rattle.onfi_c.specs.Refused.{AreBadSpans, AreGoodSpans, AreSaid, IsBadProblem, IsBadSaid, IsBadTiming, IsGoodTiming, IsMeasured, IsRefused, IsUnsaid};
 ghost use Rattle.onfi_problem.specs.Kept.{problem_of as parts_of};
 ghost use Rattle.onfi_problem.specs.Problem.{HasLengths};
 ghost use Rattle.onfi_c.specs.declared.status.Status.TheVariants.{Memory};
 
 use crate::channel::{PlainChannel, PlainRules, PlainSpans, PlainTiming};
+use crate::lengths::PlainLengths;
 use crate::lun::{PlainLun, PlainWant};
 use crate::status::Status;
 use arrayvec::ArrayVec;
@@ -32,14 +34,24 @@ fn spans(said: &PlainSpans) -> Result<Spans, Status>
 }
 
 /// The lengths of each kind.
-fn timing(said: &PlainTiming) -> Result<Timing, Status>
-    ensures ok { IfOk result (λ timing. spec.IsTiming said.now timing × IsGoodTiming said.now) }
-    ensures err { IfErr result (λ status. IsBadTiming said.now status) }
+pub fn timing(said: &PlainTiming) -> Result<Timing, Status>
+    ensures ok { IfOk result (λ timing. spec.IsTiming None said.now timing × IsGoodTiming None said.now) }
+    ensures err { (by : Option ALengths) → IfErr result (λ status. IsBadTiming by said.now status) }
 {
     let read = spans(&said.read)?;
     let program = spans(&said.program)?;
     let erase = spans(&said.erase)?;
     Ok(Timing::new(read, program, erase))
+}
+
+/// A read of so many sectors; of all of its page where there are none.
+fn read_of(count: u8) -> Kind
+    ensures { result ≡ spec.read_of count }
+{
+    if count == 0 {
+        return Kind::Read;
+    }
+    Kind::ReadSectors { first: 0, count }
 }
 
 /// The kind of a number.
@@ -49,10 +61,26 @@ fn kind_of(kind: u8) -> Kind
     if kind == 0 {
         return Kind::Read;
     }
-    if kind == 1 {
-        return Kind::Program;
+    match kind % 32 {
+        0 => read_of(kind / 32 % 8),
+        1 => Kind::Program,
+        _ => Kind::Erase,
     }
-    Kind::Erase
+}
+
+/// A request of that kind.
+pub fn want_with(plane_bits: u8, said: &PlainWant, kind: Kind) -> Want
+    requires { plane_bits ≤ 2 }
+    ensures { result ≡ record (spec.want_of plane_bits said.now) { kind = kind } }
+{
+    Want {
+        id: said.id,
+        kind,
+        lun: said.lun,
+        plane: plane_at(plane_bits, said.block),
+        block: said.block,
+        page: said.page,
+    }
 }
 
 /// A request.
@@ -60,14 +88,7 @@ pub fn want_of(plane_bits: u8, said: &PlainWant) -> Want
     requires { plane_bits ≤ 2 }
     ensures { result ≡ spec.want_of plane_bits said.now }
 {
-    Want {
-        id: said.id,
-        kind: kind_of(said.kind),
-        lun: said.lun,
-        plane: plane_at(plane_bits, said.block),
-        block: said.block,
-        page: said.page,
-    }
+    want_with(plane_bits, said, kind_of(said.kind))
 }
 
 /// At most eight requests; this takes no memory.
@@ -160,7 +181,7 @@ pub fn few_states_of(alloc: Global, plane_bits: u8, said: &[PlainLun]) -> [LunSt
 }
 
 /// Whether a running group has more members than there are places.
-fn have_bad_count(said: &[PlainLun]) -> bool
+pub fn have_bad_count(said: &[PlainLun]) -> bool
     ensures { result ≡ list_any spec.has_bad_count said.now }
 {
     said.iter().any(|lun| lun.members > 4)
@@ -168,14 +189,14 @@ fn have_bad_count(said: &[PlainLun]) -> bool
 
 /// Whether a request is of no kind.
 fn has_bad_kind(said: &[PlainWant]) -> bool
-    ensures { result ≡ list_any spec.has_bad_kind said.now }
+    ensures { result ≡ list_any (spec.has_bad_kind None) said.now }
 {
     said.iter().any(|want| want.kind > 2)
 }
 
 /// Whether a member of a running group is of no kind.
 fn has_bad_member(said: &PlainLun) -> bool
-    ensures { result ≡ spec.has_bad_member said.now }
+    ensures { result ≡ spec.has_bad_member None said.now }
 {
     said.member
         .iter()
@@ -185,7 +206,7 @@ fn has_bad_member(said: &PlainLun) -> bool
 
 /// The same of several LUNs.
 fn have_bad_member(said: &[PlainLun]) -> bool
-    ensures { result ≡ list_any spec.has_bad_member said.now }
+    ensures { result ≡ list_any (spec.has_bad_member None) said.now }
 {
     said.iter().any(|lun| has_bad_member(lun))
 }
@@ -198,40 +219,41 @@ pub fn rules(said: &PlainRules) -> Rules
     Rules::new(said.read, said.write, said.strict, said.plane_bits)
 }
 
-/// The problem of these parts, which lack no lengths.
+/// The problem of these parts.
 fn open(
     alloc: Global,
-    timing: Timing,
+    timing: &Timing,
     rules: Rules,
     bus_free: u64,
     luns: &[LunState],
     wants: &[Want],
 ) -> Result<Problem, Status>
-    requires lengths { HasLengths (parts_of timing rules bus_free luns.now wants.now) }
-    ensures parts { IfOk result (λ p. p.problem ≡ parts_of timing rules bus_free luns.now wants.now) }
+    ensures parts { IfOk result (λ p. p.problem ≡ parts_of timing.now rules bus_free luns.now wants.now) }
     ensures begun { IfOk result (λ p. p.all ≡ p.problem.wants) }
-    ensures bad { IfErr result (λ status. (status ≡ Memory) ⊎ IsBadProblem (parts_of timing rules bus_free luns.now wants.now) status) }
+    ensures bad { HasLengths (parts_of timing.now rules bus_free luns.now wants.now)
+        → IfErr result (λ status. (status ≡ Memory) ⊎ IsBadProblem false (parts_of timing.now rules bus_free luns.now wants.now) status) }
 {
-    match Problem::new(alloc, timing, rules, bus_free, luns, wants) {
+    match Problem::new(alloc, *timing, rules, bus_free, luns, wants) {
         Ok(problem) => Ok(problem),
         Err(fault) => Err(Status::of_problem(fault)),
     }
 }
 
-/// The same of parts whose numbers are in their ranges.
-fn open_said(
+/// The same of what is said, whose numbers are in their ranges, with these lengths of all that is put out.
+// A problem has some thousand bytes, and each call that isn't inlined hands it on by a copy.
+#[inline(always)]
+pub fn open_said(
     alloc: Global,
-    timing: Timing,
+    timing: &Timing,
     channel: &PlainChannel,
     luns: &[PlainLun],
     wants: &[PlainWant],
 ) -> Result<Problem, Status>
-    requires timing { spec.IsTiming channel.now.timing timing }
     requires bits { channel.now.rules.plane_bits ≤ 2 }
     requires members { list_any spec.has_bad_count luns.now ≡ false }
-    ensures said { IfOk result (λ p. spec.IsSaid channel.now luns.now wants.now p.problem) }
+    ensures said { (by : Option ALengths) → IsMeasured by channel.now luns.now wants.now timing.now → IfOk result (λ p. spec.IsSaid by channel.now luns.now wants.now p.problem) }
     ensures begun { IfOk result (λ p. p.all ≡ p.problem.wants) }
-    ensures bad { IfErr result (λ status. IsBadSaid channel.now luns.now wants.now status) }
+    ensures bad { (by : Option ALengths) → IsMeasured by channel.now luns.now wants.now timing.now → IfErr result (IsBadSaid by channel.now luns.now wants.now) }
 {
     let plane_bits = channel.rules.plane_bits;
     let Ok(luns) = states_of(alloc, plane_bits, luns) else {
@@ -256,11 +278,14 @@ pub fn timing_said(
     luns: &[PlainLun],
     wants: &[PlainWant],
 ) -> Result<Timing, Status>
-    ensures timing { IfOk result (λ timing. spec.IsTiming channel.now.timing timing) }
-    ensures said { IfOk result (λ _. AreSaid channel.now luns.now wants.now) }
-    ensures unsaid { IfErr result (λ status. IsUnsaid channel.now luns.now wants.now status) }
+    ensures timing { IfOk result (λ timing. spec.IsTiming None channel.now.timing timing) }
+    ensures said { IfOk result (λ _. AreSaid None channel.now luns.now wants.now) }
+    ensures unsaid { IfErr result (IsUnsaid None channel.now luns.now wants.now) }
 {
-    let timing = timing(&channel.timing)?;
+    let timing = match timing(&channel.timing) {
+        Ok(timing) => timing,
+        Err(status) => return Err(status),
+    };
     if channel.rules.plane_bits > 2 {
         return Err(Status::BadPlaneBits);
     }
@@ -280,12 +305,13 @@ pub fn problem_of(
     luns: &[PlainLun],
     wants: &[PlainWant],
 ) -> Result<Problem, Status>
-    ensures said { IfOk result (λ p. spec.IsSaid channel.now luns.now wants.now p.problem) }
+    ensures said { IfOk result (λ p. spec.IsSaid None channel.now luns.now wants.now p.problem) }
+    ensures lengths { IfOk result (λ _. spec.have_lacking None luns.now wants.now ≡ false) }
     ensures begun { IfOk result (λ p. p.all ≡ p.problem.wants) }
-    ensures refused { IfErr result (λ status. IsRefused channel.now luns.now wants.now status) }
+    ensures refused { IfErr result (IsRefused None channel.now luns.now wants.now) }
 {
     match timing_said(channel, luns, wants) {
-        Ok(timing) => open_said(alloc, timing, channel, luns, wants),
+        Ok(timing) => open_said(alloc, &timing, channel, luns, wants),
         Err(status) => Err(status),
     }
 }

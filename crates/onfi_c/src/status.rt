@@ -1,6 +1,6 @@
 //! What a call answers.
 ghost use Rattle.std.specs.Prelude.{◌≡◌};
-ghost use Rattle.onfi_c.specs.Status.{number_of, plan_status, problem_status, spans_status, text_of};
+ghost use Rattle.onfi_c.specs.Status.{lacking_status, number_of, plan_status, problem_status, spans_status, text_of};
 
 use onfi_planner::PlanFault;
 use onfi_problem::ProblemFault;
@@ -366,6 +366,17 @@ impl Status {
             ProblemFault::NoLengths => Status::NoLengths,
             ProblemFault::Clock => Status::Clock,
             ProblemFault::Memory => Status::Memory,
+        }
+    }
+
+    /// The status of what is said with sectors that have no length, whatever else speaks against a problem of it.
+    pub fn of_lacking(fault: Option<ProblemFault>) -> Status
+        ensures { result ≡ lacking_status fault }
+    {
+        match fault {
+            Some(ProblemFault::TooMany) => Status::TooMany,
+            Some(ProblemFault::BadLun) => Status::BadLun,
+            _ => Status::NoLengths,
         }
     }
 

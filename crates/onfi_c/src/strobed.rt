@@ -27,7 +27,7 @@ fn strobe_number(strobe: Strobe) -> u64
 }
 
 /// The refusal for a fault of strobes, with the parameter or the row that it names.
-fn strobe_refusal(fault: StrobeFault) -> Refusal
+pub fn strobe_refusal(fault: StrobeFault) -> Refusal
     ensures { result ≡ spec.strobe_refusal fault }
 {
     match fault {

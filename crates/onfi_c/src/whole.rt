@@ -1,5 +1,5 @@
 //! Which of the requests that wait a batch takes by whole groups.
-ghost use Rattle.std.specs.Prelude.{◌≡◌, ◌≤◌, false, length, slice_index_or, IfOk, IfErr};
+ghost use Rattle.std.specs.Prelude.{◌≡◌, ◌≤◌, false, length, slice_index_or, None, IfOk, IfErr};
 ghost use Rattle.std.specs.List.{list_any};
 ghost use Rattle.onfi_c.specs.Said.{IsTiming, has_bad_count};
 ghost use Rattle.onfi_c.specs.WholeChosen as spec;
@@ -53,7 +53,7 @@ fn choose_places(
     newest: Option<u64>,
     batch: u8,
 ) -> Result<ArrayVec<usize, 8>, AllocError>
-    requires timing { IsTiming channel.now.timing timing.now }
+    requires timing { IsTiming None channel.now.timing timing.now }
     requires bits { channel.now.rules.plane_bits ≤ 2 }
     requires counts { list_any has_bad_count luns.now ≡ false }
     requires few { batch ≤ 8 }

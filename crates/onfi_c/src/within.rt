@@ -1,5 +1,5 @@
 //! Plans within a limit of nodes, and checks of such.
-ghost use Rattle.std.specs.Prelude.{◌≡◌, ◌≤◌, IfOk, IfErr};
+ghost use Rattle.std.specs.Prelude.{◌≡◌, ◌≤◌, None, Some, IfOk, IfErr};
 ghost use Rattle.onfi_schedule.specs.Schedule.{finish};
 ghost use Rattle.onfi_planners.specs.Choice.{slack_in};
 ghost use Rattle.onfi_planners.specs.declared.chosen.ChosenPlanner.TheVariants.{BestSoFar};
@@ -10,11 +10,12 @@ ghost use Rattle.onfi_c.specs.Within.{IsNoMemory, IsPlanNear, IsPlanWithin};
 
 use crate::channel::PlainChannel;
 use crate::checking::give_verdict;
+use crate::lengths::PlainLengths;
 use crate::lun::{PlainLun, PlainWant};
-use crate::planning::{give_told, problem_posed};
+use crate::planning::{give_told, problem_posed, problem_posed_by};
 use crate::refusal::Refusal;
 use crate::schedule::{PlainSchedule, PlainVerdict, PlainWithin};
-use crate::stand::{Stand, said_of};
+use crate::stand::{Stand, said_by, said_of};
 use crate::status::Status;
 use crate::told::Told;
 use crate::written;
@@ -92,7 +93,7 @@ pub extern "C" fn onfi_plan_within(
     certificate: &mut [u8],
     bytes: &mut usize,
 ) -> u32
-    ensures { GivesPlan IsPlanWithin IsNoMemory channel.now luns.now wants.now limit plan.old plan.new certificate.old certificate.new bytes.new result }
+    ensures { GivesPlan IsPlanWithin IsNoMemory None channel.now luns.now wants.now limit plan.old plan.new certificate.old certificate.new bytes.new result }
 {
     match problem_posed(alloc, channel, luns, wants, limit) {
         Ok(problem) => give_told(
@@ -102,6 +103,36 @@ pub extern "C" fn onfi_plan_within(
             bytes,
         ),
         Err(status) => give_told(Err(status), plan, certificate, bytes),
+    }
+}
+
+/// Plans the wants of a channel as [`onfi_plan_within`] does, where reads may put out some sectors: their posts are those of
+/// `lengths`.
+///
+/// Answers what `onfi_plan_within` does, `LongSpan` also of these posts, after those of a channel's lengths, and after `BadLun`
+/// that of `NoLengths`.
+#[unsafe(no_mangle)]
+pub extern "C" fn onfi_plan_within_by(
+    alloc: Global,
+    lengths: &PlainLengths,
+    channel: &PlainChannel,
+    luns: &[PlainLun],
+    wants: &[PlainWant],
+    limit: u32,
+    plan: &mut PlainWithin,
+    certificate: &mut [u8],
+    bytes: &mut usize,
+) -> u32
+    ensures { GivesPlan IsPlanWithin IsNoMemory (Some lengths.now) channel.now luns.now wants.now limit plan.old plan.new certificate.old certificate.new bytes.new result }
+{
+    match problem_posed_by(alloc, lengths, channel, luns, wants, limit) {
+        Ok(posed) => give_told(
+            tell(alloc, &posed, &EQUAL, None, limit),
+            plan,
+            certificate,
+            bytes,
+        ),
+        Err(refused) => give_told(Err(refused), plan, certificate, bytes),
     }
 }
 
@@ -136,10 +167,35 @@ pub extern "C" fn onfi_check_within(
     certificate: &[u8],
     verdict: &mut PlainVerdict,
 ) -> u32
-    ensures { GivesVerdict (λ p s. IsShown BestSoFar p s below) (λ p s. IsWithinFaultTold p s below) channel.now luns.now wants.now schedule.now certificate.now
+    ensures { GivesVerdict (λ p s. IsShown BestSoFar p s below) (λ p s. IsWithinFaultTold p s below) None channel.now luns.now wants.now schedule.now certificate.now
         verdict.new result }
 {
     match said_of(alloc, channel, luns, wants, schedule) {
+        Ok(stand) => give_verdict(judge(alloc, &stand, below, certificate), verdict),
+        Err(status) => give_verdict(Err(Refusal::whole(status)), verdict),
+    }
+}
+
+/// Checks as [`onfi_check_within`] does, where reads may put out some sectors: their posts are those of `lengths`.
+///
+/// Answers what `onfi_check_within` does, `LongSpan` also of these posts, after those of a channel's lengths, and after `BadLun`
+/// that of `NoLengths`.
+#[unsafe(no_mangle)]
+pub extern "C" fn onfi_check_within_by(
+    alloc: Global,
+    lengths: &PlainLengths,
+    channel: &PlainChannel,
+    luns: &[PlainLun],
+    wants: &[PlainWant],
+    schedule: &PlainSchedule,
+    below: u64,
+    certificate: &[u8],
+    verdict: &mut PlainVerdict,
+) -> u32
+    ensures { GivesVerdict (λ p s. IsShown BestSoFar p s below) (λ p s. IsWithinFaultTold p s below) (Some lengths.now) channel.now luns.now wants.now schedule.now certificate.now
+        verdict.new result }
+{
+    match said_by(alloc, lengths, channel, luns, wants, schedule) {
         Ok(stand) => give_verdict(judge(alloc, &stand, below, certificate), verdict),
         Err(status) => give_verdict(Err(Refusal::whole(status)), verdict),
     }

@@ -10,18 +10,20 @@ use Rattle.onfi_c.proofs.ran.step_in_order.Goals as goal
 
 pub lun_behind-lun-requires-clause-there : goal.lun_behind-lun-requires-clause-there
 lun_behind-lun-requires-clause-there c =
-    let f : Flight = flight_of c.in-Ok.timing c.rules-rules.result c.args.channel.now.bus_free c.args.luns.now c.args.wants.now c.args.schedule.now in
-    let said = c.in_ok-due.ensures.said c.in-Ok.timing c.in-Ok.ensures.timing in
-    plain_there c.args.channel.now c.args.luns.now c.args.wants.now f c.in_ok-due.due c.args.started said.said.problem (c.in_ok-due.ensures.due c.in-Ok.timing)
+    let by = c.requires.measured.0 in
+    let timing = c.args.timing.now in
+    let f : Flight = flight_of timing c.rules-rules.result c.args.channel.now.bus_free c.args.luns.now c.args.wants.now c.args.schedule.now in
+    let said = c.in_ok-due.ensures.said by timing c.requires.measured.1 in
+    plain_there by c.args.channel.now c.args.luns.now c.args.wants.now f c.in_ok-due.due c.args.started said.said.problem (c.in_ok-due.ensures.due timing)
 
 pub lun_behind-lun-requires-clause-within : goal.lun_behind-lun-requires-clause-within
-lun_behind-lun-requires-clause-within c = (c.in_ok-due.ensures.due c.in-Ok.timing).within
+lun_behind-lun-requires-clause-within c = (c.in_ok-due.ensures.due c.args.timing.now).within
 
 pub returns : goal.returns
-returns c =
-    let timing = c.in-Ok.timing in
+returns c = λ by measured.
+    let timing = c.args.timing.now in
     let due = c.in_ok-due.due in
-    let said = c.in_ok-due.ensures.said timing c.in-Ok.ensures.timing in
+    let said = c.in_ok-due.ensures.said by timing measured in
     let is = c.in_ok-due.ensures.due timing in
     let same = c.is_due.ensures.0 c.if-not-is_due.false in
     let early : c.args.started < 2 ^ 61 = (let sooner = c.if-started-ge-HALF.false in omega (arith, sooner)) in
@@ -37,7 +39,6 @@ returns c =
       on_time = (let later = c.if-started-due.false in omega (arith, later));
       early = early;
       even = c.in_ok-due.ensures.even;
-      kinds = c.in-Ok.ensures.said.kinds;
       limits = limits_after timing c.rules-rules.result c.args.channel.now.bus_free c.args.luns.now c.args.wants.now c.args.schedule.now due c.args.started said.limits c.in_ok-due.ensures.early is early;
       ended = ap (λ n. c.args.started + n) long;
       lun_is = c.lun_behind-lun.ensures;

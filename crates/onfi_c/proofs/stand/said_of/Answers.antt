@@ -1,15 +1,18 @@
-use Rattle.std.proofs.Common.{refl, sym, ap, ◌∙◌}
-use Rattle.onfi_c.specs.SaidLegal.{is_bad}
-use Rattle.onfi_c.specs.SaidSchedule.{schedule_of}
+use Rattle.std.specs.Prelude.{None}
+use Rattle.onfi_c.specs.SaidLegal.{is_no_problem}
+use Rattle.onfi_c.proofs.Stands.{begun, none_stands, stands}
 use Rattle.onfi_c.proofs.stand.said_of.Goals as goal
 
-pub returns-then-is_bad_schedule-clause-none : goal.returns-then-is_bad_schedule-clause-none
-returns-then-is_bad_schedule-clause-none c =
-    is_bad c.in-Ok.problem.problem c.in-Ok.ensures.said (sym c.is_bad_schedule.ensures ∙ c.if-is_bad_schedule.true) refl
+pub returns-in-Ok-clause-said : goal.returns-in-Ok-clause-said
+returns-in-Ok-clause-said c =
+    stands None c.in-Ok.problem c.args.schedule.now c.with_schedule.result c.in-Ok.ensures.said c.in-Ok.ensures.lengths c.with_schedule.ensures.same c.with_schedule.ensures.good
 
-pub returns-clause-said : goal.returns-clause-said
-returns-clause-said c = record {
-  problem = c.in-Ok.ensures.said;
-  good = sym c.is_bad_schedule.ensures ∙ c.if-is_bad_schedule.false;
-  is = c.schedule_of-schedule.ensures ∙ ap (λ wants. schedule_of wants c.args.schedule.now) (c.wants.ensures.value ∙ c.in-Ok.ensures.begun);
-}
+pub returns-in-Ok-clause-begun : goal.returns-in-Ok-clause-begun
+returns-in-Ok-clause-begun c = begun c.in-Ok.problem c.with_schedule.result c.in-Ok.ensures.begun c.with_schedule.ensures.same
+
+pub returns-in-Ok-clause-none : goal.returns-in-Ok-clause-none
+returns-in-Ok-clause-none c =
+    none_stands None c.in-Ok.problem c.args.schedule.now c.with_schedule.result c.in-Ok.ensures.said c.in-Ok.ensures.lengths c.with_schedule.ensures.bad
+
+pub returns-in-Err-clause-none : goal.returns-in-Err-clause-none
+returns-in-Err-clause-none c = is_no_problem c.in-Err.ensures.refused

@@ -1,0 +1,11 @@
+use Rattle.onfi_c.specs.Planned.{is_unposed}
+use Rattle.onfi_c.proofs.Giving.{plan_given}
+use Rattle.onfi_c.proofs.early.onfi_plan_early_by.Goals as goal
+
+pub returns-in-Ok : goal.returns-in-Ok
+returns-in-Ok c =
+    plan_given _ c.args.limit c.in-Ok.posed.problem c.tell.result c.in-Ok.ensures.posed c.tell.ensures.plan c.tell.ensures.none c.give_told.ensures.given
+    c.give_told.ensures.refused
+
+pub returns-in-Err : goal.returns-in-Err
+returns-in-Err c = is_unposed c.in-Err.refused c.in-Err.ensures.none c.give_told-in-Err.ensures.refused
