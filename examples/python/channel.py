@@ -35,7 +35,7 @@ def drawn(count: int, seed: int) -> List[Request]:
     return found
 
 
-def spans_of(kind: Kind) -> Spans:
+def spans_of(kind: int) -> Spans:
     return (TIMING.read, TIMING.program, TIMING.erase)[kind]
 
 

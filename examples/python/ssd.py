@@ -22,7 +22,7 @@ from onfi import Channel, Geometry, Kind, Lun, NothingDue, Phase, Rules, Schedul
 CHANNELS, LUNS, PLANES, DEPTH = 2, 8, 4, 64
 PAGE_BYTES, PAGES, BLOCKS = 16_384 + 2_048, 1_152, 16_384
 READ_BLOCKS, PROGRAM_BLOCKS, FIRST_PROGRAMMED = 512 * PLANES, 400, 1_000
-ARRAYS = {Kind.READ: 75_100, Kind.PROGRAM: 800_100, Kind.ERASE: 10_000_100}
+ARRAYS: Dict[int, int] = {Kind.READ: 75_100, Kind.PROGRAM: 800_100, Kind.ERASE: 10_000_100}
 GEOMETRY = Geometry(BLOCKS, 11, 14, 3, PAGES, PAGE_BYTES - 2_048, 2_048, LUNS, 2, 2, 4, False, True, True)
 WORD = (1 << 64) - 1
 

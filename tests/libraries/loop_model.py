@@ -5,14 +5,14 @@ It is written from what include/onfi.h says of these calls, over the package's d
 
 from __future__ import annotations
 
-from typing import List, NamedTuple, Optional, Sequence, Tuple
+from typing import Dict, List, NamedTuple, Optional, Sequence, Tuple
 
 from onfi import Channel, Choice, Geometry, Group, Kind, Lun, Phase, Rules, Schedule, Spans, Stand, Want
 
 PASSED = 64
-OPENER = {Kind.READ: 0x00, Kind.PROGRAM: 0x80, Kind.ERASE: 0x60}
-LAST = {Kind.READ: 0x30, Kind.PROGRAM: 0x10, Kind.ERASE: 0xD0}
-NOT_LAST = {Kind.READ: 0x32, Kind.PROGRAM: 0x11, Kind.ERASE: 0xD1}
+OPENER: Dict[int, int] = {Kind.READ: 0x00, Kind.PROGRAM: 0x80, Kind.ERASE: 0x60}
+LAST: Dict[int, int] = {Kind.READ: 0x30, Kind.PROGRAM: 0x10, Kind.ERASE: 0xD0}
+NOT_LAST: Dict[int, int] = {Kind.READ: 0x32, Kind.PROGRAM: 0x11, Kind.ERASE: 0xD1}
 
 
 class Part(NamedTuple):
@@ -33,8 +33,9 @@ class Part(NamedTuple):
         return self.number >= len(self.members)
 
 
-def spans_of(channel: Channel, kind: Kind) -> Spans:
-    return {Kind.READ: channel.timing.read, Kind.PROGRAM: channel.timing.program, Kind.ERASE: channel.timing.erase}[kind]
+def spans_of(channel: Channel, kind: int) -> Spans:
+    lengths: Dict[int, Spans] = {Kind.READ: channel.timing.read, Kind.PROGRAM: channel.timing.program, Kind.ERASE: channel.timing.erase}
+    return lengths[kind]
 
 
 def row_of(geometry: Geometry, want: Want) -> int:

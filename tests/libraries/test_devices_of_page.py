@@ -7,7 +7,7 @@ import sys
 import tempfile
 import unittest
 from pathlib import Path
-from typing import Dict, Tuple, Type
+from typing import Any, Dict, List, Tuple, Type
 
 sys.path.insert(0, str(Path(__file__).resolve().parent))
 import test_libraries  # noqa: E402
@@ -138,11 +138,12 @@ class Sectors(unittest.TestCase):
 
     def test_refusals(self) -> None:
         """As without sectors, with the place of the row or of the parameter."""
-        for name, place, words in (
+        faults: List[Tuple[Type[onfi.Refused], int, Any]] = [
             (onfi.PageShort, 0, (PAGE[:255], SHEET, 132)), (onfi.WideBus, 0, (page(wide_bus=1), SHEET, 132)),
             (onfi.SheetMissing, 2, (PAGE, BESIDE, 132)), (onfi.SheetUnknown, 1, (PAGE, "tXX,1\n" + SHEET, 132)),
             (onfi.StrobeMissing, 2, (PAGE, BESIDE, 132, "tRPRE,1\n")), (onfi.StrobeUnknown, 1, (PAGE, BESIDE, 132, "tDQ,5\n")),
-        ):
+        ]
+        for name, place, words in faults:
             with self.assertRaises(name) as told:
                 onfi.lengths_of_page(*words)
             self.assertEqual(told.exception.place, place)

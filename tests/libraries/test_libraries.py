@@ -232,7 +232,8 @@ def plan_text(plan: Union[onfi.Plan, onfi.PlanWithin]) -> bytes:
 
 def cost_of(channel: onfi.Channel, luns: Sequence[onfi.Lun], wants: Sequence[onfi.Want], weights: Sequence[int], schedule: onfi.Schedule) -> int:
     """What a plan counts for: of each request that has a post left its weight, 1 where none is given, times the end of its post."""
-    length = {onfi.Kind.READ: channel.timing.read.post, onfi.Kind.PROGRAM: channel.timing.program.post, onfi.Kind.ERASE: channel.timing.erase.post}
+    timing = channel.timing
+    length: Dict[int, int] = {onfi.Kind.READ: timing.read.post, onfi.Kind.PROGRAM: timing.program.post, onfi.Kind.ERASE: timing.erase.post}
     by_id = {want.id: (want, weights[at] if at < len(weights) else 1) for at, want in enumerate(wants)}
     cost = 0
     for group in schedule.groups:

@@ -16,7 +16,7 @@ import textwrap
 import unittest
 import zipfile
 from pathlib import Path
-from typing import Any, Dict, List, Type
+from typing import Any, Callable, Dict, List, Type
 
 sys.path.insert(0, str(Path(__file__).resolve().parent))
 import test_libraries  # noqa: E402, F401
@@ -275,7 +275,8 @@ class Sectors(unittest.TestCase):
         refused(onfi.NoLengths, wants=[dataclasses.replace(WANTS[0], kind=onfi.kind_by(onfi.Kind.PROGRAM, 1))])
         refused(onfi.NoLengths, luns=[onfi.Lun(0, [dataclasses.replace(WANTS[0], kind=onfi.kind_by(onfi.Kind.READ, 5))], 1), onfi.Lun()])
         refused(onfi.BadLun, wants=[dataclasses.replace(SECTORS[0], lun=2)], lengths=onfi.Lengths({}))
-        for call in (onfi.plan, onfi.plan_known, onfi.plan_within, onfi.plan_rule, onfi.plan_early):
+        calls: List[Callable[..., Any]] = [onfi.plan, onfi.plan_known, onfi.plan_within, onfi.plan_rule, onfi.plan_early]
+        for call in calls:
             self.assertRaises(onfi.BadKind, call, CHANNEL, LUNS, SECTORS)
         for count in (0, 8):
             self.assertRaisesRegex(ValueError, f"not of {count}$", onfi.plan_rule, CHANNEL, LUNS, WANTS, lengths=onfi.Lengths({count: 1}))
