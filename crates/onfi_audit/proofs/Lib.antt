@@ -1,0 +1,7 @@
+pub mod Filters
+pub mod States
+pub mod Commands
+pub mod Steps
+pub mod Judging
+pub mod Later
+pub mod Logs

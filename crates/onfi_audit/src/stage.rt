@@ -1,0 +1,12 @@
+use onfi_group::Group;
+
+/// What a LUN does by a log. Times are ns of the channel's clock.
+#[derive(Drop)]
+pub enum LunStage {
+    /// Nothing; a command may come from `since`.
+    Free { since: u64 },
+    /// A group all members of which are known: phase `next` may start from `ready`.
+    Running { group: Group, next: u8, ready: u64 },
+    /// Commands alone, so far of these members: a further one may join from `more`, or the first post start from `ready`.
+    Open { group: Group, more: u64, ready: u64 },
+}
