@@ -1,25 +1,22 @@
 -- Groups that grow by a command.
-use Rattle.std.proofs.Common.{◌≡◌, ◌≢◌, ℕ, zero, suc, ◌+◌, ◌*◌, ◌<◌, ◌≤◌, inl, inr, Bool, true, false, List, [], ◌∷◌, ◌++◌, length, Some, refl, sym, ap, ◌∙◌, subst, append_assoc, arith}
-use Rattle.std.specs.Prelude.{◌==◌, nat_lt, not, if◌then◌else◌, slice_get}
+use Rattle.std.proofs.Common.{◌≡◌, ℕ, ◌+◌, ◌<◌, false, List, [], ◌∷◌, ◌++◌, length, Some, refl, sym, ap, ◌∙◌, subst, append_assoc, arith}
+use Rattle.std.specs.Prelude.{slice_get}
 use Rattle.std.specs.List.{AllByRecursion as All}
-use Rattle.std.proofs.lemmas.Bool.{lt-ltb, le-ltb, eq-eqb, false≢true}
+use Rattle.std.proofs.lemmas.Bool.{lt-ltb, le-ltb, eq-eqb}
 use Rattle.std.proofs.lemmas.List.{length-append}
 use Rattle.onfi_timing.specs.declared.timing.Timing.{Timing}
 use Rattle.onfi_timing.specs.Kinds.{spans_of}
 use Rattle.onfi_timing.specs.Phases.{phase_length, wait_before}
 use Rattle.onfi_request.specs.declared.want.Want.{Want}
 use Rattle.onfi_group.specs.declared.rules.Rules.{Rules}
-use Rattle.onfi_group.specs.Words.{Has, Pairs}
+use Rattle.onfi_group.specs.Words.{Pairs}
 use Rattle.onfi_group.specs.Group.{IsGroup, group_spans, kind_of, lun_of}
-use Rattle.onfi_group.proofs.Lists.{All-weaker, Has-append_left}
+use Rattle.onfi_group.proofs.Lists.{Has-append_left}
 use Rattle.onfi_group.proofs.Placing.{part_is_group}
-use Rattle.onfi_problem.specs.declared.lun_state.LunState.{LunState}
-use Rattle.onfi_problem.specs.declared.lun_state.LunState.TheVariants.{Free, Running}
+use Rattle.onfi_problem.specs.declared.lun_state.LunState.TheVariants.{Running}
 use Rattle.onfi_problem.specs.Moves.{lun_after}
 use Rattle.onfi_problem.proofs.LunAfter.{lun_after_running}
-use Rattle.onfi_flight.specs.Flight.{member_of}
 use Rattle.onfi_audit.specs.declared.line.Line.{Line}
-use Rattle.onfi_audit.specs.declared.stage.LunStage.TheVariants as stage
 use Rattle.onfi_audit.specs.Audit.{IsPhaseOf, Names, opened}
 use Rattle.onfi_audit.specs.Legal.{state_at}
 

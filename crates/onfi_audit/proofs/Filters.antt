@@ -1,13 +1,12 @@
 -- Lists that are filtered, and the requests that wait first.
-use Rattle.std.proofs.Common.{◌≡◌, ◌≢◌, ℕ, ◌<◌, inl, inr, Bool, true, false, List, [], ◌∷◌, ◌++◌, None, Some, refl, sym, ap, ◌∙◌, append_assoc}
+use Rattle.std.proofs.Common.{◌≡◌, ℕ, inl, inr, Bool, true, false, List, [], ◌∷◌, ◌++◌, None, Some, refl, sym, ap, ◌∙◌}
 use Rattle.std.specs.Prelude.{◌==◌, not, if◌then◌else◌, slice_get}
-use Rattle.std.specs.List.{AllByRecursion as All, filter, list_any}
+use Rattle.std.specs.List.{AllByRecursion as All, filter}
 use Rattle.std.proofs.lemmas.Bool.{cases_Bool, eq-eqb, eqb-false, eqb-true, false≢true, ne_eqb}
 use Rattle.onfi_request.specs.declared.want.Want.{Want}
-use Rattle.onfi_group.specs.Words.{Has, Pairs}
+use Rattle.onfi_group.specs.Words.{Has}
 use Rattle.onfi_group.specs.Group.{IsFirst, is_member, on_block}
-use Rattle.onfi_group.proofs.Firsts.{on_own_block, same_by_id}
-use Rattle.onfi_group.proofs.Lists.{first_has}
+use Rattle.onfi_group.proofs.Firsts.{same_by_id}
 use Rattle.onfi_problem.specs.Moves.{without}
 use Rattle.onfi_problem.proofs.Wants.{Rising}
 use Rattle.onfi_audit.specs.Audit.{Names, first_at, is_at}
@@ -131,6 +130,7 @@ none_first [] line h = tt
 none_first (w ∷ wants) line h = elim (cases_Bool (is_at line.lun line.block w)) [
   | inl k ↦ (let q : Some w ≡ None = rw k at h in cc)
   | inr k ↦ (
-      (λ named. let t : is_at line.lun line.block w ≡ true = rw (eq-eqb w.lun line.lun named.lun) (eq-eqb w.block line.block named.block) in absurd (false≢true (sym k ∙ t))),
-      none_first wants line (rw k at h))
+    (λ named. let t : is_at line.lun line.block w ≡ true = rw (eq-eqb w.lun line.lun named.lun) (eq-eqb w.block line.block named.block) in absurd (false≢true (sym k ∙ t))),
+    none_first wants line (rw k at h),
+  )
 ]

@@ -1,5 +1,5 @@
 -- Lines that may come, at a later moment.
-use Rattle.std.proofs.Common.{◌≡◌, ℕ, ◌≤◌, inl, inr, List, [], length, Option, None, Some, arith}
+use Rattle.std.proofs.Common.{ℕ, ◌≤◌, inl, inr, List, [], length, Option, None, Some, arith}
 use Rattle.std.specs.Prelude.{slice_get}
 use Rattle.onfi_request.specs.declared.want.Want.{Want}
 use Rattle.onfi_audit.specs.declared.line.Line.{Line}

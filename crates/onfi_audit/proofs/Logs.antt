@@ -1,35 +1,33 @@
 -- Whole logs: what is accepted is legal, and what is legal is accepted.
-use Rattle.std.proofs.Common.{◌≡◌, ◌≢◌, ℕ, zero, suc, ◌+◌, ◌*◌, ◌<◌, ◌≤◌, ◌⊎◌, inl, inr, Bool, true, false, List, [], ◌∷◌, ◌++◌, length, map, Option, None, Some, refl, sym, ap, ◌∙◌, subst, append_assoc, append-nil, add-zero, arith}
-use Rattle.std.specs.Prelude.{◌==◌, max, not, if◌then◌else◌, slice_get, slice_set}
+use Rattle.std.proofs.Common.{◌≡◌, ℕ, zero, suc, ◌+◌, ◌<◌, ◌≤◌, inl, inr, true, List, [], ◌∷◌, ◌++◌, length, map, Option, None, Some, refl, sym, ap, ◌∙◌, subst, append_assoc, append-nil, arith}
+use Rattle.std.specs.Prelude.{◌==◌, not, slice_get, slice_set}
 use Rattle.std.specs.List.{AllByRecursion as All, filter}
-use Rattle.std.proofs.lemmas.Bool.{cases_Bool, eqb-true, le-ltb, false≢true}
-use Rattle.std.proofs.lemmas.List.{length-map, length-append}
+use Rattle.std.proofs.lemmas.Bool.{cases_Bool, eqb-true, le-ltb}
+use Rattle.std.proofs.lemmas.List.{length-map}
 use Rattle.onfi_timing.specs.Kinds.{IsStated}
 use Rattle.onfi_timing.specs.Phases.{phase_length}
 use Rattle.onfi_request.specs.declared.want.Want.{Want}
 use Rattle.onfi_group.specs.declared.rules.Rules.{Rules}
-use Rattle.onfi_group.specs.Words.{Has, Pairs}
 use Rattle.onfi_group.specs.Group.{IsGroup, group_spans, is_member, lun_of, on_block}
-use Rattle.onfi_group.proofs.Lists.{All-append, All-has, All-each, All-weaker, Pairs-append, first_has}
+use Rattle.onfi_group.proofs.Lists.{All-append, All-has, All-weaker, Pairs-append, first_has}
 use Rattle.onfi_problem.specs.declared.lun_state.LunState.{LunState}
 use Rattle.onfi_problem.specs.declared.lun_state.LunState.TheVariants.{Free, Running}
-use Rattle.onfi_problem.specs.Moves.{Move, IsDone, lun_after, placed, without}
+use Rattle.onfi_problem.specs.Moves.{IsDone, lun_after, placed}
 use Rattle.onfi_problem.specs.Problem.{Problem, AreStated, HasLengths, IsProblem, IsRunning, IsWant}
 use Rattle.onfi_problem.proofs.LunAfter.{running_is}
-use Rattle.onfi_problem.proofs.Places.{get_set_same, get_set_other, length_set, same_place, within_get}
+use Rattle.onfi_problem.proofs.Places.{get_set_same, get_set_other, length_set, same_place}
 use Rattle.onfi_problem.proofs.Wants.{All-filter, Pairs-filter}
 use Rattle.onfi_schedule.specs.Runs.{Step, Run}
-use Rattle.onfi_schedule.specs.Schedule.{Schedule, Legal, finish}
 use Rattle.onfi_schedule.proofs.RunLegal.{run_legal}
 use Rattle.onfi_audit.specs.declared.line.Line.{Line}
 use Rattle.onfi_audit.specs.declared.stage.LunStage.{LunStage}
 use Rattle.onfi_audit.specs.declared.stage.LunStage.TheVariants as stage
-use Rattle.onfi_audit.specs.Audit.{Audit, GoesOn, IsAccepted, IsPlaced, Joins, MayCome, MayComeOn, accepting, after_line, after_on, first_at, gone_on, is_at, joined, joined_by, joined_with, opened, opening, stage_of}
+use Rattle.onfi_audit.specs.Audit.{Audit, IsAccepted, IsPlaced, Joins, MayCome, MayComeOn, accepting, after_line, after_on, first_at, gone_on, is_at, joined, joined_by, joined_with, opened, opening, stage_of}
 use Rattle.onfi_audit.specs.Laws.{CompleteLaw, OpenLaw, SoundLaw, WholeLaw}
-use Rattle.onfi_audit.specs.Legal.{Accept, Audited, Entry, Fits, IsAudit, IsChoice, IsLineOf, IsStage, Leads, Phase, closed, lines_of, problem_at, state_at, states_at, wants_of, with_wants}
+use Rattle.onfi_audit.specs.Legal.{Accept, Audited, Entry, Fits, IsAudit, IsChoice, IsStage, Leads, Phase, closed, lines_of, problem_at, wants_of, with_wants}
 use Rattle.onfi_audit.proofs.Filters.{filter_all, filter-append, first_there}
 use Rattle.onfi_audit.proofs.States.{opening_states}
-use Rattle.onfi_audit.proofs.Steps.{Came, Goes, back, forth, keep, same_parts}
+use Rattle.onfi_audit.proofs.Steps.{back, forth, keep, same_parts}
 
 -- What is kept
 

@@ -1,11 +1,10 @@
 -- What LUNs do, if open groups get members more.
-use Rattle.std.proofs.Common.{◌≡◌, ◌≢◌, ℕ, zero, suc, List, [], ◌∷◌, ◌++◌, length, map, Option, None, Some, refl, sym, ap, ◌∙◌, append-nil}
+use Rattle.std.proofs.Common.{◌≡◌, ◌≢◌, ℕ, zero, suc, List, [], ◌∷◌, length, map, Some, refl, ap, ◌∙◌}
 use Rattle.std.specs.Prelude.{slice_get, slice_set}
 use Rattle.onfi_request.specs.declared.want.Want.{Want}
 use Rattle.onfi_problem.specs.declared.lun_state.LunState.{LunState}
 use Rattle.onfi_problem.specs.declared.lun_state.LunState.TheVariants.{Free, Running}
 use Rattle.onfi_audit.specs.declared.stage.LunStage.{LunStage}
-use Rattle.onfi_audit.specs.declared.stage.LunStage.TheVariants as stage
 use Rattle.onfi_audit.specs.Audit.{stage_of}
 use Rattle.onfi_audit.specs.Legal.{state_at, states_at}
 

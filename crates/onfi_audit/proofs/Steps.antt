@@ -1,8 +1,8 @@
 -- A line that may come is the phase of a move of each problem that the audit may stand for, and back.
-use Rattle.std.proofs.Common.{◌≡◌, ◌≢◌, ℕ, zero, suc, ◌+◌, ◌*◌, ◌<◌, ◌≤◌, ◌⊎◌, inl, inr, Bool, true, false, List, [], ◌∷◌, ◌++◌, length, Option, None, Some, refl, sym, ap, ◌∙◌, subst, append_assoc, append-nil, arith}
-use Rattle.std.specs.Prelude.{◌==◌, max, nat_lt, not, if◌then◌else◌, slice_get, slice_set}
+use Rattle.std.proofs.Common.{◌≡◌, ◌≢◌, ℕ, ◌+◌, ◌<◌, ◌≤◌, inl, inr, Bool, true, false, List, [], ◌∷◌, ◌++◌, length, Option, None, Some, refl, sym, ap, ◌∙◌, subst, append_assoc, append-nil, arith}
+use Rattle.std.specs.Prelude.{◌==◌, max, not, if◌then◌else◌, slice_get, slice_set}
 use Rattle.std.specs.List.{AllByRecursion as All, filter}
-use Rattle.std.proofs.lemmas.Bool.{cases_Bool, eq-eqb, eqb-true, ne_eqb, le-ltb, false≢true}
+use Rattle.std.proofs.lemmas.Bool.{cases_Bool, eq-eqb, ne_eqb, le-ltb, false≢true}
 use Rattle.onfi_addr.specs.Rows.{plane_at}
 use Rattle.onfi_timing.specs.declared.timing.Timing.{Timing}
 use Rattle.onfi_timing.specs.Phases.{phase_length}
@@ -10,22 +10,21 @@ use Rattle.onfi_request.specs.declared.want.Want.{Want}
 use Rattle.onfi_group.specs.declared.rules.Rules.{Rules}
 use Rattle.onfi_group.specs.Words.{Has, Pairs}
 use Rattle.onfi_group.specs.Group.{IsFirst, IsGroup, IsStartable, group_spans, is_member, lun_of, on_block}
-use Rattle.onfi_group.proofs.Firsts.{on_own_block}
 use Rattle.onfi_group.proofs.Lists.{All-both, All-has, All-each, All-weaker, first_has}
 use Rattle.onfi_group.proofs.Placing.{one_is_group}
 use Rattle.onfi_problem.specs.declared.lun_state.LunState.{LunState}
 use Rattle.onfi_problem.specs.declared.lun_state.LunState.TheVariants.{Free, Running}
-use Rattle.onfi_problem.specs.Moves.{Move, Next, Start, IsMove, earliest, free_from, lun_after, next_ran, placed, ran, without}
+use Rattle.onfi_problem.specs.Moves.{Move, Next, Start, free_from, lun_after, next_ran, placed, without}
 use Rattle.onfi_problem.specs.Problem.{Problem}
-use Rattle.onfi_problem.proofs.Places.{get_set_same, get_set_other, same_place, same_some}
+use Rattle.onfi_problem.proofs.Places.{get_set_same, get_set_other, same_place}
 use Rattle.onfi_audit.specs.declared.line.Line.{Line}
 use Rattle.onfi_audit.specs.declared.stage.LunStage.{LunStage}
 use Rattle.onfi_audit.specs.declared.stage.LunStage.TheVariants as stage
-use Rattle.onfi_audit.specs.Audit.{Audit, GoesOn, IsPhaseOf, IsPlaced, Joins, MayCome, MayComeOn, Names, after_line, after_on, first_at, gone_on, joined, joined_by, joined_with, opened, stage_of}
-use Rattle.onfi_audit.specs.Legal.{Fits, IsAudit, IsChoice, IsLineOf, Shows, problem_at, state_at, states_at}
-use Rattle.onfi_audit.proofs.Commands.{IsCommandOf, Pairs-behind, after_command, begins_group, cmd_grown, command_length, command_of, longer, lun_grown, of_command}
+use Rattle.onfi_audit.specs.Audit.{Audit, GoesOn, IsPhaseOf, IsPlaced, Joins, MayCome, MayComeOn, after_line, after_on, gone_on, joined, joined_by, joined_with, opened, stage_of}
+use Rattle.onfi_audit.specs.Legal.{Fits, IsAudit, IsChoice, IsLineOf, problem_at, state_at, states_at}
+use Rattle.onfi_audit.proofs.Commands.{IsCommandOf, Pairs-behind, after_command, begins_group, command_length, command_of, of_command}
 use Rattle.onfi_audit.proofs.Filters.{filter_same, filter_twice, first_before, first_kept, first_left, first_there, first_told, first_unkept, has_kept, no_member, other_block, same_first, same_lun}
-use Rattle.onfi_audit.proofs.States.{StageOf, state_of_stage, states_back, states_get, states_set}
+use Rattle.onfi_audit.proofs.States.{state_of_stage, states_back, states_get, states_set}
 
 -- one LUN's members in place of what they were
 abbrev pub put : (ℕ → List Want) → ℕ → List Want → ℕ → List Want

@@ -1,5 +1,5 @@
 -- What a log has left, the phase that may come next, and what it leaves.
-use Rattle.std.specs.Prelude.{◌≡◌, ℕ, ◌+◌, ◌^◌, ◌<◌, ◌≤◌, ◌==◌, ◌≢◌, ◌*◌, ◌⊎◌, max, min, nat_lt, not, if◌then◌else◌, Bool, IsTrue, true, false, List, [], ◌∷◌, ◌++◌, length, map, Option, Some, None, slice_get, slice_set}
+use Rattle.std.specs.Prelude.{◌≡◌, ℕ, ◌+◌, ◌^◌, ◌<◌, ◌≤◌, ◌==◌, ◌≢◌, ◌*◌, ◌⊎◌, max, min, nat_lt, not, if◌then◌else◌, Bool, true, false, List, [], ◌∷◌, ◌++◌, length, map, Option, Some, None, slice_get, slice_set}
 use Rattle.std.specs.List.{AllByRecursion as Each, filter}
 use Rattle.onfi_addr.specs.Rows.{plane_at}
 use Rattle.onfi_timing.specs.declared.kind.Kind.{Kind}
@@ -9,12 +9,12 @@ use Rattle.onfi_timing.specs.Kinds.{IsStated, operation_of}
 use Rattle.onfi_timing.specs.Phases.{phase_length}
 use Rattle.onfi_request.specs.declared.want.Want.{Want}
 use Rattle.onfi_group.specs.declared.rules.Rules.{Rules}
-use Rattle.onfi_group.specs.Words.{Has, Pairs}
-use Rattle.onfi_group.specs.Group.{IsGroup, group_spans, lun_of}
+use Rattle.onfi_group.specs.Words.{Has}
+use Rattle.onfi_group.specs.Group.{IsGroup, group_spans}
 use Rattle.onfi_problem.specs.declared.lun_state.LunState.{LunState}
 use Rattle.onfi_problem.specs.declared.lun_state.LunState.TheVariants.{Free, Running}
 use Rattle.onfi_problem.specs.Moves.{lun_after, without}
-use Rattle.onfi_problem.specs.Problem.{Problem, IsRunning, IsWant}
+use Rattle.onfi_problem.specs.Problem.{Problem, IsWant}
 use Rattle.onfi_flight.specs.Flight.{member_of}
 use Rattle.onfi_audit.specs.declared.audit.AcceptFault.{AcceptFault}
 use Rattle.onfi_audit.specs.declared.audit.AcceptFault.TheVariants as accept

@@ -1,5 +1,5 @@
 -- Logs that are legal: each line is the phase of a move of the problem as it then stands.
-use Rattle.std.specs.Prelude.{◌≡◌, ℕ, suc, ◌+◌, ◌<◌, ◌≤◌, not, List, [], ◌∷◌, ◌++◌, length, Option, Some, None, slice_get}
+use Rattle.std.specs.Prelude.{◌≡◌, ℕ, suc, ◌<◌, ◌≤◌, not, List, [], ◌∷◌, ◌++◌, length, Option, Some, None, slice_get}
 use Rattle.std.specs.List.{AllByRecursion as Each, filter}
 use Rattle.onfi_request.specs.declared.want.Want.{Want}
 use Rattle.onfi_group.specs.declared.rules.Rules.{Rules}
@@ -7,7 +7,7 @@ use Rattle.onfi_group.specs.Words.{Pairs}
 use Rattle.onfi_group.specs.Group.{IsFirst, IsGroup, is_member, lun_of}
 use Rattle.onfi_problem.specs.declared.lun_state.LunState.{LunState}
 use Rattle.onfi_problem.specs.declared.lun_state.LunState.TheVariants.{Free, Running}
-use Rattle.onfi_problem.specs.Moves.{Move, Next, Start, IsDone, IsMove, earliest, placed}
+use Rattle.onfi_problem.specs.Moves.{Move, Next, Start, IsMove, earliest, placed}
 use Rattle.onfi_problem.specs.Problem.{Problem, IsRunning, IsWant}
 use Rattle.onfi_audit.specs.declared.line.Line.{Line}
 use Rattle.onfi_audit.specs.declared.stage.LunStage.{LunStage}

@@ -57,13 +57,13 @@ impl Audit {
         ensures after { result ≡ true → self.new ≡ after_line self.old line.now }
         ensures unchanged { result ≡ false → self.new ≡ self.old }
     {
-        if line.start >= END {
+        if END <= line.start {
             return false;
         }
         let last = line.at(END - 1);
         match self.coming(&last) {
-            Ok(coming) => {
-                self.run(line, coming);
+            Ok(phase) => {
+                self.run(line, phase);
                 true
             }
             Err(_) => false,

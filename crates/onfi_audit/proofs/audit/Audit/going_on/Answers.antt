@@ -1,8 +1,8 @@
-use Rattle.std.proofs.Common.{◌≡◌, ◌≤◌, ◌<◌, ◌-◌, List, length, get_or, sym, ap, ◌∙◌, subst, arith}
+use Rattle.std.proofs.Common.{◌≡◌, ◌≤◌, ◌<◌, List, length, get_or, ap, ◌∙◌, subst, arith}
 use Rattle.std.specs.Prelude.{max}
 use Rattle.std.proofs.lemmas.Bool.{le-leb, lt-leb}
 use Rattle.onfi_request.specs.declared.want.Want.{Want}
-use Rattle.onfi_audit.specs.Audit.{Audit, GoesOn}
+use Rattle.onfi_audit.specs.Audit.{Audit}
 use Rattle.onfi_audit.specs.declared.audit.judging.Coming.TheVariants as coming
 use Rattle.onfi_audit.proofs.Judging.{IsFound, command_found, post_found}
 use Rattle.onfi_audit.proofs.audit.Audit.going_on.Goals.{then-is_post, else-is_post}
