@@ -1,10 +1,11 @@
-ghost use Rattle.std.specs.Prelude.{◌≡◌, ◌<◌, ◌≤◌, length, IfOk, IfErr};
+ghost use Rattle.std.specs.Prelude.{◌≡◌, ◌≢◌, true, false, ◌<◌, ◌≤◌, length, IfOk, IfErr};
 ghost use Rattle.onfi_request.specs.declared.want.Want.{Want as AWant};
-ghost use Rattle.onfi_audit.specs.Audit.{Audit as Left, IsAccepted, IsAccepting, TellsFault, accepting, opening, readied, request_of};
+ghost use Rattle.onfi_audit.specs.Audit.{Audit as Left, IsAccepted, IsAccepting, TellsFault, accepting, first_at, opening, readied, request_of};
 
 mod judging;
 
 use crate::luns::Luns;
+use crate::requests::first_at;
 use crate::stage::LunStage;
 use onfi_addr::plane_at;
 use onfi_flight::Flight;
@@ -98,6 +99,13 @@ impl Audit {
         self.wants.as_slice()
     }
 
+    /// The request that waits first on that block.
+    pub fn first_on(&self, lun: u8, block: u16) -> Option<Want>
+        ensures { result ≡ first_at self.now.wants lun block }
+    {
+        first_at(self.wants.as_slice(), lun, block)
+    }
+
     /// Accepts a request after those before it; its number, counted from 0, is answered.
     ///
     /// # Errors
@@ -111,7 +119,7 @@ impl Audit {
         if usize::from(lun) >= self.luns.as_slice().len() {
             return Err(AcceptFault::NoLun);
         }
-        if kind == Kind::Erase && page != 0 {
+        if is_page_of_erase(kind, page) {
             return Err(AcceptFault::ErasePage);
         }
         if !self.timing.states(kind) {
@@ -158,7 +166,16 @@ impl Audit {
     }
 }
 
+ghost use Rattle.onfi_timing.specs.declared.kind.Kind.TheVariants.{Erase};
 ghost use Rattle.onfi_audit.specs.Audit.{readied_stage};
+
+// Whether an erase names another page than 0.
+fn is_page_of_erase(kind: Kind, page: u16) -> bool
+    ensures other { result ≡ true → (kind ≡ Erase) × (page ≢ 0) }
+    ensures none { result ≡ false → kind ≡ Erase → page ≡ 0 }
+{
+    kind == Kind::Erase && page != 0
+}
 
 // What a LUN does that is ready then.
 fn ready_by(stage: &LunStage, moment: u64) -> LunStage

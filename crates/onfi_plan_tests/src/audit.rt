@@ -245,6 +245,29 @@ fn reads_of_sectors(rt: HostRuntime) -> Result<(), Fail> {
     Ok(())
 }
 
+// A phase that only comes too soon runs where the log goes on with it; a request that was withdrawn leaves its number.
+#[test]
+fn a_phase_that_runs_anyway(rt: HostRuntime) -> Result<(), Fail> {
+    let mut audit = opened(rt.alloc())?;
+    audit.accept(Kind::Read, 0, 2, 0)?;
+    audit.withdraw();
+    assert_eq!(rt; audit.wants().len(), 0);
+    assert_eq!(rt; audit.accept(Kind::Read, 0, 4, 0), Ok(0));
+    assert_eq!(rt; audit.run_anyway(&command(0, 0, 2)), false);
+    assert_eq!(rt; audit.judge(&command(0, 0, 4)), Ok(()));
+    assert_eq!(rt;
+        audit.judge(&post(55, 0, 4)),
+        Err(LogBreach::NotReady {
+            lun: 0,
+            start: 55,
+            ready: 60
+        })
+    );
+    assert_eq!(rt; audit.run_anyway(&post(55, 0, 4)), true);
+    assert_eq!(rt; audit.bus_free(), 75);
+    Ok(())
+}
+
 // What isn't accepted.
 #[test]
 fn requests_refused(rt: HostRuntime) -> Result<(), Fail> {

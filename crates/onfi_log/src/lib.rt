@@ -1,0 +1,11 @@
+//! Texts of logs: what each line says, and whether the log is legal, or which line breaks which condition. Alone, it judges a log
+//! of any length that begins with a channel as an [`Audit`](onfi_audit::Audit) has it.
+#![tactic(auto)]
+
+mod judged;
+mod line;
+mod parts;
+mod requests;
+
+pub use line::{LogLine, read_line};
+pub use requests::Requests;
