@@ -15,7 +15,7 @@ use Rattle.onfi_script.specs.Limit.{IsLimited}
 use Rattle.onfi_console.specs.declared.fault.Untaken.{Untaken}
 use Rattle.onfi_console.specs.declared.fault.Untaken.TheVariants.{Refused, Memory, Version}
 use Rattle.onfi_console.specs.declared.parsed.Named.{Named}
-use Rattle.onfi_console.specs.declared.parsed.Named.TheVariants.{Problem, Run, Device}
+use Rattle.onfi_console.specs.declared.parsed.Named.TheVariants.{Problem, Run, Device, Audit}
 use Rattle.onfi_console.specs.declared.parsed.Parsed.{Parsed}
 
 -- `--NAME VALUE`
@@ -77,6 +77,10 @@ run = with_rule (with_rule (with_rule run_planning (value (codes "clock"))) quie
 abbrev pub device : App
 device = with_rule (with_rule (command (codes "device")) quiet) (file (codes "FILE"))
 
+-- `audit [--all] [--quiet] [FILE [LOG]]`
+abbrev pub audit : App
+audit = with_rule (with_rule (with_rule (with_rule (command (codes "audit")) (flag (codes "all"))) quiet) (file (codes "FILE"))) (file (codes "LOG"))
+
 abbrev pub program : App
 program = record (command (codes "onfi_sim")) { top = record (command (codes "onfi_sim")).top { has_version = true } }
 
@@ -84,9 +88,9 @@ program = record (command (codes "onfi_sim")) { top = record (command (codes "on
 abbrev pub planning : App
 planning = with_subcommand (with_subcommand program plan.top) check.top
 
--- .. with `run` and `device`
+-- .. with `run`, `device` and `audit`
 abbrev pub app : App
-app = with_subcommand (with_subcommand planning run.top) device.top
+app = with_subcommand (with_subcommand (with_subcommand planning run.top) device.top) audit.top
 
 -- the number that was given, 1 to 1,048,576; where none was the usual one
 abbrev pub IsLimit : ℕ → Option (List ℕ) → ℕ → Type 0
@@ -214,6 +218,7 @@ abbrev pub IsInRange : Named → Type 0
 IsInRange (Problem command workers) = IsLimited command × (1 ≤ workers) × (workers ≤ 8)
 IsInRange (Run planner limit clocked) = (1 ≤ limit) × (limit ≤ 1048576)
 IsInRange Device = ⊤
+IsInRange (Audit all) = ⊤
 
 -- the flag or number of this name
 abbrev pub given : List ℕ → List Used → Bool
@@ -274,11 +279,20 @@ pub record IsRun (planner : RunPlanner) (used : List Used) : Type 0 where
 abbrev pub IsNamed : Named → List ℕ → List Used → Type 0
 IsNamed (Problem command workers) name used = ((name ≡ codes "plan") × (IsPlan command workers used ⊎ IsPlanByRule command workers used)) ⊎ ((name ≡ codes "check") × IsCheck command used × (workers ≡ 1))
 IsNamed Device name used = name ≡ codes "device"
+IsNamed (Audit all) name used = (name ≡ codes "audit") × (all ≡ given (codes "all") used)
 IsNamed (Run planner limit clocked) name used = (name ≡ codes "run") × IsClock (first_of (codes "clock") used) clocked × (IsRun planner used ⊎ IsRunByRule planner used) × IsLimit (usual_of planner) (first_of (codes "limit") used) limit
+
+-- the file after that of the script: a plan text, or a log
+abbrev pub file_or : Option (List ℕ) → Option (List ℕ) → Option (List ℕ)
+file_or None log = log
+file_or (Some plan) log = Some plan
+
+abbrev pub second_file : List Used → Option (List ℕ)
+second_file used = file_or (first_of (codes "PLAN") used) (first_of (codes "LOG") used)
 
 -- .. with these files, quiet or not
 abbrev pub IsParsed : Parsed → List ℕ → List Used → Type 0
-IsParsed parsed name used = IsNamed parsed.named name used × (option_map (λ s. s.now) parsed.script ≡ first_of (codes "FILE") used) × (option_map (λ s. s.now) parsed.plan ≡ first_of (codes "PLAN") used) × (parsed.quiet ≡ given (codes "quiet") used)
+IsParsed parsed name used = IsNamed parsed.named name used × (option_map (λ s. s.now) parsed.script ≡ first_of (codes "FILE") used) × (option_map (λ s. s.now) parsed.plan ≡ second_file used) × (parsed.quiet ≡ given (codes "quiet") used)
 
 -- the words, of which the first is the program's name, ask for this
 abbrev pub Ask : List (List ℕ) → Parsed → Type 0

@@ -40,7 +40,7 @@ impl ValueFault {
     /// What is said of it.
     fn text(self) -> &'static str {
         match self {
-            ValueFault::NoCommand => "a command was expected: 'plan', 'check', 'run' or 'device'",
+            ValueFault::NoCommand => "a command was expected: 'plan', 'check', 'audit', 'run' or 'device'",
             ValueFault::Limit => "'--limit' wants a number from 1 to 1048576, digits alone",
             ValueFault::Workers => "'--workers' wants a number from 1 to 8, digits alone",
             ValueFault::WorkersBesideRemember => {
@@ -454,7 +454,20 @@ fn named_of(name: &str, used: &ArgMatches<'_>) -> Result<Named, ValueFault>
         "check" => check_of(used),
         "run" => run_of(used),
         "device" => Ok(Named::Device),
+        "audit" => Ok(Named::Audit {
+            all: is_given(used, "all"),
+        }),
         _ => Err(ValueFault::NoCommand),
+    }
+}
+
+/// The file after that of the script.
+fn second_file<'a>(used: &ArgMatches<'a>) -> Option<&'a str>
+    ensures { option_map (λ s. s.now) result ≡ spec.second_file (rows_of (found_of used.now)) }
+{
+    match used.get_str("PLAN") {
+        Some(plan) => Some(plan),
+        None => used.get_str("LOG"),
     }
 }
 
@@ -506,7 +519,7 @@ pub fn read_words<'a>(alloc: Global, words: &'a [String]) -> Result<Parsed<'a>, 
     Ok(Parsed {
         named,
         script: used.get_str("FILE"),
-        plan: used.get_str("PLAN"),
+        plan: second_file(used),
         quiet: is_given(used, "quiet"),
     })
 }

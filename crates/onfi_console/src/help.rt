@@ -93,6 +93,22 @@ or write failed.
 Example:
   onfi_sim device examples/program-by-page.onfi";
 
+pub const AUDIT: &str = "Says whether a log of phases is legal, of any length, or which line breaks which condition.";
+
+pub const AUDIT_MORE: &str = "\
+Input: a script up to its line 'end', of a device and the state of bus and LUNs, and a log behind that line or in the file LOG,
+with a line for each phase in rising start: START LUN KIND PART BLOCK PAGE, or a line of 'plan --trace' or 'plan --requests'.
+Requests are those of the script (want), any number; without such rows each first command of one mentions it.
+Output: 'legal N', the number of phases; or 'illegal LINE CONDITION ..' of the first line that breaks a condition, with --all
+of each; or 'refused log LINE' where a line says nothing.
+
+Statuses: 0 legal; 1 the script is refused; 2 illegal, or the log is refused; 4 memory was refused; 5 the command line is
+refused; 7 a read or write failed.
+
+Example:
+  onfi_sim plan --trace examples/batch.onfi > batch.log
+  onfi_sim audit examples/batch.onfi batch.log";
+
 pub const LIMIT: &str =
     "Open at most N nodes in a search, 1 to 1048576; the greatest where none is named";
 
@@ -145,3 +161,7 @@ pub const QUIET: &str = "Say nothing on standard error";
 pub const FILE: &str = "The script; '-' or none is standard input";
 
 pub const PLAN_FILE: &str = "The plan text; none: it stands behind the script";
+
+pub const ALL: &str = "Report each line that breaks a condition, not the first alone";
+
+pub const LOG_FILE: &str = "The log; none: it stands behind the script";

@@ -17,6 +17,8 @@ pub enum CommandName {
     Run,
     /// The parameter page of a script is described.
     Device,
+    /// A log that begins as a script says is judged.
+    Audit,
 }
 
 impl CommandName {
@@ -29,6 +31,7 @@ impl CommandName {
             CommandName::Check => "check",
             CommandName::Run => "run",
             CommandName::Device => "device",
+            CommandName::Audit => "audit",
         }
     }
 }
@@ -51,6 +54,8 @@ pub enum Named {
     },
     /// The parameter page of a script is described.
     Device,
+    /// A log that begins as a script says is judged: each condition that it breaks where `all` says so, else the first.
+    Audit { all: bool },
 }
 
 /// What a command line asks for.
@@ -78,6 +83,7 @@ impl Parsed<'_> {
             Named::Problem { command, .. } => command_in(command),
             Named::Run { .. } => CommandName::Run,
             Named::Device => CommandName::Device,
+            Named::Audit { .. } => CommandName::Audit,
         }
     }
 
@@ -90,7 +96,7 @@ impl Parsed<'_> {
         match self.named {
             Named::Problem { command, .. } => limit_in(command),
             Named::Run { limit, .. } => limit,
-            Named::Device => MOST,
+            Named::Device | Named::Audit { .. } => MOST,
         }
     }
 
@@ -100,7 +106,7 @@ impl Parsed<'_> {
     {
         match self.named {
             Named::Problem { command, .. } => trace_in(command),
-            Named::Run { .. } | Named::Device => false,
+            Named::Run { .. } | Named::Device | Named::Audit { .. } => false,
         }
     }
 
@@ -112,7 +118,7 @@ impl Parsed<'_> {
         match self.named {
             Named::Problem { workers, .. } => workers,
             Named::Run { .. } => 1,
-            Named::Device => 1,
+            Named::Device | Named::Audit { .. } => 1,
         }
     }
 }

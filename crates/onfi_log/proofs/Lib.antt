@@ -1,2 +1,2 @@
 pub mod PartsLemmas
-pub mod Judging
+pub mod Steps

@@ -1,5 +1,6 @@
 -- Logs that are judged line by line.
-use Rattle.std.specs.Prelude.{◌≡◌, ℕ, ◌+◌, ◌-◌, ◌*◌, ◌==◌, ◌⊎◌, max, nat_le, nat_lt, if◌then◌else◌, Bool, true, false, List, Option, Some, None, slice_get, slice_index_or, slice_set}
+use Rattle.std.specs.Prelude.{◌≡◌, ℕ, ◌+◌, ◌-◌, ◌*◌, [], length, ◌==◌, ◌⊎◌, max, nat_le, nat_lt, if◌then◌else◌, Bool, true, false, List, Option, Some, None, slice_get, slice_index_or, slice_set}
+use Rattle.std.specs.List.{AllByRecursion as Each}
 use Rattle.onfi_timing.specs.declared.kind.Kind.{Kind}
 use Rattle.onfi_timing.specs.declared.kind.Kind.TheVariants as kind
 use Rattle.onfi_timing.specs.declared.operation.Operation.{Operation}
@@ -135,3 +136,8 @@ Steps j line (Some b) k = Breaks j line b × GoesOnBy j line k
 -- the state in which a line is judged
 abbrev pub bringing : Judged → Line → Judged
 bringing j line = record j { audit = with_brought j line }
+
+-- no request has a number yet; of the requests that a log mentions each block has a place for one
+abbrev pub IsFresh : Requests → List ℕ → Type 0
+IsFresh Accepted greatest = greatest ≡ []
+IsFresh Mentioned greatest = (length greatest ≡ 8 * 65536) × Each (λ n. n ≡ 0) greatest

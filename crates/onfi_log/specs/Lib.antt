@@ -1,3 +1,4 @@
 pub mod Parts
 pub mod Line
 pub mod Judging
+pub mod Text

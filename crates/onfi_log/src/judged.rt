@@ -1,5 +1,6 @@
 //! A log as far as it was judged.
-ghost use Rattle.std.specs.Prelude.{◌≡◌, ◌<◌, ◌≤◌, ◌^◌, ◌*◌, ◌+◌, ℕ, true, false, ◌↔◌, None, IsTrue, IsOk, IfOk, IfErr, IfSome, IfNone, slice_index_or};
+ghost use Rattle.std.specs.Prelude.{◌≡◌, ◌<◌, ◌≤◌, ◌^◌, ◌*◌, ◌+◌, ℕ, true, false, ◌↔◌, None, IsTrue, IsOk, IfOk, IfErr, IfSome, IfNone, slice_index_or, length};
+ghost use Rattle.std.specs.List.{AllByRecursion as Each};
 ghost use Rattle.onfi_audit.specs.Audit.{IsAccepting, MayCome, MayComeLater, Tells, after_line, accepting};
 ghost use Rattle.onfi_audit.specs.Audit.{Audit as AnAudit};
 ghost use Rattle.onfi_request.specs.declared.want.Want.{Want as AWant};
@@ -104,7 +105,38 @@ fn block_at(line: &Line) -> usize
     usize::from(line.lun) * 65_536 + usize::from(line.block)
 }
 
+/// So many zeros.
+fn zeros(alloc: Global, count: usize) -> Result<Vec<u64>, AllocError>
+    ensures count { IfOk result (λ v. length v.items ≡ count) }
+    ensures zero { IfOk result (λ v. Each (λ n. n ≡ 0) v.items) }
+{
+    Vec::from_elem(alloc, 0u64, count)
+}
+
+/// How many blocks the LUNs of a channel have.
+const BLOCKS: usize = 8 * 65_536;
+
 impl Judged {
+    /// A log of which nothing was judged.
+    ///
+    /// # Errors
+    /// Where memory was refused.
+    pub(crate) fn of(alloc: Global, requests: Requests, audit: Audit) -> Result<Judged, AllocError>
+        ensures requests { IfOk result (λ j. j.requests ≡ requests) }
+        ensures audit { IfOk result (λ j. j.audit ≡ audit) }
+        ensures fresh { IfOk result (λ j. spec.IsFresh requests j.greatest) }
+    {
+        let greatest = match requests {
+            Requests::Accepted => Vec::new(alloc),
+            Requests::Mentioned => zeros(alloc, BLOCKS)?,
+        };
+        Ok(Judged {
+            requests,
+            audit,
+            greatest,
+        })
+    }
+
     /// Whether the line is a command that begins a request.
     fn begins(&self, line: &Line) -> bool
         ensures { result ≡ spec.begins self.now.audit line.now }

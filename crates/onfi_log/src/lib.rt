@@ -2,10 +2,14 @@
 //! of any length that begins with a channel as an [`Audit`](onfi_audit::Audit) has it.
 #![tactic(auto)]
 
+mod answer;
 mod judged;
+mod judging;
 mod line;
 mod parts;
 mod requests;
 
+pub use answer::LogAnswer;
+pub use judging::judge_log;
 pub use line::{LogLine, read_line};
 pub use requests::Requests;

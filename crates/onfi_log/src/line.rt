@@ -87,7 +87,8 @@ const MOST_START: u64 = (1 << 62) - 1;
 
 /// The number of a request, or none where `-` stands.
 fn request(text: &[u8]) -> Option<Option<u64>>
-    ensures { result ≡ spec.request text.now }
+    ensures value { result ≡ spec.request text.now }
+    ensures small { IfSome result (λ request. IfSome request (λ number. number < 2 ^ 63)) }
 {
     if is_word(text, "-") {
         return Some(None);
@@ -117,7 +118,8 @@ fn lun_at(count: usize) -> Option<usize>
 
 /// The number of the request in the last word of a line.
 fn request_in(words: &[&[u8]]) -> Option<Option<u64>>
-    ensures { result ≡ spec.request_in (map (λ w. w.now) words.now) }
+    ensures value { result ≡ spec.request_in (map (λ w. w.now) words.now) }
+    ensures small { IfSome result (λ request. IfSome request (λ number. number < 2 ^ 63)) }
 {
     match words.len() {
         7 => request(word(words, 6)),
@@ -157,6 +159,7 @@ pub fn read_line(line: &[u8]) -> Option<LogLine>
     ensures value { result ≡ spec.line_of line.now }
     ensures lun { IfSome result (λ line. line.phase.lun ≤ 7) }
     ensures start { IfSome result (λ line. line.phase.start < 2 ^ 62) }
+    ensures small { IfSome result (λ line. IfSome line.request (λ number. number < 2 ^ 63)) }
 {
     let words = words(line)?;
     let at = lun_at(words.len())?;

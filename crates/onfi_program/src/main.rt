@@ -10,7 +10,7 @@ mod input;
 use input::{Unread, read};
 use onfi_console::{Input, Untaken, escaped, is_quiet, message, read_words, shown};
 use onfi_run::{Limit, run_freely};
-use onfi_script::{Answer, Why, answer_by, write_text};
+use onfi_script::{Answer, Why, answer_by, audit, write_text};
 use onfi_sim::{Named, Parsed, describe};
 use std::alloc::AllocError;
 use std::fmt::Display;
@@ -137,6 +137,7 @@ fn answer_to<R: Threads + Wait + Sync + AllocGlobal>(
         }
         Named::Problem { command, workers } => answer_by(rt, alloc, command, workers, text),
         Named::Device => describe(alloc, text),
+        Named::Audit { all } => audit(alloc, all, text),
     }
 }
 

@@ -7,6 +7,7 @@
 mod alone;
 mod answering;
 mod arrays_told;
+mod auditing;
 mod checking;
 mod choosing;
 mod command;
@@ -44,6 +45,7 @@ mod weights;
 mod why;
 
 pub use answering::{answer_by, engine, engine_split, engine_split_by};
+pub use auditing::audit;
 pub use choosing::Choosing;
 pub use command::{Command, Output, PlanOptions};
 pub use count::Count;

@@ -46,7 +46,7 @@ pub fn read_rows(alloc: Global, purpose: Purpose, input: &[u8]) -> Result<Vec<Ro
 }
 
 /// What was set up is refused.
-fn refused(fault: ProblemFault) -> Stop
+pub(crate) fn refused(fault: ProblemFault) -> Stop
     ensures { result ≡ Refused (whole (of.Problem fault)) }
 {
     RowStop::Fault(ScriptFault::Problem(fault)).at(0)

@@ -6,5 +6,5 @@
 pub use onfi_console::{CommandName, Named, Parsed, WordsFault, describe, words};
 pub use onfi_planners::{ChosenPlanner, SlackPlanner, Weighing};
 pub use onfi_run::{NoGate, run_script};
-pub use onfi_script::{Command, EngineFault, Output, PlanOptions, engine, engine_split};
+pub use onfi_script::{Command, EngineFault, Output, PlanOptions, audit, engine, engine_split};
 pub use onfi_seq::Gate;

@@ -2,7 +2,7 @@ use Rattle.std.proofs.Common.{◌≡◌, true, false, inl, inr, refl, sym, ap, �
 use Rattle.std.proofs.lemmas.Bool.{false≢true}
 use Rattle.onfi_audit.specs.Audit.{MayComeLater, request_of}
 use Rattle.onfi_log.specs.Judging.{Judged, brings, kind_of, with_brought}
-use Rattle.onfi_log.proofs.Judging.{brought_is, nothing_brought, ran_is}
+use Rattle.onfi_log.proofs.Steps.{brought_is, nothing_brought, ran_is}
 use Rattle.onfi_log.proofs.judged.Judged.go_on.Goals as goal
 
 pub withdraw-requires : goal.withdraw-requires
