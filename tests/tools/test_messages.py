@@ -17,7 +17,7 @@ Word = Union[str, bytes]
 EXAMPLES = support.ROOT / "examples"
 BATCH = EXAMPLES / "batch.onfi"
 RUN = EXAMPLES / "two-hosts.onfi"
-COMMANDS = ("plan", "check", "run", "device")
+COMMANDS = ("plan", "check", "audit", "run", "device")
 REFUSED_WORDS, FAILED_STREAM = 5, 7
 SECONDS = 20
 # The program reads at most so many bytes at a time.
@@ -54,7 +54,7 @@ class WrongWords(unittest.TestCase):
         ("plan --trase", ["'--trase'", "tip:", "'--trace'"]), ("plan --request", ["'--request'", "tip:", "'--requests'"]),
         ("plan --worker 2", ["'--worker'", "tip:", "'--workers'"]), ("check --remeber", ["'--remeber'", "tip:", "'--remember'"]),
         ("check --legl", ["'--legl'", "tip:", "'--legal'"]), ("run --limt 2", ["'--limt'", "tip:", "'--limit'"]),
-        ("--limit 7 plan", ["'--limit'", "'plan --limit'"]), ("", ["'plan', 'check', 'run' or 'device'", "--help"]),
+        ("--limit 7 plan", ["'--limit'", "'plan --limit'"]), ("", ["'plan', 'check', 'audit', 'run' or 'device'", "--help"]),
         *((f"{command} --limit={value}", ["'--limit'", "1 to 1048576"]) for command in ("plan", "run")
           for value in ("0", "1048577", "x", "", "+7", "99999999999999999999")),
         *((f"plan --workers {value}", ["'--workers'", "1 to 8"]) for value in ("0", "9", "two")),
@@ -95,6 +95,7 @@ class Help(unittest.TestCase):
     OPTIONS = {"plan": ["--limit <N>", "--trace", "--requests", "--workers <N>", "--remember", "--within", "--rule", "--early", "--slack <N>",
                         "-q, --quiet", "[FILE]"],
                "check": ["--remember", "--within", "--legal", "-q, --quiet", "[FILE]", "[PLAN]"],
+               "audit": ["--all", "-q, --quiet", "[FILE]", "[LOG]"],
                "run": ["--limit <N>", "--plain", "--within", "--slack <N>", "--rule", "--clock <CLOCK>", "-q, --quiet", "[FILE]"],
                "device": ["-q, --quiet", "[FILE]"]}
 
@@ -249,14 +250,14 @@ class Files(unittest.TestCase):
         self.assertIsNone(UNSAFE.search(found.said), found.said)
 
     def test_a_directory_is_refused_as_a_file_that_cannot_be_opened(self) -> None:
-        for words in (["plan", str(self.room)], ["check", str(BATCH), str(self.room)], ["run", str(self.room)], ["device", str(self.room)]):
+        for words in (["plan", str(self.room)], ["check", str(BATCH), str(self.room)], ["audit", str(BATCH), str(self.room)], ["run", str(self.room)], ["device", str(self.room)]):
             self.assertEqual(ran(*words), ("", f"error: the file '{self.room}' can't be read: it is a directory\n", REFUSED_WORDS))
             self.assertEqual(ran(*words, "--quiet"), ("", "", REFUSED_WORDS))
 
     @unittest.skipUnless(Path("/proc/self/mem").exists(), "no file that can be opened and not read")
     def test_a_file_whose_read_fails_is_status_7_and_nothing_is_said(self) -> None:
         absent = "/proc/self/mem"
-        for words in (["plan", absent], ["check", str(BATCH), absent], ["run", absent], ["device", absent]):
+        for words in (["plan", absent], ["check", str(BATCH), absent], ["audit", str(BATCH), absent], ["run", absent], ["device", absent]):
             self.assertEqual(ran(*words), ("", "", FAILED_STREAM))
 
 

@@ -1,2 +1,4 @@
 pub mod PartsLemmas
 pub mod Steps
+pub mod Answering
+pub mod LegalLogs

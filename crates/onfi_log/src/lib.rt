@@ -5,6 +5,7 @@
 mod answer;
 mod judged;
 mod judging;
+pub mod laws;
 mod line;
 mod parts;
 mod requests;
