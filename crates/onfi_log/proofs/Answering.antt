@@ -1,11 +1,14 @@
 -- The answer to a log, from a line on.
-use Rattle.std.proofs.Common.{◌≡◌, ◌<◌, ℕ, ◌+◌, Bool, true, false, List, [], ◌∷◌, ◌++◌, length, Option, Some, None, sym, ap, subst, arith}
+use Rattle.std.proofs.Common.{◌≡◌, ◌<◌, ℕ, ◌+◌, Bool, true, false, List, [], ◌∷◌, ◌++◌, length, Option, Some, None, Ok, Err, sym, ap, ◌∙◌, subst, arith}
+use Rattle.std.specs.Prelude.{Result, IfOk}
+use Rattle.onfi_audit.specs.Audit.{Audit}
 use Rattle.onfi_audit.specs.declared.breach.LogBreach.{LogBreach}
 use Rattle.onfi_log.specs.declared.line.LogLine.{LogLine}
-use Rattle.onfi_log.specs.Judging.{Judged, Steps}
+use Rattle.onfi_log.specs.declared.requests.Requests.{Requests}
+use Rattle.onfi_log.specs.Judging.{IsFresh, Judged, Steps}
 use Rattle.onfi_log.specs.Line.{line_of}
 use Rattle.onfi_log.specs.Parts.{parts}
-use Rattle.onfi_log.specs.Text.{Answer, AnswersFrom, OnBreach, OnLine, breach_text, broken, ended, wrong}
+use Rattle.onfi_log.specs.Text.{Answer, AnswersFrom, AnswersLog, OnBreach, OnLine, breach_text, broken, ended, wrong}
 use Rattle.onfi_log.proofs.PartsLemmas.{some_parts}
 
 -- a line breaks a condition, or none, and the log goes on
@@ -51,3 +54,16 @@ module _ (all : Bool) (j : Judged) (number : ℕ) (found left text behind : List
 pub ended_at : (all : Bool) (j : Judged) (number : ℕ) (found left : List ℕ) (answer : Answer) → parts 10 left ≡ left ∷ [] → answer ≡ ended number found left
     → AnswersFrom all j number found (parts 10 left) answer
 ended_at all j number found left answer one e = subst (λ ts. AnswersFrom all j number found ts answer) (sym one) e
+
+-- the answer from the first line on is that to the log
+pub answered : (all : Bool) (requests : Requests) (audit : Audit) (j : Judged) (text : List ℕ) (answer : Answer) → j.requests ≡ requests → j.audit ≡ audit → IsFresh requests j.greatest
+    → AnswersFrom all j 1 [] (parts 10 text) answer → AnswersLog requests audit all text answer
+answered all requests audit j text answer er ea fresh h =
+    let same : j ≡ (let k : Judged = record { requests = requests; audit = audit; greatest = j.greatest } in k) =
+    ap (λ r. let k : Judged = record { requests = r; audit = j.audit; greatest = j.greatest } in k) er
+    ∙ ap (λ a. let k : Judged = record { requests = requests; audit = a; greatest = j.greatest } in k) ea in
+    (j.greatest, fresh, subst (λ k. AnswersFrom all k 1 [] (parts 10 text) answer) same h)
+
+pub if_ok : {A E : Type 0} (P Q : A → Type 0) (r : Result A E) → ((x : A) → P x → Q x) → IfOk r P → IfOk r Q
+if_ok P Q (Ok x) more h = more x h
+if_ok P Q (Err e) more h = h

@@ -20,7 +20,7 @@ use Rattle.onfi_log.specs.declared.line.LogLine.{LogLine}
 use Rattle.onfi_log.specs.declared.requests.Requests.{Requests}
 use Rattle.onfi_log.specs.declared.requests.Requests.TheVariants.{Accepted, Mentioned}
 use Rattle.onfi_log.specs.Judging.{Judged, Steps, begins, begins_on, brings, brings_by, kind_of, takes_page, with_brought}
-use Rattle.onfi_log.specs.Laws.{IsSaid, LegalLaw, Says}
+use Rattle.onfi_log.specs.Laws.{LegalLaw, Says}
 use Rattle.onfi_log.specs.Line.{line_of}
 use Rattle.onfi_log.specs.Parts.{parts}
 use Rattle.onfi_log.specs.Text.{Answer, AnswersFrom, OnBreach, OnLine, breach_text, ended}

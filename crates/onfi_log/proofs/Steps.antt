@@ -1,7 +1,7 @@
 -- A log after a line.
 use Rattle.std.proofs.Common.{◌≡◌, Bool, true, false, refl, ap, ◌∙◌}
 use Rattle.std.specs.Prelude.{if◌then◌else◌}
-use Rattle.onfi_audit.specs.Audit.{IsAccepting, accepting, after_line, request_of}
+use Rattle.onfi_audit.specs.Audit.{accepting, after_line, request_of}
 use Rattle.onfi_audit.specs.declared.line.Line.{Line}
 use Rattle.onfi_log.specs.declared.line.LogLine.{LogLine}
 use Rattle.onfi_log.specs.Judging.{Judged, begins, bringing, brings, kind_of, noted, ran, with_brought}

@@ -198,7 +198,11 @@ impl Judged {
         let number = line.request?;
         let phase = &line.phase;
         match self.requests {
-            Requests::Accepted => misnamed_among(phase, number, self.audit.first_on(phase.lun, phase.block)),
+            Requests::Accepted => misnamed_among(
+                phase,
+                number,
+                self.audit.first_on(phase.lun, phase.block),
+            ),
             Requests::Mentioned => misnamed_after(phase, number, self.greatest_at(phase)),
         }
     }

@@ -23,3 +23,4 @@ pub mod Limit
 pub mod Answer
 pub mod AnswerOf
 pub mod Laws
+pub mod Auditing

@@ -1,12 +1,16 @@
 //! Logs of a channel are judged.
-ghost use Rattle.std.specs.Prelude.{◌≡◌, IfOk};
-ghost use Rattle.onfi_script.specs.Auditing as spec;
+ghost use Rattle.std.specs.Prelude.{◌≡◌, [], ◌∷◌, IfOk, MatchResult, Ok, Err};
+ghost use Rattle.onfi_audit.specs.Audit.{opening};
+ghost use Rattle.onfi_script.specs.Answer.{TellsProblem};
 ghost use Rattle.onfi_script.specs.AnswerOf.{answer_of};
+ghost use Rattle.onfi_script.specs.Auditing as spec;
+ghost use Rattle.onfi_script.specs.SetupOf.{problem_of};
+ghost use Rattle.onfi_script.specs.Stop.{IfRefused};
 
 use crate::fault::{RowStop, ScriptFault, Stop};
 use crate::forms::device_of;
 use crate::purpose::Purpose;
-use crate::reading::{read_rows, refused as problem_refused};
+use crate::reading::{made, read_rows, refused as problem_refused};
 use crate::row::Row;
 use crate::script::plan_text_of;
 use crate::sectors::asks_amiss;
@@ -21,27 +25,18 @@ use onfi_request::Want;
 use onfi_schedule::{Schedule, no_starts};
 use std::alloc::{AllocError, Global};
 
-/// The channel as a script has it, of which nothing waits yet.
-fn opened(alloc: Global, setup: &Setup) -> Result<Audit, Stop> {
-    let made = Problem::new(
-        alloc,
-        setup.timing,
-        setup.rules,
-        setup.bus_free,
-        setup.luns.as_slice(),
-        &[],
-    );
-    let problem = match made {
-        Ok(problem) => problem,
-        Err(ProblemFault::Memory) => return Err(Stop::Memory),
-        Err(fault) => return Err(problem_refused(fault)),
-    };
+/// The channel of a problem, of which nothing waits yet.
+fn opened(alloc: Global, problem: &Problem) -> Audit
+    ensures { result ≡ opening problem.now.problem }
+{
     let none = Schedule::new(no_starts(problem.luns().len()), ArrayVec::new_in(alloc));
-    Ok(Audit::of(alloc, &Flight::of(&problem, &none)))
+    Audit::of(alloc, &Flight::of(problem, &none))
 }
 
-/// Accepts a request that a script names.
-fn accept(audit: &mut Audit, want: &Want) -> Result<(), Stop> {
+/// Accepts what a want asks for.
+fn accept(audit: &mut Audit, want: &Want) -> Result<(), Stop>
+    ensures { MatchResult result (λ _. spec.AcceptsAll (want.now ∷ []) audit.old (Ok audit.new)) (λ stop. IfRefused stop (λ refusal. spec.AcceptsAll (want.now ∷ []) audit.old (Err refusal))) }
+{
     match audit.accept(want.kind, want.lun, want.block, want.page) {
         Ok(_) => Ok(()),
         Err(AcceptFault::NoLun | AcceptFault::ErasePage) => {
@@ -52,8 +47,10 @@ fn accept(audit: &mut Audit, want: &Want) -> Result<(), Stop> {
     }
 }
 
-/// Accepts all requests that a script names, in order.
-fn accept_all(audit: &mut Audit, wants: &[Want]) -> Result<(), Stop> {
+/// Accepts what wants ask for, one after another.
+fn accept_all(audit: &mut Audit, wants: &[Want]) -> Result<(), Stop>
+    ensures { MatchResult result (λ _. spec.AcceptsAll wants.now audit.old (Ok audit.new)) (λ stop. IfRefused stop (λ refusal. spec.AcceptsAll wants.now audit.old (Err refusal))) }
+{
     for want in wants {
         accept(audit, want)?;
     }
@@ -61,7 +58,9 @@ fn accept_all(audit: &mut Audit, wants: &[Want]) -> Result<(), Stop> {
 }
 
 /// Which requests the log of a script with these is of.
-fn requests_of(wants: &[Want]) -> Requests {
+fn requests_of(wants: &[Want]) -> Requests
+    ensures { result ≡ spec.requests_of wants.now }
+{
     if wants.is_empty() {
         Requests::Mentioned
     } else {
@@ -69,19 +68,31 @@ fn requests_of(wants: &[Want]) -> Requests {
     }
 }
 
-/// What a log begins with: the channel, and the requests that its script names.
-fn begun(alloc: Global, rows: &[Row], setup: &Setup) -> Result<Audit, Stop> {
-    let mut audit = opened(alloc, setup)?;
-    let wants = setup.wants.as_slice();
-    accept_all(&mut audit, wants)?;
-    if asks_amiss(rows, wants) {
+/// What a log begins with: the channel, and the requests of its script.
+fn begun(alloc: Global, rows: &[Row], setup: Setup) -> Result<(Audit, Requests), Stop>
+    ensures { MatchResult result (λ b. spec.TellsBegun rows.now (problem_of setup) (Ok b.0) × (b.1 ≡ spec.requests_of setup.wants.items)) (λ stop. IfRefused stop (λ refusal. spec.TellsBegun rows.now (problem_of setup) (Err refusal))) }
+{
+    let wants = setup.wants;
+    let bare = Setup {
+        timing: setup.timing,
+        rules: setup.rules,
+        bus_free: setup.bus_free,
+        luns: setup.luns,
+        wants: Vec::new(alloc),
+    };
+    let problem = made(alloc, rows, &bare)?;
+    let mut audit = opened(alloc, &problem);
+    accept_all(&mut audit, wants.as_slice())?;
+    if asks_amiss(rows, wants.as_slice()) {
         return Err(problem_refused(ProblemFault::NoLengths));
     }
-    Ok(audit)
+    Ok((audit, requests_of(wants.as_slice())))
 }
 
 /// .. by the rows of a script, each in order.
-fn begun_by(alloc: Global, rows: &[Row]) -> Result<(Audit, Requests), Stop> {
+fn begun_by(alloc: Global, rows: &[Row]) -> Result<(Audit, Requests), Stop>
+    ensures { MatchResult result (λ b. spec.TellsOpening rows.now (Ok b)) (λ stop. IfRefused stop (λ refusal. spec.TellsOpening rows.now (Err refusal))) }
+{
     let device = match device_of(alloc, rows) {
         Ok(device) => device,
         Err(stop) => return Err(stop.at(0)),
@@ -92,12 +103,13 @@ fn begun_by(alloc: Global, rows: &[Row]) -> Result<(Audit, Requests), Stop> {
     let Ok(setup) = set_up(alloc, rows, &device) else {
         return Err(Stop::Memory);
     };
-    let audit = begun(alloc, rows, &setup)?;
-    Ok((audit, requests_of(setup.wants.as_slice())))
+    begun(alloc, rows, setup)
 }
 
 /// .. by an input.
-fn read_begun(alloc: Global, input: &[u8]) -> Result<(Audit, Requests), Stop> {
+fn read_begun(alloc: Global, input: &[u8]) -> Result<(Audit, Requests), Stop>
+    ensures { MatchResult result (λ b. spec.TellsLog input.now (Ok b)) (λ stop. IfRefused stop (λ refusal. spec.TellsLog input.now (Err refusal))) }
+{
     let rows = read_rows(alloc, Purpose::Problem, input)?;
     begun_by(alloc, rows.as_slice())
 }
@@ -107,7 +119,9 @@ fn read_begun(alloc: Global, input: &[u8]) -> Result<(Audit, Requests), Stop> {
 ///
 /// # Errors
 /// Where memory was refused.
-pub fn audit(alloc: Global, all: bool, input: &[u8]) -> Result<Answer, AllocError> {
+pub fn audit(alloc: Global, all: bool, input: &[u8]) -> Result<Answer, AllocError>
+    ensures { IfOk result (λ a. spec.AnswersAudit all input.now (answer_of a)) }
+{
     match read_begun(alloc, input) {
         Ok((audit, requests)) => {
             let answer = judge_log(alloc, audit, requests, all, plan_text_of(input))?;

@@ -53,7 +53,7 @@ pub(crate) fn refused(fault: ProblemFault) -> Stop
 }
 
 /// The problem of what was set up.
-fn made(alloc: Global, rows: &[Row], setup: &Setup) -> Result<Problem, Stop>
+pub(crate) fn made(alloc: Global, rows: &[Row], setup: &Setup) -> Result<Problem, Stop>
     ensures told { Tells IfRefused (λ p. p.problem) result (TellsProblem rows.now (problem_of setup.now)) }
     ensures begun { IfOk result (λ p. p.all ≡ p.problem.wants) }
 {

@@ -1,4 +1,4 @@
-use Rattle.std.proofs.Common.{ℕ, ◌+◌, ◌≤◌, [], length, string_bytes}
+use Rattle.std.proofs.Common.{◌+◌, ◌≤◌, [], length, string_bytes}
 use Rattle.onfi_log.specs.Parts.{parts}
 use Rattle.onfi_log.specs.Text.{Answer, AnswersFrom}
 use Rattle.onfi_log.proofs.judging.judge_log.Given as goal

@@ -1,7 +1,7 @@
-use Rattle.std.proofs.Common.{◌≡◌, true, false, inl, inr, refl, sym, ap, ◌∙◌, subst}
+use Rattle.std.proofs.Common.{inl, inr, sym, ap, ◌∙◌, subst}
 use Rattle.std.proofs.lemmas.Bool.{false≢true}
 use Rattle.onfi_audit.specs.Audit.{MayComeLater, request_of}
-use Rattle.onfi_log.specs.Judging.{Judged, brings, kind_of, with_brought}
+use Rattle.onfi_log.specs.Judging.{Judged, kind_of, with_brought}
 use Rattle.onfi_log.proofs.Steps.{brought_is, nothing_brought, ran_is}
 use Rattle.onfi_log.proofs.judged.Judged.go_on.Goals as goal
 
