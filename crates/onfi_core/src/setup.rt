@@ -1,11 +1,13 @@
-ghost use Rattle.std.specs.Prelude.{◌≡◌, ℕ, ◌≤◌, ◌↔◌, IfOk, IsErrOf};
+ghost use Rattle.std.specs.Prelude.{◌≡◌, ℕ, ◌≤◌, ◌↔◌, IfOk, IsErrOf, IsTrue};
 ghost use Rattle.onfi_core.specs.Ranges.{IsBetween};
+ghost use Rattle.onfi_core.specs.Stated.{StatesParts};
 ghost use Rattle.onfi_core.specs.declared.setup.Choice.TheVariants.{InOrder};
 ghost use Rattle.onfi_core.specs.declared.setup.Replanning.TheVariants.{AtOnce};
 
 use onfi_addr::Geometry;
 use onfi_group::Rules;
-use onfi_timing::Timing;
+use onfi_request::has_part;
+use onfi_timing::{Kind, Timing};
 use thiserror::Error;
 
 /// Which of the accepted items that aren't started a planning takes, up to the batch.
@@ -72,6 +74,7 @@ pub struct Setup {
     ghost few_posts: { post_cap ≤ 1024 },
     ghost some_node: { 1 ≤ limit },
     ghost few_nodes: { limit ≤ 1048576 },
+    ghost stated: { StatesParts geometry timing },
 }
 
 /// Which number of a setup is out of range, in the order in which it is reported.
@@ -95,6 +98,22 @@ pub enum SetupFault {
     /// Not 1 to 1,048,576 nodes.
     #[error("a search limit that is not 1 to 1,048,576")]
     Limit,
+    /// Sectors that a page has, of which the timing doesn't state how long they take.
+    #[error("sectors of a page whose length is not stated")]
+    Lengths,
+}
+
+/// Whether the timing states how long each kind takes of which a page has what it puts out.
+fn states_parts(geometry: &Geometry, timing: &Timing) -> bool
+    ensures { IsTrue result ↔ StatesParts geometry.now timing.now }
+{
+    for count in 1..8u8 {
+        let kind = Kind::ReadSectors { first: 0, count };
+        if has_part(geometry, kind) && !timing.states(kind) {
+            return false;
+        }
+    }
+    true
 }
 
 impl Setup {
@@ -103,7 +122,8 @@ impl Setup {
     /// as soon as there are any; [`Setup::with_choice`] and [`Setup::with_replanning`] change that.
     ///
     /// # Errors
-    /// The first of `Channels`, `Hosts`, `Batch`, `SubmitCap`, `PostCap` and `Limit` whose number is out of range.
+    /// The first of `Channels`, `Hosts`, `Batch`, `SubmitCap`, `PostCap` and `Limit` whose number is out of range; else `Lengths`
+    /// where the timing doesn't state the posts of all sectors that a page has, one to seven.
     pub fn new(
         geometry: Geometry,
         timing: Timing,
@@ -129,6 +149,9 @@ impl Setup {
             ↔ (IsBetween 1 4 channels × IsBetween 1 4 hosts × IsBetween 1 8 batch × IsBetween 1 1024 submit_cap × ¬ IsBetween 1 1024 post_cap) }
         ensures limit { IsErrOf result SetupFault.Limit
             ↔ (IsBetween 1 4 channels × IsBetween 1 4 hosts × IsBetween 1 8 batch × IsBetween 1 1024 submit_cap × IsBetween 1 1024 post_cap × ¬ IsBetween 1 1048576 limit) }
+        ensures lengths { IsErrOf result SetupFault.Lengths
+            ↔ (IsBetween 1 4 channels × IsBetween 1 4 hosts × IsBetween 1 8 batch × IsBetween 1 1024 submit_cap × IsBetween 1 1024 post_cap × IsBetween 1 1048576 limit
+            × ¬ StatesParts geometry timing) }
     {
         if channels < 1 || channels > 4 {
             return Err(SetupFault::Channels);
@@ -147,6 +170,9 @@ impl Setup {
         }
         if limit < 1 || limit > 1_048_576 {
             return Err(SetupFault::Limit);
+        }
+        if !states_parts(&geometry, &timing) {
+            return Err(SetupFault::Lengths);
         }
         Ok(Setup {
             geometry,

@@ -62,7 +62,7 @@ fn bits_for(count: u32) -> u32
 }
 
 impl GeometryRow {
-    /// The geometry with the LUNs, planes and groups of that shape. All bytes of a page are data; rows have four address
+    /// The geometry with the LUNs, planes and groups of that shape. All bytes of a page are data, read as a whole; rows have four address
     /// cycles and columns two, which each such device fits.
     pub fn geometry(&self, shape: &ShapeRow) -> Geometry
         ensures { IsLaidOut shape.now self.now result }
@@ -79,6 +79,7 @@ impl GeometryRow {
             row_address_cycles: 4,
             data_bytes: self.bytes,
             spare_bytes: 0,
+            sector_bytes: 0,
             any_page_order: self.any_order,
             multi_plane_writes: shape.write(),
             multi_plane_reads: shape.read(),
