@@ -84,10 +84,10 @@ fn read_sectors<C: Chip>(
     ensures bus { IfErr result (λ fault. fault ≡ PostFault.Bus) }
 {
     let mut room = room;
-    let Ok(()) = chip.sectors_out(now, row, column, room.as_mut_slice()) else {
-        return Err(PostFault::Bus);
-    };
-    Ok(Answer::Read(Bytes::of(room)))
+    match chip.sectors_out(now, row, column, room.as_mut_slice()) {
+        Ok(()) => Ok(Answer::Read(Bytes::of(room))),
+        Err(_unread) => Err(PostFault::Bus),
+    }
 }
 
 // The status of a program or an erase.

@@ -1,5 +1,5 @@
 -- What a read of a page gives.
-use Rattle.std.proofs.Common.{◌≡◌, ℕ, ◌+◌, ◌≤◌, List, length, take, drop, ◌∙◌, arith}
+use Rattle.std.proofs.Common.{◌≡◌, ℕ, ◌+◌, ◌≤◌, List, length, take, drop, arith}
 use Rattle.std.proofs.lemmas.List.{length-drop, length-replicate, length-take}
 use Rattle.onfi_die.specs.declared.page.Page.{Page}
 use Rattle.onfi_die.specs.declared.page.Page.TheVariants.{Erased, Torn, Holds}

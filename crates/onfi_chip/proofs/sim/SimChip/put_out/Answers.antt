@@ -1,4 +1,4 @@
-use Rattle.std.proofs.Common.{refl, sym, ap, subst, ◌∙◌}
+use Rattle.std.proofs.Common.{length, refl, sym, ap, subst, ◌∙◌}
 use Rattle.onfi_timing.specs.Kinds.{operation_of}
 use Rattle.onfi_request.specs.declared.answer.Answer.{Answer}
 use Rattle.onfi_request.specs.declared.answer.Answer.TheVariants.{Read}
@@ -18,7 +18,7 @@ unreachable-requires c =
     let h = c.requires.next.2 in
     let place = c.place-place.ensures post.place h.in_range h.row_is in
     let told = c.post-post.ensures.taken post left h.ready (posts_there old c.args.now c.args.row post left c.place-place.result place h) in
-    is_read _ c.post-post.result.kind c.post-post.result.answer (ap (λ (q : Post). operation_of q.kind) told.0 ∙ c.requires.next.3) c.post-post.ensures.form c.in_default.not-Read
+    is_read (shape_of old.dies.geometry) c.post-post.result.kind c.post-post.result.answer (ap (λ (q : Post). operation_of q.kind) told.0 ∙ c.requires.next.3) c.post-post.ensures.form c.in_default.not-Read
 
 pub copy_from_slice-requires : goal.copy_from_slice-requires
 copy_from_slice-requires c =
@@ -31,7 +31,7 @@ copy_from_slice-requires c =
     let form : IsAnswerTo (shape_of old.dies.geometry) post.kind (Read c.in-Read.bytes) =
     subst (λ (q : Post). IsAnswerTo (shape_of old.dies.geometry) q.kind (Read c.in-Read.bytes)) told.0
     (subst (λ (a : Answer). IsAnswerTo (shape_of old.dies.geometry) c.post-post.result.kind a) c.in-Read.is c.post-post.ensures.form) in
-    c.requires.next.4 ∙ sym (as_many_bytes old.dies.geometry post.kind c.in-Read.bytes h.part c.requires.next.3 form)
+    c.requires.next.4 ∙ sym (as_many_bytes old.dies.geometry post.kind c.in-Read.bytes h.part c.requires.next.3 form) ∙ ap length (sym c.in-Read.bytes-is ∙ sym c.as_slice.ensures)
 
 pub returns-clause-ok : goal.returns-clause-ok
 returns-clause-ok c post left h =
