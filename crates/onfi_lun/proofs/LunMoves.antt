@@ -7,8 +7,7 @@ use Rattle.onfi_addr.specs.declared.geometry.Geometry.{Geometry}
 use Rattle.onfi_addr.specs.declared.place.Place.{Place}
 use Rattle.onfi_addr.specs.Rows.{IsInRange, row_of}
 use Rattle.onfi_addr.proofs.RowLemmas.{fields_of, place_is}
-use Rattle.onfi_timing.specs.declared.kind.Kind.{Kind}
-use Rattle.onfi_timing.specs.Kinds.{sectors_of, spans_of}
+use Rattle.onfi_timing.specs.Kinds.{spans_of}
 use Rattle.onfi_request.specs.Parts.{has_part}
 use Rattle.onfi_request.specs.declared.request.Item.{Item}
 use Rattle.onfi_request.specs.declared.request.Request.{Request}
@@ -19,11 +18,7 @@ use Rattle.onfi_chip.specs.declared.fetch.Fetch.{Fetch}
 use Rattle.onfi_chip.specs.declared.post.Post.{Post}
 use Rattle.onfi_chip.specs.Chip.{Chip, Lun, after_post, found_ready, luns_ready_by, posted, ready_by}
 use Rattle.onfi_chip.specs.Chip.Lun.{Idle as DoesNothing, Posting as HasPosts}
-use Rattle.onfi_chip.specs.declared.fault.ChipFault.{ChipFault}
-use Rattle.onfi_chip.specs.declared.fault.ChipFault.TheVariants as chip_fault
-use Rattle.onfi_chip.specs.declared.fault.PostFault.{PostFault}
-use Rattle.onfi_chip.specs.declared.fault.PostFault.TheVariants as post_fault
-use Rattle.onfi_chip.specs.Calls.{AfterFault, command_of, HasDone, IsMissed, IsNextPost, MayTake}
+use Rattle.onfi_chip.specs.Calls.{command_of, HasDone, IsNextPost, MayTake}
 use Rattle.onfi_chip.proofs.SimCalls.{in_range}
 use Rattle.onfi_flight.specs.declared.due.Due.{Due}
 use Rattle.onfi_lun.specs.declared.lun.Lun.{Lun as Typed}
@@ -33,7 +28,6 @@ use Rattle.onfi_lun.specs.declared.states.Posting.{Posting as InPosts}
 use Rattle.onfi_lun.specs.declared.lanes.any_lun.AnyLun.{AnyLun}
 use Rattle.onfi_lun.specs.declared.lanes.any_lun.AnyLun.TheVariants.{Idle, Queuing, Working, Posting, Moving}
 use Rattle.onfi_lun.specs.declared.target.Target.{Target}
-use Rattle.onfi_lun.specs.Drive.{AfterDrive, fault_of_command, fault_of_post}
 use Rattle.onfi_lun.specs.Phases.{IsOf, IsDue, IsPosted, OthersStay}
 use Rattle.onfi_lun.specs.Lanes.{IsThere, LanesAgree, AreIdle, IsIdleAt, MayRunDue, OthersKept, IsPostOf, IsRipe, number_in, left_in, ready_in, behind_post}
 use Rattle.onfi_lun.proofs.Phases.{same_posts}
@@ -223,18 +217,6 @@ post_of target chip due item fetch may le kind place =
         place = here ∙ sym place;
       },
     )
-
--- Phases that weren't run
-
-pub missed_command : (due : Due) (item : Item) (fault : ChipFault) (old new : Chip) → AfterFault fault old new → AfterDrive due item (fault_of_command fault) old new
-missed_command due item chip_fault.Bus old new h = inl h
-missed_command due item chip_fault.Memory old new h = h
-
-pub missed_post : (due : Due) (item : Item) (k : Kind) (fault : PostFault) (old new : Chip) → length due.group ≤ due.phase → k ≡ item.request.kind → IsMissed k fault old new → AfterDrive due item (fault_of_post fault) old new
-missed_post due item k post_fault.Bus old new le e (inl lost) = inl lost
-missed_post due item k post_fault.Bus old new le e (inr r) = inr (record { post = le; sectors = subst (λ (q : Kind). 1 ≤ sectors_of q) e r.sectors; same = r.same })
-missed_post due item k post_fault.NotReady old new le e (inl lost) = lost
-missed_post due item k post_fault.NotReady old new le e (inr r) = absurd (let b = r.bus in cc)
 
 -- Polls
 
