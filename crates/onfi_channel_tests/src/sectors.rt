@@ -135,8 +135,13 @@ pub(crate) fn setup(rt: &impl Abort, timing: Timing) -> Result<Setup, SetupFault
 #[test]
 fn a_setup_states_the_posts_of_all_sectors_of_a_page(rt: HostRuntime) {
     assert!(rt; setup(&rt, sectored_timing(&rt)).is_ok());
-    assert_eq!(rt; setup(&rt, sample_timing()).err(), Some(SetupFault::Lengths));
-    let one = sample_timing().with_sectors(1, 3_000).expect(&rt, "a length");
+    assert_eq!(rt;
+        setup(&rt, sample_timing()).err(),
+        Some(SetupFault::Lengths)
+    );
+    let one = sample_timing()
+        .with_sectors(1, 3_000)
+        .expect(&rt, "a length");
     assert_eq!(rt; setup(&rt, one).err(), Some(SetupFault::Lengths));
 }
 
