@@ -100,7 +100,8 @@ class Texts(unittest.TestCase):
         for case in read_cases([]):
             page = numbers_in(case.input)
             told = alike(rng)
-            if case.status or case.second or case.input.count(usual) != 1 or not page:
+            # (posts of sectors by strobes have cases of their own)
+            if case.status or case.second or case.input.count(usual) != 1 or not page or b"\nsector," in case.input:
                 continue
             if device.strobed_spans_of(page, *told) != device.spans_of(page, SHEET):
                 continue
