@@ -27,9 +27,9 @@ PROGRAM := $(sort $(LIBRARIES) $(foreach crate,$(call below,onfi_program),$(fore
 # The crates are a chain but for one. So some are proved ahead, beside the crates named here, from their sources.
 ahead_onfi_addr := onfi_param
 ahead_onfi_request := onfi_timing
-ahead_onfi_script := onfi_group onfi_problem onfi_schedule onfi_bound onfi_cert onfi_check onfi_demand onfi_known_check onfi_planner onfi_known_plan
+ahead_onfi_script := onfi_group onfi_problem onfi_schedule onfi_flight onfi_audit onfi_log onfi_bound onfi_cert onfi_check onfi_demand onfi_known_check onfi_planner onfi_plan onfi_steady onfi_known_plan onfi_gap
 # Of onfi_script the modules that only read and write text.
-only_onfi_script := script row device_row problem_row rows row_name field forms text fault seen parts transfer members plan_line plan_text
+only_onfi_script := script row device_row problem_row rows row_name field forms text fault seen transfer members plan_line plan_text
 
 # What is built is for x86-64, or for the processor that TARGET names, and stands in folders of its name then.
 ifneq ($(filter library wheel install install-library install-program,$(MAKECMDGOALS)),)

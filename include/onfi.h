@@ -73,6 +73,7 @@ enum onfi_status {
     ONFI_BAD_BATCH = 26, /* A batch of no request, or of more than eight. */
     ONFI_BAD_ORDER = 27, /* Numbers of requests are equal or don't rise, or reach the count of all that were accepted. */
     ONFI_NO_LENGTHS = 28, /* A read of so many sectors without a post of as many, or sectors of what is no read. */
+    ONFI_BAD_SECTORS = 29, /* Sectors of a read that its page doesn't have, or that have no byte. */
     /* schedules */
     ONFI_BAD_SCHEDULE = 30, /* A count of a schedule is out of its range, or a start is 2^63 ns or more. */
     ONFI_NOTHING_DUE = 31, /* No phase of the schedule is left. */
@@ -135,6 +136,40 @@ enum onfi_kind { ONFI_READ = 0, ONFI_PROGRAM = 1, ONFI_ERASE = 2 };
 
 /* The kind of a read that puts out so many sectors of its page, 1 to ONFI_SECTORS; only calls onfi_.._by take it. With 0 it is the onfi_kind. */
 #define ONFI_KIND(operation, sectors) ((uint8_t)((operation) | (sectors) << 5))
+
+/*
+ * Which condition of a legal schedule is broken. After each is what of an onfi_broken says it; what isn't named there is 0.
+ *
+ * They are looked at in this order, some together: 3 and 4, 14 and 15 LUN by LUN, 7 and 8 request by request, 9 to 11 group by group.
+ */
+enum onfi_condition {
+    ONFI_BREACH_NONE = 0,            /* none: the schedule is legal */
+    ONFI_BREACH_FOREIGN_LUN = 1,     /* there are starts for a LUN past the last one, which is lun */
+    ONFI_BREACH_MISSING_LUN = 2,     /* it has no starts, not even none, for lun and those after it */
+    ONFI_BREACH_REST_OF_FREE_LUN = 3, /* it goes on with lun, which is free */
+    ONFI_BREACH_REST_COUNT = 4,      /* lun's running group has count starts, and right phases left */
+    ONFI_BREACH_START_COUNT = 5,     /* never answered: a group of an onfi_schedule has two starts for each member */
+    ONFI_BREACH_UNKNOWN_REQUEST = 6, /* a group names want, and none has that id */
+    ONFI_BREACH_MISSING_REQUEST = 7, /* want is in no group */
+    ONFI_BREACH_REPEATED_REQUEST = 8, /* want is in groups count times */
+    ONFI_BREACH_MIXED_GROUP = 9,     /* want can't be grouped with other_want, the first of its group: in what they differ is difference */
+    ONFI_BREACH_SINGLE_PLANE = 10,   /* want can't be grouped with other_want: by the rules no several of their kind run as one */
+    ONFI_BREACH_PLANE_ORDER = 11,    /* want's plane isn't above that of other_want, right before it in the group */
+    ONFI_BREACH_BUS_NOT_FREE = 12,   /* phase starts at start; the bus is free from earliest on */
+    ONFI_BREACH_OVERLAP = 13,        /* phase starts at start, while other has the bus from held until earliest */
+    ONFI_BREACH_NOT_READY = 14,      /* phase, the next of lun's running group, starts at start; lun is ready from earliest on */
+    ONFI_BREACH_WAIT_TOO_SHORT = 15, /* phase starts at start; after other, right before it in the group, lun is ready from earliest on */
+    ONFI_BREACH_RUNNING_GROUP_LEFT = 16, /* phase begins a group at start; lun's running group ends at earliest */
+    ONFI_BREACH_LUN_TAKEN = 17,      /* phase begins a group at start, while that whose first is other_want has lun from held until earliest */
+    ONFI_BREACH_LUN_NOT_FREE = 18,   /* phase begins a group at start; lun is free from earliest on */
+    ONFI_BREACH_BLOCK_ORDER = 19     /* want's group starts at start; other_want comes first on their block, and its group ends at earliest */
+};
+
+/* In what two members of a group differ, and may not; the last is the block number above the plane bits, where groups are strict. */
+enum onfi_difference { ONFI_OTHER_KIND = 1, ONFI_OTHER_LUN = 2, ONFI_OTHER_PAGE = 3, ONFI_OTHER_BLOCK = 4 };
+
+/* What a phase is to its request: its command, the data output of a read, or the status of a program or an erase. */
+enum onfi_part { ONFI_COMMAND = 0, ONFI_DATA_OUTPUT = 1, ONFI_STATUS_OUTPUT = 2 };
 
 /* How a batch is chosen: the oldest requests; by LUN, the one that comes free soonest first; by LUN, and of each its reads first. */
 enum onfi_choice { ONFI_IN_ORDER = 0, ONFI_BY_LUN = 1, ONFI_READS_FIRST = 2 };
@@ -232,6 +267,31 @@ typedef struct onfi_verdict {
     uint64_t place;  /* the token that a refusal speaks of, counted from 0; else 0 */
 } onfi_verdict;
 
+/* A phase of a schedule by its name: whose command or post it is. */
+typedef struct onfi_named {
+    uint64_t want;   /* the id of its request; 0 where is_running is true */
+    uint16_t block;  /* where is_running is true the block of its member, else 0 */
+    uint8_t lun;     /* .. and its LUN */
+    uint8_t part;    /* an onfi_part */
+    bool is_running; /* whether it is of a group that runs as the planning begins, whose members' ids aren't looked at */
+} onfi_named;
+
+/* The condition that a schedule breaks, and what says it: onfi_condition has which of these are named by which condition, others are 0. */
+typedef struct onfi_broken {
+    onfi_named phase;    /* the phase that starts too soon */
+    onfi_named other;    /* the phase before it, or that has the bus */
+    uint64_t want;       /* the id of the request that is spoken of */
+    uint64_t other_want; /* that of the other one: the first of its group, the one before it, or the earlier one on its block */
+    uint64_t start;      /* when the phase starts by the schedule, in ns */
+    uint64_t earliest;   /* from when on it could, as far as this condition goes, in ns */
+    uint64_t held;       /* since when what is in its way has the bus or the LUN, in ns */
+    uint64_t count;      /* how many there are */
+    uint64_t right;      /* how many there have to be */
+    uint8_t condition;   /* an onfi_condition */
+    uint8_t lun;         /* the LUN that is spoken of */
+    uint8_t difference;  /* an onfi_difference */
+} onfi_broken;
+
 typedef struct onfi_geometry {
     uint32_t blocks_per_lun; /* 1 to 65,536 */
     uint32_t page_bits;      /* bits of a page number in a row address, at most 12 */
@@ -259,6 +319,56 @@ typedef struct onfi_device {
     onfi_geometry geometry;
 } onfi_device;
 
+/*
+ * Which condition a phase of a log breaks. After each is what of an onfi_log_broken says it; what isn't named there is 0.
+ *
+ * They are looked at in this order, of a LUN that is there those that its state allows.
+ */
+enum onfi_log_condition {
+    ONFI_LOG_NONE = 0,            /* none: the phase is legal */
+    ONFI_LOG_NO_LUN = 1,          /* the channel has no lun */
+    ONFI_LOG_NOTHING_RUNS = 2,    /* a post on lun, which has none left */
+    ONFI_LOG_OTHER_PHASE = 3,     /* lun's group has another phase next: the command, or where is_post is true the post, of block and page */
+    ONFI_LOG_UNKNOWN_REQUEST = 4, /* never answered: each command brings its own request */
+    ONFI_LOG_BLOCK_ORDER = 5,     /* never answered, for the same reason */
+    ONFI_LOG_NOT_GROUPED = 6,     /* request want makes no group with what its LUN has had commands of, whose first is other_want */
+    ONFI_LOG_BUS_NOT_FREE = 7,    /* the phase starts at start; the bus is free from earliest on */
+    ONFI_LOG_LUN_NOT_FREE = 8,    /* a group starts on lun at start; lun is free from earliest on */
+    ONFI_LOG_NOT_READY = 9        /* a further phase of lun's group starts at start; lun is ready from earliest on */
+};
+
+/* The condition that a phase of a log breaks, and what says it: onfi_log_condition has which of these are named by which condition. */
+typedef struct onfi_log_broken {
+    uint64_t want;       /* the number of the request that is spoken of: how many the log began before it */
+    uint64_t other_want; /* that of the other one */
+    uint64_t start;      /* when the phase starts, in ns */
+    uint64_t earliest;   /* from when on it could, as far as this condition goes, in ns */
+    uint16_t block;
+    uint16_t page;
+    uint8_t condition;   /* an onfi_log_condition */
+    uint8_t lun;         /* the LUN that is spoken of */
+    bool is_post;
+} onfi_log_broken;
+
+/* What a LUN does by a log. */
+typedef struct onfi_stage {
+    onfi_lun lun;    /* as in the list of LUNs; while is_open isn't 0 since is from when on the first post may start, and next means nothing */
+    uint64_t more;   /* while is_open isn't 0: from when on a further command may join its group, in ns */
+    uint8_t is_open; /* not 0 while it has had commands alone, so that its group may get more members */
+} onfi_stage;
+
+/*
+ * What a log has left: the caller's memory, which onfi_audit_begin writes, and which the other calls of an audit read and write. Whatever
+ * it has, no call goes wrong: what is out of its range is refused.
+ */
+typedef struct onfi_audit {
+    onfi_channel channel; /* as it stands */
+    onfi_lengths lengths; /* 0 where the log began without */
+    uint64_t accepted;    /* how many requests began: the id of the next one */
+    uint8_t luns;
+    onfi_stage lun[ONFI_LUNS]; /* what is past the count means nothing */
+} onfi_audit;
+
 /* A phase on the bus: a command with its address and data, or a post, which is a data output or a status byte. */
 typedef struct onfi_phase {
     uint64_t start;     /* when it starts by the schedule, in ns */
@@ -276,6 +386,12 @@ typedef struct onfi_phase {
     uint8_t row_cycles; /* how many cycles of the row address, lowest byte first */
     bool is_post;
 } onfi_phase;
+
+/* What a phase puts out of its page. */
+typedef struct onfi_output {
+    uint16_t column; /* at which byte of the page it begins: the column address, of which geometry.column_address_cycles cycles go out, lowest byte first */
+    uint16_t bytes;  /* how many bytes the host takes; 0 where it takes no byte of a page */
+} onfi_output;
 
 /* A request that waits in a queue, and how many groups with a later request began on its LUN since it was accepted. */
 typedef struct onfi_waiter {
@@ -369,8 +485,8 @@ uint32_t onfi_plan_early(const onfi_channel *channel, const onfi_lun *luns, size
  *
  * ONFI_DONE: the schedule is optimal, and verdict->finish says when it ends. Else the answer is the first of the channel's
  * faults as by onfi_plan; ONFI_BAD_SCHEDULE; a fault of the text (40 ..), ONFI_ILLEGAL, a fault of the tokens (51 ..) with
- * verdict->place. An id that no want has makes a schedule illegal. ONFI_MEMORY may stand in place of any after
- * ONFI_BAD_KIND.
+ * verdict->place. An id that no want has makes a schedule illegal; onfi_breach says which condition of ONFI_ILLEGAL is broken.
+ * ONFI_MEMORY may stand in place of any after ONFI_BAD_KIND.
  */
 uint32_t onfi_check(const onfi_channel *channel, const onfi_lun *luns, size_t lun_count, const onfi_want *wants, size_t want_count,
                     const onfi_schedule *schedule, const uint8_t *certificate, size_t certificate_bytes, onfi_verdict *verdict);
@@ -392,6 +508,20 @@ uint32_t onfi_check_known(const onfi_channel *channel, const onfi_lun *luns, siz
  */
 uint32_t onfi_check_within(const onfi_channel *channel, const onfi_lun *luns, size_t lun_count, const onfi_want *wants, size_t want_count,
                            const onfi_schedule *schedule, uint64_t below, const uint8_t *certificate, size_t certificate_bytes, onfi_verdict *verdict);
+
+/*
+ * Whether a schedule is legal, and which condition it breaks first where it isn't: the reason of ONFI_ILLEGAL of the calls onfi_check_..
+ * No certificate is looked at. broken->condition says which, and of which requests, LUNs, phases and times.
+ *
+ * ONFI_DONE where the schedule is legal, and *broken is all 0: ONFI_BREACH_NONE. ONFI_ILLEGAL where it isn't, with the condition. Else
+ * *broken is as it was, and the answer is the first of the channel's faults as by onfi_plan; ONFI_BAD_SCHEDULE. ONFI_MEMORY may stand in
+ * place of any after ONFI_BAD_KIND.
+ *
+ * Proved: the condition is broken, and what is said of requests, LUNs, phases, counts and times is so. Shown by tests alone: that none
+ * is that is looked at before it.
+ */
+uint32_t onfi_breach(const onfi_channel *channel, const onfi_lun *luns, size_t lun_count, const onfi_want *wants, size_t want_count,
+                     const onfi_schedule *schedule, onfi_broken *broken);
 
 /*
  * Chooses a batch of at most `batch` requests, 1 to 8, of the want_count that wait, which may be more than eight: chosen[0 ..
@@ -521,10 +651,49 @@ uint32_t onfi_queue_ran(onfi_channel *channel, onfi_lun *luns, size_t lun_count,
                         uint64_t started);
 
 /*
+ * Logs: whether each phase that a channel had was legal after those before it, one at a time and of any number. What a log has left stands
+ * in an onfi_audit of the caller's.
+ *
+ *     status = onfi_audit_begin(&channel, luns, lun_count, &audit);
+ *     .. each phase that the bus had, in order ..
+ *         status = onfi_audit_phase(&audit, &phase, &broken);
+ *
+ * Has an audit begin with the channel and what its LUNs do as they are said.
+ *
+ * ONFI_DONE; else *audit is as it was, and the answer is the first of the channel's faults as by onfi_plan. No memory is asked for.
+ */
+uint32_t onfi_audit_begin(const onfi_channel *channel, const onfi_lun *luns, size_t lun_count, onfi_audit *audit);
+
+/*
+ * Judges the next phase of a log. Of the phase start, lun, kind, block, page and is_post are looked at, and nothing else: it may be one of
+ * onfi_due or onfi_next with the start that it really had. A command on a LUN that is free, or that has had commands alone since it was,
+ * begins a request of its own; commands that follow each other on a LUN without a post between are one group. In which order requests of
+ * one block were asked for isn't known here, so it isn't looked at.
+ *
+ * ONFI_DONE: it is legal, and *broken is all 0. ONFI_ILLEGAL: it breaks a condition, which *broken names. Then it counts as run where it
+ * only came too soon (ONFI_LOG_BUS_NOT_FREE, .._LUN_NOT_FREE, .._NOT_READY and nothing else), and else as not there, so that the next
+ * phase can be judged, as by `onfi_sim audit --all`. In both cases *audit goes on. Else *audit and *broken are as they were, and the answer
+ * is the first of: ONFI_TOO_MANY, where audit->luns is above eight; ONFI_ZERO_SPAN or ONFI_LONG_SPAN, ONFI_BAD_PLANE_BITS,
+ * ONFI_BAD_MEMBERS, ONFI_BAD_KIND of *audit; ONFI_BAD_KIND, where the phase has no kind, or a program or an erase has sectors; ONFI_CLOCK, where it
+ * starts at 2^62 ns or later; and where it begins a request: ONFI_BAD_LUN, where it is an erase of another page than 0; ONFI_NO_LENGTHS,
+ * where it is a read of so many sectors that no length is stated of them; ONFI_TOO_MANY, where 2^64 - 1 requests began; ONFI_MEMORY. Only a
+ * command that begins a request asks for memory, and gives it back.
+ */
+uint32_t onfi_audit_phase(onfi_audit *audit, const onfi_phase *phase, onfi_log_broken *broken);
+
+/*
+ * Notes that a LUN was ready at that moment, in ns, as its status said: what its group has next may come from then on, or as it might
+ * before where that is sooner. A LUN that is free stays so. Arrays are often ready before the longest time that a page states.
+ *
+ * ONFI_DONE; else *audit is as it was, and the answer is what onfi_audit_phase answers of *audit, or ONFI_BAD_LUN, where there is no such LUN.
+ */
+uint32_t onfi_audit_ready(onfi_audit *audit, uint8_t lun, uint64_t moment);
+
+/*
  * Reads of some sectors (ONFI 4.2, Change Read Column Enhanced). Each call onfi_.._by does what the call without _by does, where reads
  * may put out 1 to 7 sectors of their pages: a want or a member of a running group has the kind ONFI_KIND(ONFI_READ, n), and its post is
  * lengths->sectors[n - 1]. Command, gap and array are those of other reads, with which it may run as one group. Which sectors they are
- * isn't said: whoever asked for the read knows the column.
+ * isn't said: whoever asked for the read knows the first, and onfi_output_of makes the column of it.
  *
  * What the call without _by answers is answered, and of sectors: ONFI_LONG_SPAN of the lengths of 1 to 7 of them, after those of
  * channel->timing; ONFI_BAD_KIND where the five low bits of a kind are above 2; and after ONFI_BAD_LUN, before ONFI_CLOCK, ONFI_NO_LENGTHS,
@@ -550,6 +719,10 @@ uint32_t onfi_check_within_by(const onfi_lengths *lengths, const onfi_channel *c
                               size_t want_count, const onfi_schedule *schedule, uint64_t below, const uint8_t *certificate, size_t certificate_bytes,
                               onfi_verdict *verdict);
 
+/* As onfi_breach. */
+uint32_t onfi_breach_by(const onfi_lengths *lengths, const onfi_channel *channel, const onfi_lun *luns, size_t lun_count, const onfi_want *wants,
+                        size_t want_count, const onfi_schedule *schedule, onfi_broken *broken);
+
 /* As onfi_choose. */
 uint32_t onfi_choose_by(const onfi_lengths *lengths, const onfi_channel *channel, const onfi_lun *luns, size_t lun_count, const onfi_want *wants,
                         size_t want_count, uint64_t accepted, uint8_t choice, uint8_t batch, size_t chosen[ONFI_WANTS], size_t *chosen_count);
@@ -561,6 +734,27 @@ uint32_t onfi_due_by(const onfi_lengths *lengths, const onfi_channel *channel, c
 /* As onfi_ran: no later call answers ONFI_CLOCK or ONFI_NO_LENGTHS of what this one made. */
 uint32_t onfi_ran_by(const onfi_lengths *lengths, onfi_channel *channel, onfi_lun *luns, size_t lun_count, onfi_want wants[ONFI_WANTS],
                      size_t *want_count, onfi_schedule *schedule, uint8_t lun, uint8_t number, uint64_t started);
+
+/* As onfi_audit_begin; a command of onfi_audit_phase may then be of a read of some sectors. */
+uint32_t onfi_audit_begin_by(const onfi_lengths *lengths, const onfi_channel *channel, const onfi_lun *luns, size_t lun_count, onfi_audit *audit);
+
+/*
+ * The column and the count of bytes of a data output, for its 06h .. E0h (ONFI 4.2, Change Read Column Enhanced): what a phase of
+ * onfi_due, onfi_due_by or onfi_next puts out of its page. Of the phase its kind and is_post are looked at, and nothing else. No memory
+ * is asked for.
+ *
+ * The post of a read puts out all of its page, data bytes and spare bytes from column 0 on, where its kind names no sectors. Where it
+ * names 1 to 7, they are those from sector `first` on, counted from 0, with sector_bytes bytes each, spare bytes among them as the
+ * caller lays them out: what onfi_lengths_of_page was given, and which sector the request asks for first. The two mean nothing where no
+ * sectors are named. Every other phase, a command or a status, puts out no byte of a page: column 0, bytes 0. That is no refusal, so
+ * that a driver may ask of each phase alike.
+ *
+ * ONFI_DONE; else *output is as it was, and the answer is the first of: ONFI_BAD_KIND, where the five low bits of the kind are above 2;
+ * ONFI_BAD_GEOMETRY; ONFI_BAD_SECTORS, where a read names sectors and sector_bytes is 0, or (first + how many) * sector_bytes is more
+ * than a page has bytes, data_bytes + spare_bytes. This is so of a command too: a read that its page can't answer is refused before
+ * it begins.
+ */
+uint32_t onfi_output_of(const onfi_geometry *geometry, uint16_t sector_bytes, const onfi_phase *phase, uint8_t first, onfi_output *output);
 
 /*
  * The row address of a page (ONFI 4.2, addressing): page, block and LUN number, from low to high bits.
@@ -640,6 +834,16 @@ uint32_t onfi_text_check_known(const char *script, size_t script_bytes, char *an
  * may be missing, and isn't looked at. ONFI_DONE where the schedule is legal; the same is answered.
  */
 uint32_t onfi_text_legal(const char *script, size_t script_bytes, char *answer, size_t answer_room, size_t *answer_bytes);
+
+/*
+ * What `onfi_sim audit` writes for a script with a log after it (docs/FORMATS.md), of any length: that the log is legal, or the first
+ * line that breaks a condition, which one, and from when on its phase could start; with `all` each such line, as `onfi_sim audit --all`
+ * writes them. *answer_bytes says how many bytes there are.
+ *
+ * ONFI_DONE where the log is legal, ONFI_SCRIPT_REFUSED, ONFI_PLAN_REFUSED where it isn't or a line is none, and ONFI_MEMORY with the
+ * answer; ONFI_NO_ROOM as above.
+ */
+uint32_t onfi_text_audit(const char *script, size_t script_bytes, bool all, char *answer, size_t answer_room, size_t *answer_bytes);
 
 /*
  * The text of an onfi_status, without a final NUL; of any other number there is none. *text_bytes says how many bytes

@@ -9,7 +9,7 @@
  *             wait_for_interrupt();
  *         else if (phase.start > now)
  *             sleep_until(phase.start);       (or until an interrupt: what is next may be another then)
- *         else if (driver_run(&driver, &phase, now, page_of(phase.want)) && phase.is_post)
+ *         else if (driver_run(&driver, &phase, now, transfer_of(phase.want)) && phase.is_post)
  *             answer(phase.want, driver.status);
  *     }
  *
@@ -74,17 +74,24 @@ bool driver_next(driver *d, uint64_t now, onfi_phase *phase)
     return status != ONFI_NOTHING_DUE && went_well(d, status);
 }
 
-/* Has the phase on the bus; gives its end. */
-uint64_t drive(driver *d, const onfi_phase *phase, uint64_t start, uint8_t *page)
+/* Has the phase on the bus, and notes its end. The library says which bytes a read puts out, of the sectors that its request wants. */
+bool drive(driver *d, const onfi_phase *phase, uint64_t start, const transfer *of, uint64_t *end)
 {
     const struct onfi_bus *bus = d->bus;
-    if (!phase->is_post && phase->kind == ONFI_PROGRAM)
-        return bus->data_in(bus->board, start, phase, page);
-    if (!phase->is_post)
-        return bus->command(bus->board, start, phase);
-    if (phase->kind == ONFI_READ)
-        return bus->data_out(bus->board, start, phase, page);
-    return bus->status(bus->board, start, phase, &d->status);
+    onfi_phase wanted = *phase;
+    onfi_output output;
+    wanted.kind = of->kind;
+    if (!went_well(d, onfi_output_of(&d->geometry, d->sector_bytes, &wanted, of->first, &output)))
+        return false;
+    if (output.bytes)
+        *end = bus->data_out(bus->board, start, phase, &output, of->data);
+    else if (phase->is_post)
+        *end = bus->status(bus->board, start, phase, &d->status);
+    else if (phase->kind == ONFI_PROGRAM)
+        *end = bus->data_in(bus->board, start, phase, of->data);
+    else
+        *end = bus->command(bus->board, start, phase);
+    return true;
 }
 
 /* A phase ended then: where that is later than is stated, bus and LUN are ready so much later too. */
@@ -97,10 +104,12 @@ void note_end(driver *d, unsigned lun, uint64_t end)
     d->has_news = true;
 }
 
-/* Runs the next phase from `start` on, at or after its own start; `page` is the data of its request. */
-bool driver_run(driver *d, const onfi_phase *phase, uint64_t start, uint8_t *page)
+/* Runs the next phase from `start` on, at or after its own start. */
+bool driver_run(driver *d, const onfi_phase *phase, uint64_t start, const transfer *of)
 {
-    uint64_t end = drive(d, phase, start, page);
+    uint64_t end;
+    if (!drive(d, phase, start, of, &end))
+        return false;
     uint32_t status = onfi_queue_ran(&d->channel, d->lun, d->luns, &d->waiting, d->asked, phase->lun, phase->number, start);
     if (!went_well(d, status))
         return false;

@@ -20,14 +20,15 @@
 
 /*
  * The bus of a channel, as a board has it. Each function begins at `start`, sends what the phase says (its opener; the row, as
- * row_cycles bytes with the lowest first, and column 0 before it where the command has one; its closer where it isn't 0), has the
- * bus until the time that it gives back, and returns then.
+ * row_cycles bytes with the lowest first, and before it the column where the command has one: the output's, else 0; its closer where it
+ * isn't 0), has the bus until the time that it gives back, and returns then.
  */
 struct onfi_bus {
     void *board;
     uint64_t (*command)(void *board, uint64_t start, const onfi_phase *phase);                      /* of a read or an erase */
     uint64_t (*data_in)(void *board, uint64_t start, const onfi_phase *phase, const uint8_t *page); /* a program with its data */
-    uint64_t (*data_out)(void *board, uint64_t start, const onfi_phase *phase, uint8_t *page);      /* the data of a read */
+    /* the data of a read: output->bytes of them, from output->column on */
+    uint64_t (*data_out)(void *board, uint64_t start, const onfi_phase *phase, const onfi_output *output, uint8_t *bytes);
     uint64_t (*status)(void *board, uint64_t start, const onfi_phase *phase, uint8_t *byte);        /* of a program or an erase */
 };
 
@@ -38,6 +39,13 @@ enum { QUEUE = 256 + ONFI_MEMBERS }; /* how many wait in its own list at most */
 enum { ONE_KIND = 255 }; /* a choice of the driver's own, beside those of the library */
 
 enum { EARLY, WITHIN, RULE }; /* planners: requests end early; what ends first; by a rule, without a search */
+
+/* What the caller keeps of a request, by its number. */
+typedef struct {
+    uint8_t kind;  /* an onfi_kind, or the ONFI_KIND of a read of some sectors */
+    uint8_t first; /* the first of them */
+    uint8_t *data; /* of a program, all bytes of its page; of a read, room for what it puts out */
+} transfer;
 
 /* How it plans, where it does. */
 typedef struct {
@@ -53,10 +61,11 @@ typedef struct {
 typedef struct {
     const struct onfi_bus *bus;
     onfi_geometry geometry;
-    onfi_channel channel;
+    onfi_channel channel; /* the post of reads: by plans that of a page, else the least that one may have */
     size_t luns;
     onfi_lun lun[ONFI_LUNS];
     uint8_t status;    /* the last status byte */
+    uint16_t sector_bytes;
     uint32_t refused;  /* the status of a call that refused; ONFI_DONE: none did */
     uint64_t accepted; /* how many so far: a request's number is its place among them */
     size_t queued;
@@ -68,6 +77,7 @@ typedef struct {
     uint64_t asked;     /* when it was asked last which phase is next */
 
     /* of plans */
+    onfi_lengths lengths; /* the posts of reads of some sectors */
     planning plans;
     uint64_t member_arrived[ONFI_LUNS][ONFI_MEMBERS]; /* when the members of running groups came */
     size_t batched;
@@ -81,30 +91,27 @@ typedef struct {
     onfi_lun goes_on; /* the LUN that it lets go on, with its group */
 } driver;
 
-/* A request has come, at that time; no more than QUEUE wait. Gives it with its number. */
+/* A request has come, at that time; no more than QUEUE wait. Its kind is an onfi_kind, by plans also an ONFI_KIND. Gives it with its number. */
 onfi_want driver_accept(driver *d, onfi_want want, uint64_t arrived);
 /* R/B# of a LUN has risen at that time, before the stated one. */
 void driver_ready(driver *d, unsigned number, uint64_t since);
 /* Which phase is next, and when; false where none is, or a call refused. */
 bool driver_next(driver *d, uint64_t now, onfi_phase *phase);
-/*
- * Has the phase that driver_next gave last on the bus from `start` on, at or after phase->start; `page` is the data of its request.
- * False where a call refused.
- */
-bool driver_run(driver *d, const onfi_phase *phase, uint64_t start, uint8_t *page);
+/* Has the phase that driver_next gave last on the bus from `start` on, at or after phase->start, for this request. False where a call refused. */
+bool driver_run(driver *d, const onfi_phase *phase, uint64_t start, const transfer *of);
 
 /* The same two by plans of eight. */
 bool plans_next(driver *d, uint64_t now, onfi_phase *phase);
-bool plans_run(driver *d, const onfi_phase *phase, uint64_t start, uint8_t *page);
+bool plans_run(driver *d, const onfi_phase *phase, uint64_t start, const transfer *of);
 
 /* The same two without the library. */
 bool greedy_next(driver *d, uint64_t now, onfi_phase *phase);
-bool greedy_run(driver *d, const onfi_phase *phase, uint64_t start, uint8_t *page);
+bool greedy_run(driver *d, const onfi_phase *phase, uint64_t start, const transfer *of);
 
 /* What the others have of firmware.c. */
 uint64_t later_of(uint64_t one, uint64_t other);
 bool went_well(driver *d, uint32_t status);
-uint64_t drive(driver *d, const onfi_phase *phase, uint64_t start, uint8_t *page);
+bool drive(driver *d, const onfi_phase *phase, uint64_t start, const transfer *of, uint64_t *end);
 void note_end(driver *d, unsigned lun, uint64_t end);
 /* What the greedy way has of firmware_plans.c: a group has begun on a LUN, and its members leave the driver's own queue. */
 void note_begin(driver *d, unsigned lun);

@@ -1,6 +1,6 @@
 /*
  * A mock of a board. It takes from a phase what goes over the wires, and judges it by its own books: bus free, LUN ready, waits and
- * lengths, groups, rows, data, and that pages of a block are programmed in order. A request's number gives the array time alone.
+ * lengths, groups, rows, columns, data, and that pages of a block are programmed in order. A request's number gives the array time alone.
  */
 #include "firmware_board.h"
 
@@ -11,9 +11,28 @@ void board_open(board *b, const simulation *of)
     memset(b, 0, sizeof *b);
     b->of = of;
     b->cycle = of->byte >= 20 ? 20 : 25;
-    b->page = (uint64_t)(of->made_of.bytes * of->byte + 0.5);
+    b->page = (unsigned)of->made_of.bytes;
+    b->sector = b->page / PAGE_SECTORS;
     for (unsigned lun = 0; lun < ONFI_LUNS; lun++)
         b->lun[lun].rises = NEVER;
+}
+
+onfi_geometry board_geometry(const simulation *of)
+{
+    onfi_geometry geometry;
+    memset(&geometry, 0, sizeof geometry);
+    geometry.blocks_per_lun = BLOCKS;
+    geometry.block_bits = BLOCK_BITS;
+    geometry.pages_per_block = PAGES;
+    geometry.page_bits = PAGE_BITS;
+    geometry.lun_count = (uint8_t)of->luns;
+    geometry.lun_bits = of->luns > 4 ? 3 : of->luns > 2 ? 2 : of->luns > 1 ? 1 : 0;
+    geometry.data_bytes = (uint16_t)of->made_of.bytes;
+    geometry.plane_address_bits = of->made_of.plane_bits;
+    geometry.column_address_cycles = 2;
+    geometry.row_address_cycles = ROW_CYCLES;
+    geometry.multi_plane_reads = geometry.multi_plane_writes = true;
+    return geometry;
 }
 
 static bool finds(board *b, bool is_wrong, const char *what)
@@ -114,19 +133,35 @@ static uint64_t run_post(board *b, uint64_t start, const onfi_phase *phase, bool
     return pass(b, c, start, length, 0);
 }
 
-/* The mock's pages hold LUN, block and page, as the row says. */
-void put_page(uint8_t page[SHOWN], uint32_t lun, uint32_t block, uint32_t number)
+uint32_t row_of(uint32_t lun, uint32_t block, uint32_t page)
 {
-    page[0] = (uint8_t)lun;
-    page[1] = (uint8_t)(block >> 8);
-    page[2] = (uint8_t)block;
-    page[3] = (uint8_t)(number >> 8);
-    page[4] = (uint8_t)number;
+    return lun << (PAGE_BITS + BLOCK_BITS) | block << PAGE_BITS | page;
 }
 
-static void put_page_of_row(uint8_t page[SHOWN], uint32_t row)
+enum { WORD = 8 };
+
+void put_bytes_of_page(uint8_t *bytes, uint32_t row, unsigned column, unsigned count)
 {
-    put_page(page, row >> (PAGE_BITS + BLOCK_BITS), block_of(row), row % (1u << PAGE_BITS));
+    for (unsigned at = 0; at < count; at += WORD) {
+        uint64_t word = (uint64_t)row << 32 | (column + at);
+        memcpy(bytes + at, &word, WORD);
+    }
+}
+
+bool are_bytes_of_page(const uint8_t *bytes, uint32_t row, unsigned column, unsigned count)
+{
+    bool all = true;
+    for (unsigned at = 0; at < count; at += WORD) {
+        uint64_t word = (uint64_t)row << 32 | (column + at);
+        all = all && !memcmp(bytes + at, &word, WORD);
+    }
+    return all;
+}
+
+/* How long so many bytes have the bus. */
+static uint64_t time_of(const board *b, unsigned bytes)
+{
+    return (uint64_t)(bytes * b->of->byte + 0.5);
 }
 
 static uint64_t board_command(void *self, uint64_t start, const onfi_phase *phase)
@@ -146,22 +181,35 @@ static uint64_t board_data_in(void *self, uint64_t start, const onfi_phase *phas
 {
     static const uint8_t PROGRAM[2] = {0x11, 0x10};
     board *b = (board *)self;
-    uint8_t wanted[SHOWN];
-    put_page_of_row(wanted, phase->row);
-    uint64_t end = run_command(b, start, phase, PROGRAM, 7 * b->cycle + 400 + b->page);
-    if (finds(b, phase->opener != 0x80, "no program begins so") || finds(b, memcmp(page, wanted, SHOWN) != 0, "the data of another page") || b->wrong)
+    uint64_t end = run_command(b, start, phase, PROGRAM, 7 * b->cycle + 400 + time_of(b, b->page));
+    bool is_page = are_bytes_of_page(page, phase->row, 0, b->page);
+    if (finds(b, phase->opener != 0x80, "no program begins so") || finds(b, !is_page, "the data of another page") || b->wrong)
         return end;
-    uint16_t *programmed = &b->programmed[wanted[0]][block_of(phase->row)];
+    uint16_t *programmed = &b->programmed[phase->row >> (PAGE_BITS + BLOCK_BITS)][block_of(phase->row)];
     finds(b, phase->row % (1u << PAGE_BITS) != *programmed % PAGES, "pages of a block aren't programmed in order");
     *programmed = (uint16_t)(*programmed % PAGES + 1);
     return end;
 }
 
-static uint64_t board_data_out(void *self, uint64_t start, const onfi_phase *phase, uint8_t *page)
+/* What is wrong with column and count of a data output; null: nothing. */
+static const char *breach_of_output(const board *b, const onfi_output *output)
+{
+    if (output->column % b->sector)
+        return "a column at which no sector begins";
+    if (output->bytes == 0 || output->bytes % b->sector)
+        return "a count of bytes that no sectors have";
+    return output->column + output->bytes > b->page ? "bytes past the end of a page" : NULL;
+}
+
+/* Puts out just the bytes that are asked for, from the column on. */
+static uint64_t board_data_out(void *self, uint64_t start, const onfi_phase *phase, const onfi_output *output, uint8_t *bytes)
 {
     board *b = (board *)self;
-    put_page_of_row(page, phase->row);
-    return run_post(b, start, phase, phase->opener == 0x06 && phase->closer == 0xE0, 7 * b->cycle + 500 + b->page + 100);
+    const char *breach = breach_of_output(b, output);
+    if (finds(b, breach != NULL, breach))
+        return start;
+    put_bytes_of_page(bytes, phase->row, output->column, output->bytes);
+    return run_post(b, start, phase, phase->opener == 0x06 && phase->closer == 0xE0, 7 * b->cycle + 500 + time_of(b, output->bytes) + 100);
 }
 
 /* Ready, not protected, and no failure. */

@@ -10,7 +10,7 @@ enum {
     BLOCKS = 16384,
     BLOCK_BITS = 14,
     ROW_CYCLES = 4,
-    SHOWN = 5 /* how many bytes of a page the mock moves */
+    PAGE_BYTES = 18432 /* of the largest page */
 };
 
 typedef struct {
@@ -43,7 +43,8 @@ typedef struct {
 
 typedef struct {
     const simulation *of;
-    uint64_t cycle, page; /* how long a command or address cycle takes, and the bytes of a page */
+    uint64_t cycle; /* how long a command or address cycle takes */
+    unsigned page, sector; /* bytes */
     chip lun[ONFI_LUNS];
     uint16_t programmed[ONFI_LUNS][BLOCKS]; /* how many pages of each block */
     uint64_t bus_free, busy;
@@ -52,11 +53,15 @@ typedef struct {
 } board;
 
 void board_open(board *b, const simulation *of);
+/* Its device, as the library takes it. */
+onfi_geometry board_geometry(const simulation *of);
 /* Its bus. */
 struct onfi_bus board_bus(board *b);
 /* When R/B# of a LUN rises next before its stated time; NEVER where none does. */
 uint64_t board_next_rise(const board *b);
-/* The mock's pages hold LUN, block and page. */
-void put_page(uint8_t page[SHOWN], uint32_t lun, uint32_t block, uint32_t number);
+uint32_t row_of(uint32_t lun, uint32_t block, uint32_t page);
+/* The mock's pages hold their row and their columns, again and again: so many bytes from a column on, both multiples of 8. */
+void put_bytes_of_page(uint8_t *bytes, uint32_t row, unsigned column, unsigned count);
+bool are_bytes_of_page(const uint8_t *bytes, uint32_t row, unsigned column, unsigned count);
 
 #endif

@@ -23,14 +23,15 @@ enum {
     KINDS = 3,
     MOST_OUTSTANDING = 256,
     MOST_WAITING = MOST_OUTSTANDING + ONFI_MEMBERS, /* erases of several planes come together */
-    PAGES = 1152
+    PAGES = 1152,
+    PAGE_SECTORS = 4
 };
 
 /* Devices. */
 
 typedef struct {
     const char *name;
-    double bytes; /* of a page with its spare ones */
+    double bytes; /* of a page with its spare ones; a sector has a quarter of them */
     uint8_t plane_bits;
     uint64_t array[KINDS]; /* how long it takes at most */
 } device;
@@ -39,16 +40,29 @@ typedef struct {
 const device *device_of(const char *name);
 /* What is stated of it at so many ns a byte. */
 onfi_channel channel_of(const device *of, double byte);
+/* The same of reads that all put out what those of a workload do: for calls that take no lengths of sectors. */
+onfi_channel channel_for(const device *of, double byte, unsigned workload);
+/* How long reads of 1 to PAGE_SECTORS sectors put out. */
+onfi_lengths lengths_of(const device *of, double byte);
+uint16_t sector_bytes_of(const device *of);
+/* The onfi_kind of an ONFI_KIND. */
+static inline uint8_t operation_of(unsigned kind)
+{
+    return (uint8_t)(kind & 31);
+}
 const onfi_spans *spans_of(const onfi_timing *timing, unsigned kind);
 
 /* The host. */
 
-enum { MIXED, RANDOM_READS, SEQUENTIAL, WITH_ERASES, RANDOM_PROGRAMS, WORKLOADS };
+enum { MIXED, RANDOM_READS, SEQUENTIAL, WITH_ERASES, RANDOM_PROGRAMS, READS_4K, MIXED_4K, WORKLOADS };
+
+/* How many sectors the reads of a workload want; 0: their pages. */
+unsigned sectors_of(unsigned workload);
 
 /* Where requests come from: the same ones in the same order, whatever is done with them. */
 typedef struct {
     unsigned workload, luns, planes;
-    uint64_t wants, arrivals; /* states of random numbers */
+    uint64_t wants, arrivals, sectors; /* states of random numbers */
     uint64_t programs;        /* how many so far */
     uint64_t programmed[ONFI_LUNS][ONFI_MEMBERS]; /* and of those at random, by LUN and plane */
     onfi_want mate;           /* the erase after which `mates` more of its planes come */
@@ -57,10 +71,12 @@ typedef struct {
     uint64_t next_arrival;
 } host;
 
-/* With a load requests come by themselves, for that share of the bus; 0: one comes with each answer. */
+/* With a load requests come by themselves, for that share of the bus; 0: one comes with each answer. The channel is one by channel_for. */
 void host_open(host *h, unsigned workload, unsigned luns, const onfi_channel *channel, double load, uint64_t seed);
-/* The next request; its number isn't the host's to give. */
+/* The next request; its number isn't the host's to give. A read of some sectors has an ONFI_KIND. */
 onfi_want host_want(host *h);
+/* The first of the sectors that it wants. */
+uint8_t host_first(host *h, const onfi_want *want);
 /* Draws when the next one comes. */
 void host_arrival(host *h);
 /* A number from 0 to below 1, the next of a row of random numbers. */
@@ -98,7 +114,7 @@ void put_bytes(onfi_phase *phase);
 /* The choice. */
 
 /* Chooses requests of one kind for each LUN, of at most MOST_WAITING, by their places; gives a status. */
-uint32_t choose_one_kind(const onfi_channel *channel, const onfi_lun *lun, size_t luns, const onfi_want *want, size_t count,
+uint32_t choose_one_kind(const onfi_lengths *lengths, const onfi_channel *channel, const onfi_lun *lun, size_t luns, const onfi_want *want, size_t count,
                          size_t chosen[ONFI_WANTS], size_t *chosen_count);
 
 #endif

@@ -10,7 +10,7 @@ static bool is_after_another(const onfi_want *want, size_t place, bool of_anothe
 {
     for (size_t at = 0; at < place; at++) {
         bool is_on_block = want[at].lun == want[place].lun && want[at].block == want[place].block;
-        if (is_on_block && !(of_another_kind && want[at].kind == want[place].kind))
+        if (is_on_block && !(of_another_kind && operation_of(want[at].kind) == operation_of(want[place].kind)))
             return true;
     }
     return false;
@@ -22,8 +22,8 @@ static void put_first_kinds(const onfi_want *want, size_t count, unsigned kind[O
     for (unsigned lun = 0; lun < ONFI_LUNS; lun++)
         kind[lun] = KINDS;
     for (size_t at = 0; at < count; at++)
-        if (want[at].kind < kind[want[at].lun] && !is_after_another(want, at, false))
-            kind[want[at].lun] = want[at].kind;
+        if (operation_of(want[at].kind) < kind[want[at].lun] && !is_after_another(want, at, false))
+            kind[want[at].lun] = operation_of(want[at].kind);
 }
 
 /* The requests that are shown, with their places, numbered anew: none counts as passed over by what isn't shown. */
@@ -33,7 +33,7 @@ static size_t show_one_kind(const onfi_want *want, size_t count, onfi_want shown
     size_t some = 0;
     put_first_kinds(want, count, kind);
     for (size_t at = 0; at < count; at++)
-        if (want[at].kind == kind[want[at].lun] && !is_after_another(want, at, true)) {
+        if (operation_of(want[at].kind) == kind[want[at].lun] && !is_after_another(want, at, true)) {
             shown[some] = want[at];
             shown[some].id = some;
             place[some++] = at;
@@ -41,13 +41,13 @@ static size_t show_one_kind(const onfi_want *want, size_t count, onfi_want shown
     return some;
 }
 
-/* Chooses as onfi_choose does. */
-uint32_t choose_one_kind(const onfi_channel *channel, const onfi_lun *lun, size_t luns, const onfi_want *want, size_t count,
+/* Chooses as onfi_choose_by does. */
+uint32_t choose_one_kind(const onfi_lengths *lengths, const onfi_channel *channel, const onfi_lun *lun, size_t luns, const onfi_want *want, size_t count,
                          size_t chosen[ONFI_WANTS], size_t *chosen_count)
 {
     onfi_want shown[MOST_WAITING];
     size_t place[MOST_WAITING], some = show_one_kind(want, count, shown, place);
-    uint32_t status = onfi_choose(channel, lun, luns, shown, some, some, ONFI_BY_LUN, ONFI_WANTS, chosen, chosen_count);
+    uint32_t status = onfi_choose_by(lengths, channel, lun, luns, shown, some, some, ONFI_BY_LUN, ONFI_WANTS, chosen, chosen_count);
     for (size_t at = 0; status == ONFI_DONE && at < *chosen_count; at++)
         chosen[at] = place[chosen[at]];
     return status;

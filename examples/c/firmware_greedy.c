@@ -62,9 +62,11 @@ bool greedy_next(driver *d, uint64_t now, onfi_phase *phase)
     return put_phase(d, &d->goes_on, best.start, phase);
 }
 
-bool greedy_run(driver *d, const onfi_phase *phase, uint64_t start, uint8_t *page)
+bool greedy_run(driver *d, const onfi_phase *phase, uint64_t start, const transfer *of)
 {
-    uint64_t end = drive(d, phase, start, page);
+    uint64_t end;
+    if (!drive(d, phase, start, of, &end))
+        return false;
     onfi_lun *lun = &d->lun[phase->lun];
     const onfi_spans *spans = spans_of(&d->channel.timing, phase->kind);
     *lun = d->goes_on;

@@ -23,7 +23,7 @@ const device *device_of(const char *name)
 /* What stands between the cycles, in ns. */
 enum { SHORT_BUSY = 600, BEGINS_BUSY = 100, COLUMN_CHANGE = 500, ADDRESS_TO_DATA = 400, STATUS = 80, TURN = 100 };
 
-static onfi_spans lengths_of(uint64_t command, uint64_t array, uint64_t post)
+static onfi_spans spans_by(uint64_t command, uint64_t array, uint64_t post)
 {
     onfi_spans spans;
     spans.cmd = command;
@@ -33,17 +33,60 @@ static onfi_spans lengths_of(uint64_t command, uint64_t array, uint64_t post)
     return spans;
 }
 
+/* A cycle of commands and addresses. */
+static uint64_t cycle_at(double byte)
+{
+    return byte >= 20 ? 20 : 25;
+}
+
+/* How long so many bytes have the bus. */
+static uint64_t time_of(double bytes, double byte)
+{
+    return (uint64_t)(bytes * byte + 0.5);
+}
+
+static uint64_t output_of(double bytes, double byte)
+{
+    return 7 * cycle_at(byte) + COLUMN_CHANGE + time_of(bytes, byte) + TURN;
+}
+
 onfi_channel channel_of(const device *of, double byte)
 {
-    uint64_t cycle = byte >= 20 ? 20 : 25, page = (uint64_t)(of->bytes * byte + 0.5); /* a cycle of commands and addresses */
-    uint64_t status = 4 * cycle + STATUS + cycle + TURN;
+    uint64_t cycle = cycle_at(byte), status = 4 * cycle + STATUS + cycle + TURN;
     onfi_channel channel;
     memset(&channel, 0, sizeof channel);
-    channel.timing.read = lengths_of(7 * cycle, of->array[ONFI_READ], 7 * cycle + COLUMN_CHANGE + page + TURN);
-    channel.timing.program = lengths_of(7 * cycle + ADDRESS_TO_DATA + page, of->array[ONFI_PROGRAM], status);
-    channel.timing.erase = lengths_of(5 * cycle, of->array[ONFI_ERASE], status);
+    channel.timing.read = spans_by(7 * cycle, of->array[ONFI_READ], output_of(of->bytes, byte));
+    channel.timing.program = spans_by(7 * cycle + ADDRESS_TO_DATA + time_of(of->bytes, byte), of->array[ONFI_PROGRAM], status);
+    channel.timing.erase = spans_by(5 * cycle, of->array[ONFI_ERASE], status);
     channel.rules.read = channel.rules.write = true;
     channel.rules.plane_bits = of->plane_bits;
+    return channel;
+}
+
+uint16_t sector_bytes_of(const device *of)
+{
+    return (uint16_t)(of->bytes / PAGE_SECTORS);
+}
+
+onfi_lengths lengths_of(const device *of, double byte)
+{
+    onfi_lengths lengths;
+    memset(&lengths, 0, sizeof lengths);
+    for (unsigned count = 1; count <= PAGE_SECTORS; count++)
+        lengths.sectors[count - 1] = output_of(count * sector_bytes_of(of), byte);
+    return lengths;
+}
+
+unsigned sectors_of(unsigned workload)
+{
+    return workload == READS_4K || workload == MIXED_4K;
+}
+
+onfi_channel channel_for(const device *of, double byte, unsigned workload)
+{
+    onfi_channel channel = channel_of(of, byte);
+    if (sectors_of(workload))
+        channel.timing.read.post = lengths_of(of, byte).sectors[sectors_of(workload) - 1];
     return channel;
 }
 
@@ -88,11 +131,18 @@ static onfi_want want_of(unsigned kind, unsigned lun, uint64_t block, uint64_t p
     return want;
 }
 
-/* A read of any page of the blocks that are only read. */
+/* A read of any page of the blocks that are only read, or of some of its sectors. */
 static onfi_want random_read(host *h)
 {
     unsigned lun = next_below(&h->wants, h->luns), block = next_below(&h->wants, READ_BLOCKS * h->planes);
-    return want_of(ONFI_READ, lun, block, next_below(&h->wants, PAGES));
+    return want_of(ONFI_KIND(ONFI_READ, sectors_of(h->workload)), lun, block, next_below(&h->wants, PAGES));
+}
+
+/* Drawn apart, so that pages and sectors are read in the same order. */
+uint8_t host_first(host *h, const onfi_want *want)
+{
+    unsigned count = want->kind >> 5;
+    return count ? (uint8_t)next_below(&h->sectors, PAGE_SECTORS + 1 - count) : 0;
 }
 
 /* The next page of a run over the planes first, then the LUNs, then the pages. */
@@ -128,14 +178,14 @@ static onfi_want next_mate(host *h)
 }
 
 /* The share of each kind in the requests. */
-static const double SHARES[WORKLOADS][KINDS] = {{0.7, 0.3, 0}, {1, 0, 0}, {0, 1, 0}, {0.65, 0.3, 0.05}, {0, 1, 0}};
+static const double SHARES[WORKLOADS][KINDS] = {{0.7, 0.3, 0}, {1, 0, 0}, {0, 1, 0}, {0.65, 0.3, 0.05}, {0, 1, 0}, {1, 0, 0}, {0.7, 0.3, 0}};
 
 onfi_want host_want(host *h)
 {
     const double *shares = SHARES[h->workload];
     if (h->mates)
         return next_mate(h);
-    if (h->workload == RANDOM_READS)
+    if (h->workload == RANDOM_READS || h->workload == READS_4K)
         return random_read(h);
     if (h->workload == SEQUENTIAL)
         return next_program(h);
@@ -173,6 +223,7 @@ void host_open(host *h, unsigned workload, unsigned luns, const onfi_channel *ch
     h->planes = 1u << channel->rules.plane_bits;
     h->wants = 2 * seed;
     h->arrivals = 2 * seed + 1;
+    h->sectors = ~(2 * seed);
     if (load <= 0)
         return;
     h->mean_time = mean_bus_time(SHARES[workload], &channel->timing) / load;

@@ -7,7 +7,7 @@
  *
  *   device    tlc, slc, qlc                              tlc
  *   workload  mixed, reads, sequential, erases,          mixed
- *             random-programs
+ *             random-programs, reads-4k, mixed-4k
  *   byte      ns a byte on the bus, 0.001 to 1000        2
  *   luns      1 to 8                                     8
  *   depth     requests outstanding, 1 to 256             64
@@ -28,7 +28,7 @@
  *   slack     thousandths that an early plan ends later  20
  *   ends      yes prints when each request ends; no      no
  *
- * The first tenth isn't measured. The exit status is 0, 1 where a call refuses or the board is misused, 2 where a word can't be
+ * Reads of `..-4k` want one sector of four: 4 KiB of tlc and qlc, 1 KiB of slc. The first tenth isn't measured. The exit status is 0, 1 where a call refuses or the board is misused, 2 where a word can't be
  * read. Devices, workloads and the greedy way are those of examples/simulator/rolling too.
  */
 #include "firmware_board.h"
@@ -41,20 +41,25 @@
 #include <time.h>
 
 enum { LATENCIES = 1 << 17 }; /* latencies in us; longer ones count as the greatest */
+enum { NO_BYTE = 0xA5 }; /* what stands where nothing was put out */
 
 typedef struct {
     const char *name;
     bool (*next)(driver *d, uint64_t now, onfi_phase *phase);
-    bool (*run)(driver *d, const onfi_phase *phase, uint64_t start, uint8_t *page);
+    bool (*run)(driver *d, const onfi_phase *phase, uint64_t start, const transfer *of);
+    bool by_sectors; /* its calls take lengths of sectors; else all reads are pages to it, as long as those of the workload */
 } way;
 
 enum { PHASES, PLANS, GREEDY, WAYS };
 
-static const way WAY_OF[WAYS] = {{"phases", driver_next, driver_run}, {"plans", plans_next, plans_run}, {"greedy", greedy_next, greedy_run}};
+static const way WAY_OF[WAYS] = {
+    {"phases", driver_next, driver_run, false}, {"plans", plans_next, plans_run, true}, {"greedy", greedy_next, greedy_run, false},
+};
 
 /* A request that the host has sent and that isn't answered. */
 typedef struct {
     onfi_want want;
+    uint8_t kind, first; /* what it asks for, whatever the driver gets */
     uint64_t arrived;
 } sent;
 
@@ -75,6 +80,7 @@ typedef struct {
     uint64_t delays; /* a state of random numbers */
     size_t outstanding;
     sent owed[MOST_WAITING]; /* in order of acceptance */
+    uint8_t data[PAGE_BYTES + 1]; /* of the request whose phase is on the bus, and one more byte that no page has */
     uint64_t answered;
     latencies latency[KINDS];
     uint64_t from, to; /* what is measured */
@@ -119,24 +125,6 @@ static void print_costs(const run *r)
 }
 #endif
 
-static onfi_geometry geometry_of(const simulation *of)
-{
-    onfi_geometry geometry;
-    memset(&geometry, 0, sizeof geometry);
-    geometry.blocks_per_lun = BLOCKS;
-    geometry.block_bits = BLOCK_BITS;
-    geometry.pages_per_block = PAGES;
-    geometry.page_bits = PAGE_BITS;
-    geometry.lun_count = (uint8_t)of->luns;
-    geometry.lun_bits = of->luns > 4 ? 3 : of->luns > 2 ? 2 : of->luns > 1 ? 1 : 0;
-    geometry.data_bytes = (uint16_t)of->made_of.bytes;
-    geometry.plane_address_bits = of->made_of.plane_bits;
-    geometry.column_address_cycles = 2;
-    geometry.row_address_cycles = ROW_CYCLES;
-    geometry.multi_plane_reads = geometry.multi_plane_writes = true;
-    return geometry;
-}
-
 static void open_run(run *r, const simulation *of, const way *has)
 {
     memset(r, 0, sizeof *r);
@@ -147,9 +135,12 @@ static void open_run(run *r, const simulation *of, const way *has)
     r->firmware.bus = &r->bus;
     r->firmware.plans = of->plans;
     r->firmware.luns = of->luns;
-    r->firmware.channel = channel_of(&of->made_of, of->byte);
-    r->firmware.geometry = geometry_of(of);
-    host_open(&r->sender, of->workload, of->luns, &r->firmware.channel, of->load, of->seed);
+    onfi_channel channel = channel_for(&of->made_of, of->byte, of->workload);
+    r->firmware.channel = has->by_sectors ? channel_of(&of->made_of, of->byte) : channel;
+    r->firmware.lengths = lengths_of(&of->made_of, of->byte);
+    r->firmware.sector_bytes = sector_bytes_of(&of->made_of);
+    r->firmware.geometry = board_geometry(of);
+    host_open(&r->sender, of->workload, of->luns, &channel, of->load, of->seed);
 }
 
 /* What comes in. */
@@ -157,7 +148,11 @@ static void open_run(run *r, const simulation *of, const way *has)
 static void accept_next(run *r, uint64_t arrived)
 {
     sent *owed = &r->owed[r->outstanding++];
-    owed->want = driver_accept(&r->firmware, host_want(&r->sender), arrived);
+    onfi_want want = host_want(&r->sender);
+    owed->kind = want.kind;
+    owed->first = host_first(&r->sender, &want);
+    want.kind = r->has.by_sectors ? want.kind : operation_of(want.kind);
+    owed->want = driver_accept(&r->firmware, want, arrived);
     owed->arrived = arrived;
 }
 
@@ -208,7 +203,7 @@ static bool is_measured(const run *r)
 
 static void count_answer(run *r, const sent *owed)
 {
-    latencies *of_kind = &r->latency[owed->want.kind];
+    latencies *of_kind = &r->latency[operation_of(owed->kind)];
     uint64_t latency = r->now - owed->arrived;
     r->to = r->now;
     if (!is_measured(r)) {
@@ -235,15 +230,21 @@ static size_t place_of(const run *r, const onfi_phase *phase)
     return r->outstanding;
 }
 
-static const char *take_answer(run *r, const onfi_phase *phase, const uint8_t *page)
+/* Whether what a read put out are the bytes that its request asked for, and no more. */
+static bool has_its_bytes(const run *r, const sent *owed)
 {
-    uint8_t wanted[SHOWN];
+    unsigned sector = sector_bytes_of(&r->of->made_of), count = owed->kind >> 5, bytes = count ? count * sector : r->mock.page;
+    uint32_t row = row_of(owed->want.lun, owed->want.block, owed->want.page);
+    return are_bytes_of_page(r->data, row, owed->first * sector, bytes) && r->data[bytes] == NO_BYTE;
+}
+
+static const char *take_answer(run *r, const onfi_phase *phase)
+{
     size_t at = place_of(r, phase);
-    put_page(wanted, phase->lun, phase->block, phase->page);
     if (at == r->outstanding)
         return "an answer to no request, or before an earlier one on its block";
-    if (phase->kind == ONFI_READ ? memcmp(page, wanted, SHOWN) != 0 : r->firmware.status != 0xE0)
-        return "the data of another page, or a bad status";
+    if (operation_of(phase->kind) == ONFI_READ ? !has_its_bytes(r, &r->owed[at]) : r->firmware.status != 0xE0)
+        return "other bytes than were asked for, or a bad status";
     r->answered++;
     count_answer(r, &r->owed[at]);
     if (r->of->ends)
@@ -253,14 +254,27 @@ static const char *take_answer(run *r, const onfi_phase *phase, const uint8_t *p
     return NULL;
 }
 
+/* What is kept of the request of a phase; with its data, where it is a program's. */
+static transfer transfer_of(run *r, const onfi_phase *phase)
+{
+    transfer of = {phase->kind, 0, r->data};
+    for (size_t at = 0; at < r->outstanding; at++)
+        if (r->owed[at].want.id == phase->want) {
+            of.kind = r->owed[at].kind;
+            of.first = r->owed[at].first;
+        }
+    if (phase->kind == ONFI_PROGRAM && !phase->is_post)
+        put_bytes_of_page(r->data, row_of(phase->lun, phase->block, phase->page), 0, r->mock.page);
+    else
+        memset(r->data, NO_BYTE, sizeof r->data);
+    return of;
+}
+
 static void run_phase(run *r, const onfi_phase *phase)
 {
-    uint8_t page[SHOWN];
     uint64_t start = later_of(phase->start, r->now) + (uint64_t)(next_share(&r->delays) * r->of->late);
-    put_page(page, phase->lun, phase->block, phase->page);
-    if (phase->is_post)
-        memset(page, 0, sizeof page);
-    bool went = r->has.run(&r->firmware, phase, start, page);
+    transfer of = transfer_of(r, phase);
+    bool went = r->has.run(&r->firmware, phase, start, &of);
     r->now = r->mock.bus_free;
     if (r->mock.wrong)
         r->wrong = r->mock.wrong;
@@ -269,7 +283,7 @@ static void run_phase(run *r, const onfi_phase *phase)
     else if ((double)(r->now - start - (phase->end - phase->start)) > r->of->slow)
         r->wrong = "a phase ends at another time than was told";
     else if (phase->is_post)
-        r->wrong = take_answer(r, phase, page);
+        r->wrong = take_answer(r, phase);
 }
 
 /* Asks what is due, and notes what that cost. */
@@ -367,20 +381,20 @@ static const struct {
     {"limit", 1, ONFI_NODES, 2000, true}, {"slack", 0, 1000, 20, true},
 };
 
-/* The first value is the usual one. */
-enum { VALUES = 5 };
+/* The first value is the usual one; of a name with fewer the others are null. */
+enum { VALUES = 7 };
 
 static const struct {
     const char *name, *value[VALUES];
 } CHOSEN[CHOICES] = {
-    {"device", {"tlc", "slc", "qlc", "", ""}},    {"workload", {"mixed", "reads", "sequential", "erases", "random-programs"}},
-    {"told", {"yes", "no", "", "", ""}},          {"way", {"phases", "plans", "greedy", "both", "all"}},
-    {"choice", {"by-lun", "in-order", "reads-first", "one-kind", ""}}, {"plan", {"early", "within", "rule", "", ""}},
-    {"weights", {"age", "equal", "reads", "", ""}}, {"ends", {"no", "yes", "", "", ""}},
+    {"device", {"tlc", "slc", "qlc"}}, {"workload", {"mixed", "reads", "sequential", "erases", "random-programs", "reads-4k", "mixed-4k"}},
+    {"told", {"yes", "no"}},           {"way", {"phases", "plans", "greedy", "both", "all"}},
+    {"choice", {"by-lun", "in-order", "reads-first", "one-kind"}}, {"plan", {"early", "within", "rule"}},
+    {"weights", {"age", "equal", "reads"}}, {"ends", {"no", "yes"}},
 };
 
 /* Which ways a value of `way` names. */
-static const bool IS_ASKED_FOR[VALUES][WAYS] = {{true, false, false}, {false, true, false}, {false, false, true}, {false, true, true}, {true, true, true}};
+static const bool IS_ASKED_FOR[][WAYS] = {{true, false, false}, {false, true, false}, {false, false, true}, {false, true, true}, {true, true, true}};
 
 typedef struct {
     double number[NUMBERS];
@@ -415,11 +429,13 @@ static bool put_number(const char *name, const char *text, words *w)
 
 static bool put_choice(const char *name, const char *text, words *w)
 {
-    for (unsigned at = 0; at < VALUES * CHOICES && *text; at++)
-        if (!strcmp(CHOSEN[at / VALUES].name, name) && !strcmp(CHOSEN[at / VALUES].value[at % VALUES], text)) {
+    for (unsigned at = 0; at < VALUES * CHOICES; at++) {
+        const char *value = CHOSEN[at / VALUES].value[at % VALUES];
+        if (value && !strcmp(CHOSEN[at / VALUES].name, name) && !strcmp(value, text)) {
             w->chosen[at / VALUES] = at % VALUES;
             return true;
         }
+    }
     return false;
 }
 
@@ -459,7 +475,7 @@ static void print_choice(unsigned at)
 {
     print_name(CHOSEN[at].name);
     printf("%s", CHOSEN[at].value[0]);
-    for (unsigned value = 1; value < VALUES && *CHOSEN[at].value[value]; value++)
+    for (unsigned value = 1; value < VALUES && CHOSEN[at].value[value]; value++)
         printf(", %s", CHOSEN[at].value[value]);
     printf("\n");
 }

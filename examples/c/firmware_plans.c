@@ -22,8 +22,8 @@ static uint32_t call_choice(const driver *d, uint64_t now, size_t place[ONFI_WAN
     onfi_channel channel = d->channel;
     channel.bus_free = later_of(channel.bus_free, now);
     if (d->plans.choice == ONE_KIND)
-        return choose_one_kind(&channel, d->lun, d->luns, d->queue, d->queued, place, count);
-    return onfi_choose(&channel, d->lun, d->luns, d->queue, d->queued, d->accepted, d->plans.choice, ONFI_WANTS, place, count);
+        return choose_one_kind(&d->lengths, &channel, d->lun, d->luns, d->queue, d->queued, place, count);
+    return onfi_choose_by(&d->lengths, &channel, d->lun, d->luns, d->queue, d->queued, d->accepted, d->plans.choice, ONFI_WANTS, place, count);
 }
 
 /* The same, and whether one of them isn't planned yet. */
@@ -68,7 +68,7 @@ static double mean_age(const driver *d, const size_t *place, uint64_t now)
 /* 8, and 32 times the square of its age in mean ages: what waits long can't be last in every plan. Reads may count for more. */
 static uint16_t weight_of(const driver *d, uint64_t age, double mean, uint8_t kind)
 {
-    double share = (double)age / mean, weight = (8 + 32 * share * share) * (kind == ONFI_READ ? d->plans.reads : 1);
+    double share = (double)age / mean, weight = (8 + 32 * share * share) * (operation_of(kind) == ONFI_READ ? d->plans.reads : 1);
     if (!d->plans.by_age)
         return 1;
     return weight < UINT16_MAX ? (uint16_t)weight : UINT16_MAX;
@@ -102,16 +102,16 @@ static uint32_t call_planner(const driver *d, const size_t *place, uint64_t now,
 {
     size_t bytes;
     if (d->plans.planner == RULE)
-        return onfi_plan_rule(&d->channel, d->lun, d->luns, d->batch, d->batched, plan, NULL, 0, &bytes);
+        return onfi_plan_rule_by(&d->lengths, &d->channel, d->lun, d->luns, d->batch, d->batched, plan, NULL, 0, &bytes);
     if (d->plans.planner == WITHIN)
-        return onfi_plan_within(&d->channel, d->lun, d->luns, d->batch, d->batched, d->plans.limit, plan, NULL, 0, &bytes);
+        return onfi_plan_within_by(&d->lengths, &d->channel, d->lun, d->luns, d->batch, d->batched, d->plans.limit, plan, NULL, 0, &bytes);
     onfi_weights weights = weights_of(d, place, now);
-    return onfi_plan_early(&d->channel, d->lun, d->luns, d->batch, d->batched, d->plans.limit, &weights, d->plans.slack, plan, NULL, 0, &bytes);
+    return onfi_plan_early_by(&d->lengths, &d->channel, d->lun, d->luns, d->batch, d->batched, d->plans.limit, &weights, d->plans.slack, plan, NULL, 0, &bytes);
 }
 
 /*
  * Plans the chosen requests and what runs, from now on. Here alone the bus is shown that time has passed: a plan that was made before
- * stays legal for what it was made of, and if its phases start late onfi_ran is given that.
+ * stays legal for what it was made of, and if its phases start late onfi_ran_by is given that.
  */
 static bool make_plan(driver *d, const size_t *place, size_t count, uint64_t now)
 {
@@ -144,7 +144,7 @@ bool plans_next(driver *d, uint64_t now, onfi_phase *phase)
         return false;
     if (!d->has_plan)
         return false;
-    uint32_t status = onfi_due(&d->channel, d->lun, d->luns, d->batch, d->batched, &d->geometry, &d->schedule, phase);
+    uint32_t status = onfi_due_by(&d->lengths, &d->channel, d->lun, d->luns, d->batch, d->batched, &d->geometry, &d->schedule, phase);
     return status != ONFI_NOTHING_DUE && went_well(d, status);
 }
 
@@ -168,11 +168,13 @@ void note_begin(driver *d, unsigned lun)
         d->member_arrived[lun][at] = leave_queue(d, d->lun[lun].member[at].id);
 }
 
-/* Runs the due phase from `start` on, at or after its start by the plan; `page` is the data of its request. */
-bool plans_run(driver *d, const onfi_phase *phase, uint64_t start, uint8_t *page)
+/* Runs the due phase from `start` on, at or after its start by the plan. */
+bool plans_run(driver *d, const onfi_phase *phase, uint64_t start, const transfer *of)
 {
-    uint64_t end = drive(d, phase, start, page);
-    uint32_t status = onfi_ran(&d->channel, d->lun, d->luns, d->batch, &d->batched, &d->schedule, phase->lun, phase->number, start);
+    uint64_t end;
+    if (!drive(d, phase, start, of, &end))
+        return false;
+    uint32_t status = onfi_ran_by(&d->lengths, &d->channel, d->lun, d->luns, d->batch, &d->batched, &d->schedule, phase->lun, phase->number, start);
     if (!went_well(d, status))
         return false;
     if (phase->number == 0)

@@ -2,7 +2,8 @@
 
 Hosts send requests at random times. Whenever the bus is free, what waits, up to eight requests, is planned as a batch and
 runs to its end; the next batch is planned on the LUNs as they are then. It prints the mean latency and how busy the bus was,
-for batches in the order of the plan and, to compare, for the same batches by one request after the other.
+for batches in the order of the plan and, to compare, for the same batches by one request after the other. What was on the bus is
+kept as a log, which is judged at the end as a whole.
 """
 
 from __future__ import annotations
@@ -10,7 +11,7 @@ from __future__ import annotations
 import random
 from typing import Callable, List, NamedTuple, Tuple
 
-from onfi import Channel, Kind, Lun, Rules, Spans, Timing, Want, check, plan
+from onfi import Channel, Kind, Logged, Lun, Rules, Spans, Timing, Want, audit, check, plan
 
 LUNS = 4
 TIMING = Timing(read=Spans(140, 600, 60_100, 37_700), program=Spans(37_900, 600, 800_100, 280), erase=Spans(100, 600, 6_000_100, 280))
@@ -23,6 +24,18 @@ class Request(NamedTuple):
     lun: int
     block: int
     page: int
+
+
+class Ran(NamedTuple):
+    """When each request of a batch is answered, when the bus is free again, and what was on it."""
+
+    ends: List[int]
+    free: int
+    log: List[Logged]
+
+
+def logged(start: int, it: Request, is_post: bool) -> Logged:
+    return Logged(start, it.lun, it.kind, is_post, it.block, it.page)
 
 
 def drawn(count: int, seed: int) -> List[Request]:
@@ -39,49 +52,59 @@ def spans_of(kind: int) -> Spans:
     return (TIMING.read, TIMING.program, TIMING.erase)[kind]
 
 
-def planned(batch: List[Request], now: int) -> Tuple[List[int], int]:
-    """When each request of a batch is answered, and when the bus is free again, by a plan that is checked."""
+def planned(batch: List[Request], now: int) -> Ran:
+    """A batch by a plan that is checked."""
     wants = [Want(number, it.kind, it.lun, it.block, it.page) for number, it in enumerate(batch)]
     channel = Channel(TIMING, CHANNEL.rules, now)
     luns = [Lun(now)] * LUNS
     made = plan(channel, luns, wants)
     assert check(channel, luns, wants, made.schedule, made.certificate) == made.finish
     ends = [0] * len(batch)
+    log: List[Logged] = []
     for group in made.schedule.groups:
         size = len(group.wants)
         for member, number in enumerate(group.wants):
-            ends[number] = group.starts[size + member] + spans_of(wants[number].kind).post
-    return ends, made.finish
+            command, post = group.starts[member], group.starts[size + member]
+            ends[number] = post + spans_of(wants[number].kind).post
+            log += [logged(command, batch[number], False), logged(post, batch[number], True)]
+    return Ran(ends, made.finish, sorted(log, key=lambda it: it.start))
 
 
-def one_by_one(batch: List[Request], now: int) -> Tuple[List[int], int]:
+def one_by_one(batch: List[Request], now: int) -> Ran:
     """The same without overlap."""
-    ends = []
+    ends: List[int] = []
+    log: List[Logged] = []
     for it in batch:
         spans = spans_of(it.kind)
+        log += [logged(now, it, False), logged(now + spans.cmd + spans.array, it, True)]
         now += spans.cmd + spans.array + spans.post
         ends.append(now)
-    return ends, now
+    return Ran(ends, now, log)
 
 
-def simulated(requests: List[Request], way: Callable[[List[Request], int], Tuple[List[int], int]]) -> Tuple[float, int]:
-    """The mean latency and the end, in ns."""
-    now, done, latencies = 0, 0, []
-    while done < len(requests):
+def simulated(requests: List[Request], way: Callable[[List[Request], int], Ran]) -> Tuple[float, int, List[Logged]]:
+    """The mean latency and the end, in ns, and what was on the bus."""
+    now = 0
+    latencies: List[int] = []
+    log: List[Logged] = []
+    while len(latencies) < len(requests):
+        done = len(latencies)
         now = max(now, requests[done].sent)
         batch = [it for it in requests[done : done + 8] if it.sent <= now]
-        ends, now = way(batch, now)
-        latencies += [end - it.sent for it, end in zip(batch, ends)]
-        done += len(batch)
-    return sum(latencies) / len(latencies), now
+        ran = way(batch, now)
+        now = ran.free
+        latencies += [end - it.sent for it, end in zip(batch, ran.ends)]
+        log += ran.log
+    return sum(latencies) / len(latencies), now, log
 
 
 def main() -> None:
-    requests = drawn(500, seed=1)
+    requests = drawn(1000, seed=1)
     work = sum(spans_of(it.kind).cmd + spans_of(it.kind).post for it in requests)
     for name, way in (("one by one", one_by_one), ("planned", planned)):
-        latency, end = simulated(requests, way)
-        print(f"{name:10}  mean latency {latency / 1000:9.1f} us, bus busy {100 * work / end:4.1f} %")
+        latency, end, log = simulated(requests, way)
+        assert not list(audit(CHANNEL, [Lun()] * LUNS, log))
+        print(f"{name:10}  mean latency {latency / 1000:9.1f} us, bus busy {100 * work / end:4.1f} %; its {len(log)} phases are legal")
 
 
 if __name__ == "__main__":

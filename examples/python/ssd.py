@@ -1,10 +1,11 @@
 """A drive of two channels of eight LUNs in SimPy: each channel plans in rolling use, and asks which phase is due.
 
-    ONFI_LIBRARY=lib/libonfi.so PYTHONPATH=python python3 examples/python/ssd.py [--requests N] [--seed N] [--load SHARE] [--ends] ..
+    ONFI_LIBRARY=lib/libonfi.so PYTHONPATH=python python3 examples/python/ssd.py [--requests N] [--seed N] [--load SHARE] [--sectors N] [--ends] ..
 
 A channel has 64 requests outstanding: a new one comes with each answer, or with --load by itself. It does what the driver of
 examples/c/firmware_plans.c does: channel 0 answers each request when `firmware way plans` with the same seed does, channel 1 when it
-does with the next seed. With --ends it prints when: channel, number, end.
+does with the next seed. With --ends it prints when: channel, number, end. With --sectors 1 reads want 4 KiB, one sector of a page's four, as by
+`workload mixed-4k` of the driver: plans know how long such an output is, and the library says from which column on how many bytes are taken.
 
 SimPy 3 or later is wanted (Debian's python3-simpy3, or pip's simpy). Without it nothing is simulated. Times are ns.
 """
@@ -17,10 +18,13 @@ import importlib
 import math
 from typing import Any, Dict, Iterator, List, Optional, Tuple
 
-from onfi import Channel, Geometry, Kind, Lun, NothingDue, Phase, Rules, Schedule, Spans, Timing, Want, choose, due, plan_early, ran
+from onfi import (Channel, Geometry, Kind, Lengths, Lun, NothingDue, Phase, Rules, Schedule, Spans, Timing, Want, choose, due, kind_by, output_of,
+                  plan_early, ran)
 
 CHANNELS, LUNS, PLANES, DEPTH = 2, 8, 4, 64
 PAGE_BYTES, PAGES, BLOCKS = 16_384 + 2_048, 1_152, 16_384
+SECTORS = 4
+SECTOR_BYTES = PAGE_BYTES // SECTORS
 READ_BLOCKS, PROGRAM_BLOCKS, FIRST_PROGRAMMED = 512 * PLANES, 400, 1_000
 ARRAYS: Dict[int, int] = {Kind.READ: 75_100, Kind.PROGRAM: 800_100, Kind.ERASE: 10_000_100}
 GEOMETRY = Geometry(BLOCKS, 11, 14, 3, PAGES, PAGE_BYTES - 2_048, 2_048, LUNS, 2, 2, 4, False, True, True)
@@ -37,15 +41,34 @@ class Setup:
     array: Tuple[float, float]
     limit: int
     slack: int
+    sectors: int
     ends: bool
+
+
+def cycle_of(byte: float) -> int:
+    return 20 if byte >= 20 else 25
+
+
+def time_of(data: int, byte: float) -> int:
+    """How long so many bytes have the bus, in ns."""
+    return int(data * byte + 0.5)
+
+
+def output_time(data: int, byte: float) -> int:
+    return 7 * cycle_of(byte) + 600 + time_of(data, byte)
+
+
+def lengths_of(byte: float) -> Lengths:
+    """How long outputs of sectors have it."""
+    return Lengths({count: output_time(count * SECTOR_BYTES, byte) for count in range(1, SECTORS + 1)})
 
 
 def channel_of(byte: float) -> Channel:
     """A channel by its stated times, in ns."""
-    cycle, page = 20 if byte >= 20 else 25, int(PAGE_BYTES * byte + 0.5)
+    cycle = cycle_of(byte)
     status = 5 * cycle + 180
-    read = Spans(7 * cycle, 600, ARRAYS[Kind.READ], 7 * cycle + 600 + page)
-    program = Spans(7 * cycle + 400 + page, 600, ARRAYS[Kind.PROGRAM], status)
+    read = Spans(7 * cycle, 600, ARRAYS[Kind.READ], output_time(PAGE_BYTES, byte))
+    program = Spans(7 * cycle + 400 + time_of(PAGE_BYTES, byte), 600, ARRAYS[Kind.PROGRAM], status)
     return Channel(Timing(read, program, Spans(5 * cycle, 600, ARRAYS[Kind.ERASE], status)), Rules(True, True, False, 2))
 
 
@@ -72,17 +95,23 @@ class Numbers:
 class Host:
     """Seven of ten requests are reads of any page, the others programs of a run over planes, LUNs, pages."""
 
-    def __init__(self, seed: int) -> None:
-        self.wants, self.arrivals, self.programs = Numbers(2 * seed), Numbers(2 * seed + 1), 0
+    def __init__(self, seed: int, sectors: int) -> None:
+        self.wants, self.arrivals, self.places, self.programs = Numbers(2 * seed), Numbers(2 * seed + 1), Numbers(~(2 * seed)), 0
+        self.sectors = sectors
 
     def want(self, number: int) -> Want:
         if self.wants.share() < 0.7:
             lun, block = self.wants.below(LUNS), self.wants.below(READ_BLOCKS)
-            return Want(number, Kind.READ, lun, block, self.wants.below(PAGES))
+            return Want(number, kind_by(Kind.READ, self.sectors), lun, block, self.wants.below(PAGES))
         row, place = divmod(self.programs, PLANES * LUNS)
         self.programs += 1
         block = (FIRST_PROGRAMMED + row // PAGES % PROGRAM_BLOCKS) * PLANES + place % PLANES
         return Want(number, Kind.PROGRAM, place // PLANES, block, row % PAGES)
+
+    def first(self, want: Want) -> int:
+        """The first sector that it wants."""
+        count = want.kind >> 5
+        return self.places.below(SECTORS + 1 - count) if count else 0
 
     def pause(self, mean: float) -> int:
         """How long until the next one comes by itself."""
@@ -94,8 +123,9 @@ class Controller:
 
     def __init__(self, simpy: Any, env: Any, number: int, seed: int, setup: Setup) -> None:
         self.simpy, self.env, self.number, self.seed, self.setup = simpy, env, number, seed, setup
-        self.host = Host(seed)
-        self.channel = channel_of(setup.byte)
+        self.host = Host(seed, setup.sectors)
+        self.channel, self.lengths = channel_of(setup.byte), lengths_of(setup.byte)
+        self.first: Dict[int, int] = {}
         self.luns: List[Lun] = [Lun()] * LUNS
         self.queue: List[Want] = []
         self.batch: List[Want] = []
@@ -121,6 +151,7 @@ class Controller:
         self.outstanding += 1
         self.queue.append(want)
         self.arrived[want.id] = arrived
+        self.first[want.id] = self.host.first(want)
 
     def closed_loop(self) -> Iterator[Any]:
         """The first requests; each answer brings the next one."""
@@ -132,7 +163,7 @@ class Controller:
     def open_loop(self) -> Iterator[Any]:
         """Requests come one by one, and wait where there is no room."""
         read, program = self.channel.timing.read, self.channel.timing.program
-        mean = 0.7 * (read.cmd + read.post)
+        mean = 0.7 * (read.cmd + (self.lengths.sectors[self.setup.sectors] if self.setup.sectors else read.post))
         mean = (mean + 0.3 * (program.cmd + program.post)) / self.setup.load
         arrival = 0
         while True:
@@ -169,24 +200,34 @@ class Controller:
     def next_phase(self) -> Optional[Phase]:
         """Which phase is due. What is new is planned first, from now on."""
         from_now = dataclasses.replace(self.channel, bus_free=max(self.channel.bus_free, self.env.now))
-        chosen = [self.queue[place] for place in choose(from_now, self.luns, self.queue, self.accepted)]
+        chosen = [self.queue[place] for place in choose(from_now, self.luns, self.queue, self.accepted, lengths=self.lengths)]
         if self.is_told or any(want not in self.batch for want in chosen):
             self.channel, self.batch, self.is_told = from_now, chosen, False
             weights, running = self.weights()
-            self.schedule = plan_early(self.channel, self.luns, self.batch, weights, self.setup.slack, self.setup.limit, running).schedule
+            plan = plan_early(self.channel, self.luns, self.batch, weights, self.setup.slack, self.setup.limit, running, self.lengths)
+            self.schedule = plan.schedule
             self.plans += 1
         try:
-            return due(self.channel, self.luns, self.batch, GEOMETRY, self.schedule) if self.schedule else None
+            return due(self.channel, self.luns, self.batch, GEOMETRY, self.schedule, self.lengths) if self.schedule else None
         except NothingDue:
             return None
+
+    def bus_time(self, phase: Phase) -> int:
+        """How long it has the bus: a data output by the bytes that are taken, which are those that its request wants."""
+        output = output_of(GEOMETRY, SECTOR_BYTES, phase, self.first[phase.want])
+        if not output.bytes:
+            return phase.end - phase.start
+        assert output.column == self.first[phase.want] * SECTOR_BYTES
+        assert output.bytes == (self.setup.sectors or SECTORS) * SECTOR_BYTES
+        return output_time(output.bytes, self.setup.byte)
 
     def run_phase(self, phase: Phase) -> Iterator[Any]:
         """Has it on the bus, and reports to the library that it ran."""
         assert self.schedule is not None
         started = self.env.now
-        yield self.env.timeout(phase.end - phase.start)
+        yield self.env.timeout(self.bus_time(phase))
         members = self.luns[phase.lun].members
-        stand = ran(self.channel, self.luns, self.batch, self.schedule, phase.lun, phase.number, started)
+        stand = ran(self.channel, self.luns, self.batch, self.schedule, phase.lun, phase.number, started, self.lengths)
         self.channel, self.luns, self.batch, self.schedule = stand.channel, list(stand.luns), list(stand.wants), stand.schedule
         self.busy += phase.end - phase.start
         if phase.number == 0:
@@ -198,11 +239,11 @@ class Controller:
             self.answer(phase)
         if phase.number + 1 == 2 * phase.members:
             for want in members:
-                del self.arrived[want.id]
+                del self.arrived[want.id], self.first[want.id]
 
     def begin_array(self, phase: Phase) -> None:
         """The array of a LUN works from now on, mostly for less than is stated."""
-        first, stated = self.luns[phase.lun].members[0].id, ARRAYS[phase.kind]
+        first, stated = self.luns[phase.lun].members[0].id, ARRAYS[phase.kind & 31]
         least, most = self.setup.array
         share = least + (most - least) * Numbers(self.seed * 0x2545F4914F6CDD1D & WORD ^ first << 20).share()
         if int(stated * share) < stated:
@@ -258,6 +299,7 @@ def main() -> None:
     parser.add_argument("--array", type=float, nargs=2, default=(1, 1), metavar="SHARE", help="real array times, in shares of the stated ones")
     parser.add_argument("--limit", type=int, default=2_000, metavar="N", help="nodes that a search may open")
     parser.add_argument("--slack", type=int, default=20, metavar="N", help="thousandths that a plan may end later")
+    parser.add_argument("--sectors", type=int, default=0, choices=range(SECTORS + 1), metavar="N", help="how many of four a read wants; 0: its page")
     parser.add_argument("--ends", action="store_true")
     asked = parser.parse_args()
     try:
@@ -266,7 +308,7 @@ def main() -> None:
         print("nothing is simulated: SimPy is not installed (Debian's python3-simpy3, or pip's simpy)")
         return
     least, most = asked.array
-    simulate(simpy, asked.seed, Setup(asked.byte, asked.requests, asked.load, (least, most), asked.limit, asked.slack, asked.ends))
+    simulate(simpy, asked.seed, Setup(asked.byte, asked.requests, asked.load, (least, most), asked.limit, asked.slack, asked.sectors, asked.ends))
 
 
 if __name__ == "__main__":

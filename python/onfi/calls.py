@@ -5,10 +5,12 @@ from __future__ import annotations
 import ctypes
 from typing import Callable, List, Optional, Sequence, Tuple, Union
 
+from onfi.breach import Breach
 from onfi.library import library
-from onfi.model import Answer, Channel, Choice, Device, Geometry, Lengths, Lun, Phase, Plan, PlanWithin, Schedule, Stand, Want
-from onfi.refused import REFUSALS, Memory, Refused
-from onfi.structs import WANTS, CChannel, CDevice, CGeometry, CLengths, CLun, CPhase, CPlan, CSchedule, CVerdict, CWant, CWeights, CWithin, number, octets, text
+from onfi.model import Answer, Channel, Choice, Device, Geometry, Lengths, Lun, Output, Phase, Plan, PlanWithin, Schedule, Stand, Want
+from onfi.refused import REFUSALS, Illegal, Memory, Refused
+from onfi.structs import WANTS, CBroken, CChannel, CDevice, CGeometry, CLengths, CLun, COutput, CPhase, CPlan, CSchedule, CVerdict, CWant, CWeights, CWithin
+from onfi.structs import number, octets, text
 
 DONE, NO_ROOM, MEMORY = 0, 3, 4
 MOST_NODES = 1_048_576
@@ -26,9 +28,9 @@ def status_text(status: int) -> str:
     return room.raw[: size.value].decode("ascii")
 
 
-def refusal(status: int, place: int = 0) -> Refused:
+def refusal(status: int, place: int = 0, breach: Optional[Breach] = None) -> Refused:
     """The exception of a number that a call answers."""
-    return REFUSALS.get(status, Refused)(status_text(status), place)
+    return REFUSALS.get(status, Refused)(status_text(status), place, breach)
 
 
 def with_room(call: Callable[..., int]) -> Tuple[int, bytes]:
@@ -166,8 +168,8 @@ def check(channel: Channel, luns: Sequence[Lun], wants: Sequence[Want], schedule
     """When the schedule ends, in ns, where the certificate shows that no legal schedule of the wants ends sooner.
 
     Whoever made the two need not be trusted. Raises what `plan` raises of the channel; `BadSchedule`; `BadHeader`,
-    `BadToken`, `TooManyTokens`, `OtherOption`; `Illegal`; `Short`, `Trailing`, `Width`, `BoundLow`, `YieldNoFit`,
-    `YieldLoop`, `NotEnd`; `Memory`; those of a token have its place.
+    `BadToken`, `TooManyTokens`, `OtherOption`; `Illegal`, whose `breach` is what `find_breach` gives; `Short`, `Trailing`, `Width`,
+    `BoundLow`, `YieldNoFit`, `YieldLoop`, `NotEnd`; `Memory`; those of a token have its place.
     """
     return judged(library().onfi_check, Problem(channel, luns, wants), schedule, certificate)
 
@@ -203,9 +205,29 @@ def judged(call: Callable[..., int], said: Problem, schedule: Schedule, certific
     verdict, shown = CVerdict(), text(certificate, "a certificate")
     status = call(*said.words, ctypes.byref(CSchedule.of(schedule)), *below, shown, len(shown), ctypes.byref(verdict))
     if status != DONE:
-        raise refusal(status, verdict.place)
+        raise refusal(status, verdict.place, breach_of(said, schedule) if status == Illegal.status else None)
     finish: int = verdict.finish
     return finish
+
+
+def find_breach(
+    channel: Channel, luns: Sequence[Lun], wants: Sequence[Want], schedule: Schedule, lengths: Optional[Lengths] = None
+) -> Optional[Breach]:
+    """The first condition of a legal schedule that this one breaks, with whose phases or requests, when, and from when on it could; else None.
+
+    No certificate is looked at. That the condition is broken and that what is told of it is so is proved, that none is that is looked
+    at before it is shown by tests. `lengths` are as by `plan_within`. Raises what `plan` raises of the channel, with `lengths` `plan_within`;
+    `BadSchedule`; `Memory`. `ValueError` where a group has not two starts for each member.
+    """
+    return breach_of(Problem(channel, luns, wants, lengths), schedule)
+
+
+def breach_of(said: Problem, schedule: Schedule) -> Optional[Breach]:
+    broken = CBroken()
+    status = said.call("onfi_breach")(*said.words, ctypes.byref(CSchedule.of(schedule)), ctypes.byref(broken))
+    if status not in (DONE, Illegal.status):
+        raise refusal(status)
+    return broken.told() if status == Illegal.status else None
 
 
 def choose(
@@ -316,6 +338,23 @@ def ran(
     return Stand(said.channel.told(), tuple(it.told() for it in said.luns[: len(luns)]), tuple(it.told() for it in waiting[: count.value]), left.told())
 
 
+def output_of(geometry: Geometry, sector_bytes: int, phase: Phase, first: int = 0) -> Output:
+    """The column and the count of bytes of what a phase of `due` puts out of its page.
+
+    The post of a read puts out all of its page, data bytes and spare bytes; where its kind names 1 to 7 sectors, those from sector
+    `first` on, counted from 0, with `sector_bytes` bytes each, as `lengths_of_page` was given. Of a phase that names none the two mean
+    nothing, and any other phase puts out no byte: column 0, bytes 0.
+
+    Raises `BadKind` where the five low bits of the kind are above 2; `BadGeometry`; `BadSectors` where a read, in its command too, names
+    sectors that have no byte or that go beyond the page. `ValueError` where `sector_bytes` isn't below 65,536, or `first` below 256.
+    """
+    told, words = COutput(), (number(sector_bytes, 65536, "the bytes of a sector"), ctypes.byref(CPhase.of(phase)), number(first, 256, "a sector"))
+    status = library().onfi_output_of(ctypes.byref(CGeometry.of(geometry)), *words, ctypes.byref(told))
+    if status != DONE:
+        raise refusal(status)
+    return told.told()
+
+
 def row(geometry: Geometry, lun: int, block: int, page: int) -> int:
     """The row address of a page of a device: page, block and LUN number, from low to high bits.
 
@@ -408,6 +447,15 @@ def text_legal(script: Text) -> Answer:
     """
     script = text(script, "a script with its plan")
     return answered(with_room(lambda *room: library().onfi_text_legal(script, len(script), *room)))
+
+
+def text_audit(script: Text, each: bool = False) -> Answer:
+    """What `onfi_sim audit` writes for a script with a log after it, of any length: that it is legal, or the first line that breaks a condition.
+
+    With `each` all such lines are told (`--all`). The two are one str or bytes. Raises `Memory`.
+    """
+    script = text(script, "a script with its log")
+    return answered(with_room(lambda *room: library().onfi_text_audit(script, len(script), each, *room)))
 
 
 def library_version() -> str:

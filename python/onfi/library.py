@@ -8,7 +8,8 @@ import os
 import pathlib
 from typing import List, Tuple
 
-from onfi.structs import WANTS, CChannel, CDevice, CGeometry, CLengths, CLun, CPhase, CPlan, CSchedule, CVerdict, CWant, CWeights, CWithin
+from onfi.structs import WANTS, CAudit, CBroken, CChannel, CDevice, CGeometry, CLengths, CLogBroken, CLun, COutput, CPhase, CPlan, CSchedule, CVerdict, CWant, CWeights
+from onfi.structs import CWithin
 
 SONAME = "libonfi.so.1"
 BYTES, SIZE = ctypes.c_char_p, ctypes.c_size_t
@@ -25,6 +26,7 @@ CALLS = {
     "onfi_check": (*PROBLEM, ctypes.POINTER(CSchedule), BYTES, SIZE, ctypes.POINTER(CVerdict)),
     "onfi_check_known": (*PROBLEM, ctypes.POINTER(CSchedule), BYTES, SIZE, ctypes.POINTER(CVerdict)),
     "onfi_check_within": (*PROBLEM, ctypes.POINTER(CSchedule), ctypes.c_uint64, BYTES, SIZE, ctypes.POINTER(CVerdict)),
+    "onfi_breach": (*PROBLEM, ctypes.POINTER(CSchedule), ctypes.POINTER(CBroken)),
     "onfi_choose": (*PROBLEM, ctypes.c_uint64, ctypes.c_uint8, ctypes.c_uint8, ctypes.POINTER(SIZE * WANTS), ctypes.POINTER(SIZE)),
     "onfi_choose_whole": (
         *PROBLEM,
@@ -38,6 +40,10 @@ CALLS = {
     ),
     "onfi_due": (*PROBLEM, ctypes.POINTER(CGeometry), ctypes.POINTER(CSchedule), ctypes.POINTER(CPhase)),
     "onfi_ran": (*PROBLEM[:3], ctypes.POINTER(CWant * WANTS), ctypes.POINTER(SIZE), ctypes.POINTER(CSchedule), ctypes.c_uint8, ctypes.c_uint8, ctypes.c_uint64),
+    "onfi_audit_begin": (*PROBLEM[:3], ctypes.POINTER(CAudit)),
+    "onfi_audit_phase": (ctypes.POINTER(CAudit), ctypes.POINTER(CPhase), ctypes.POINTER(CLogBroken)),
+    "onfi_audit_ready": (ctypes.POINTER(CAudit), ctypes.c_uint8, ctypes.c_uint64),
+    "onfi_output_of": (ctypes.POINTER(CGeometry), ctypes.c_uint16, ctypes.POINTER(CPhase), ctypes.c_uint8, ctypes.POINTER(COutput)),
     "onfi_row": (ctypes.POINTER(CGeometry), ctypes.c_uint8, ctypes.c_uint16, ctypes.c_uint16, ctypes.POINTER(ctypes.c_uint32)),
     "onfi_timing_of_page": (BYTES, SIZE, BYTES, SIZE, ctypes.POINTER(CDevice), ctypes.POINTER(ctypes.c_uint64)),
     "onfi_timing_of_strobes": (BYTES, SIZE, BYTES, SIZE, BYTES, SIZE, ctypes.POINTER(CDevice), ctypes.POINTER(ctypes.c_uint64)),
@@ -48,10 +54,11 @@ CALLS = {
     "onfi_text_check": (BYTES, SIZE, *ROOM),
     "onfi_text_check_known": (BYTES, SIZE, *ROOM),
     "onfi_text_legal": (BYTES, SIZE, *ROOM),
+    "onfi_text_audit": (BYTES, SIZE, ctypes.c_bool, *ROOM),
     "onfi_status_text": (ctypes.c_uint32, *ROOM),
 }
 # Those that are told lengths of sectors too, before all else.
-TOLD = ("onfi_plan_within", "onfi_plan_rule", "onfi_plan_early", "onfi_check_within", "onfi_choose", "onfi_due", "onfi_ran")
+TOLD = ("onfi_plan_within", "onfi_plan_rule", "onfi_plan_early", "onfi_check_within", "onfi_breach", "onfi_choose", "onfi_due", "onfi_ran", "onfi_audit_begin")
 CALLS.update({f"{name}_by": (LENGTHS, *CALLS[name]) for name in TOLD})
 
 

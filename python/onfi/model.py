@@ -196,6 +196,16 @@ class Phase:
 
 
 @dataclass(frozen=True)
+class Output:
+    """What a phase puts out of its page."""
+
+    column: int
+    """At which byte of the page it begins: the column address of its 06h .. E0h, as many cycles as the geometry has, lowest byte first."""
+    bytes: int
+    """How many bytes the host takes; 0 where it takes no byte of a page."""
+
+
+@dataclass(frozen=True)
 class Stand:
     """A channel, what its LUNs do, the requests that wait, and the schedule that is left."""
 

@@ -2,7 +2,9 @@
 
 from __future__ import annotations
 
-from typing import Dict, Type
+from typing import Dict, Optional, Type
+
+from onfi.breach import Breach
 
 
 class Refused(Exception):
@@ -11,8 +13,10 @@ class Refused(Exception):
     status = 0
     """The number that onfi.h gives it."""
 
-    def __init__(self, text: str, place: int = 0) -> None:
-        super().__init__(text)
+    def __init__(self, text: str, place: int = 0, breach: Optional[Breach] = None) -> None:
+        super().__init__(text if breach is None else f"{text}: {breach}")
+        self.breach = breach
+        """The condition that a schedule breaks, of `Illegal` by a check; else None."""
         self.place = place
         """The token of a certificate that it speaks of, counted from 0, or the row, from 1, or the parameter of a timing sheet."""
 
@@ -118,6 +122,12 @@ class NoLengths(Refused):
     """A read of so many sectors without a post of as many, or sectors of what is no read."""
 
     status = 28
+
+
+class BadSectors(Refused):
+    """Sectors of a read that its page doesn't have, or that have no byte."""
+
+    status = 29
 
 
 class BadSchedule(Refused):
@@ -400,6 +410,7 @@ REFUSALS: Dict[int, Type[Refused]] = {
         BadBatch,
         BadOrder,
         NoLengths,
+        BadSectors,
         BadSchedule,
         NothingDue,
         NotDue,
@@ -463,6 +474,7 @@ __all__ = [
     "BadPlace",
     "BadPlaneBits",
     "BadSchedule",
+    "BadSectors",
     "BadToken",
     "BoundLow",
     "Clock",

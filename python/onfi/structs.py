@@ -5,7 +5,8 @@ from __future__ import annotations
 import ctypes
 from typing import Any, Dict, Sequence, Union
 
-from onfi.model import Channel, Device, Geometry, Group, Kind, Lengths, Lun, Phase, Rules, Schedule, Spans, Timing, Want
+from onfi.breach import Breach, Condition, Difference, NamedPhase, Part, told_by
+from onfi.model import Channel, Device, Geometry, Group, Kind, Lengths, Lun, Output, Phase, Rules, Schedule, Spans, Timing, Want
 
 LUNS, WANTS, MEMBERS, STARTS, SECTORS = 8, 8, 4, 8, 7
 
@@ -214,10 +215,76 @@ class CPhase(ctypes.Structure):
         ("is_post", ctypes.c_bool),
     ]
 
+    @classmethod
+    def of(cls, phase: Phase) -> CPhase:
+        """What of a phase its output rests on."""
+        return cls(kind=number(phase.kind, 256, "the kind of a phase"), is_post=phase.is_post)
+
     def told(self) -> Phase:
         made: Dict[str, Any] = {name: getattr(self, name) for name, *_ in self._fields_}
         made["kind"] = kind_told(self.kind)
         return Phase(**made)
+
+
+class CStage(ctypes.Structure):
+    _fields_ = [("lun", CLun), ("more", ctypes.c_uint64), ("is_open", ctypes.c_uint8)]
+
+
+class CAudit(ctypes.Structure):
+    _fields_ = [
+        ("channel", CChannel),
+        ("lengths", CLengths),
+        ("accepted", ctypes.c_uint64),
+        ("luns", ctypes.c_uint8),
+        ("lun", CStage * LUNS),
+    ]
+
+
+class CLogBroken(ctypes.Structure):
+    _fields_ = [
+        *((name, ctypes.c_uint64) for name in ("want", "other_want", "start", "earliest")),
+        *((name, ctypes.c_uint16) for name in ("block", "page")),
+        *((name, ctypes.c_uint8) for name in ("condition", "lun")),
+        ("is_post", ctypes.c_bool),
+    ]
+
+
+class COutput(ctypes.Structure):
+    _fields_ = [("column", ctypes.c_uint16), ("bytes", ctypes.c_uint16)]
+
+    def told(self) -> Output:
+        return Output(self.column, self.bytes)
+
+
+class CNamed(ctypes.Structure):
+    _fields_ = [
+        ("want", ctypes.c_uint64),
+        ("block", ctypes.c_uint16),
+        ("lun", ctypes.c_uint8),
+        ("part", ctypes.c_uint8),
+        ("is_running", ctypes.c_bool),
+    ]
+
+    def told(self) -> NamedPhase:
+        part = Part(self.part)
+        return NamedPhase(part, lun=self.lun, block=self.block) if self.is_running else NamedPhase(part, want=self.want)
+
+
+class CBroken(ctypes.Structure):
+    _fields_ = [
+        *((name, CNamed) for name in ("phase", "other")),
+        *((name, ctypes.c_uint64) for name in ("want", "other_want", "start", "earliest", "held", "count", "right")),
+        *((name, ctypes.c_uint8) for name in ("condition", "lun", "difference")),
+    ]
+
+    def told(self) -> Breach:
+        condition = Condition(self.condition)
+        made: Dict[str, Any] = {name: getattr(self, name) for name in told_by(condition)}
+        for name in {"phase", "other"} & made.keys():
+            made[name] = made[name].told()
+        if "difference" in made:
+            made["difference"] = Difference(made["difference"])
+        return Breach(condition, **made)
 
 
 class CVerdict(ctypes.Structure):

@@ -70,19 +70,23 @@ static onfi_phase phase_of(const call *c, uint32_t block, uint32_t page, uint32_
     return phase;
 }
 
+static const onfi_output WHOLE = {0, PAGE_BYTES};
+static uint8_t data[PAGE_BYTES];
+
 static void make_call(const struct onfi_bus *bus, const call *c)
 {
     onfi_phase phase = phase_of(c, c->block, c->page, c->lun);
-    uint8_t page[SHOWN], byte;
-    put_page(page, c->lun, c->block, c->page);
+    uint8_t byte;
     if (c->part == COMMAND)
         bus->command(bus->board, c->start, &phase);
-    else if (c->part == DATA_IN)
-        bus->data_in(bus->board, c->start, &phase, page);
     else if (c->part == DATA_OUT)
-        bus->data_out(bus->board, c->start, &phase, page);
-    else
+        bus->data_out(bus->board, c->start, &phase, &WHOLE, data);
+    else if (c->part == STATUS_BYTE)
         bus->status(bus->board, c->start, &phase, &byte);
+    else {
+        put_bytes_of_page(data, phase.row, 0, PAGE_BYTES);
+        bus->data_in(bus->board, c->start, &phase, data);
+    }
 }
 
 static call spoil(call c, const spoilt *how)
@@ -125,17 +129,48 @@ static void print_judgement(const simulation *of, const spoilt *how)
 static void print_others(const simulation *of)
 {
     static board mock;
-    uint8_t page[SHOWN];
     onfi_phase phase = phase_of(&LEGAL[6], 4, 0, 1);
-    put_page(page, 1, 5, 0);
+    put_bytes_of_page(data, row_of(1, 5, 0), 0, PAGE_BYTES);
     board_open(&mock, of);
     struct onfi_bus bus = board_bus(&mock);
-    bus.data_in(bus.board, 0, &phase, page);
+    bus.data_in(bus.board, 0, &phase, data);
     printf("data of another page: %s\n", mock.wrong);
     board_open(&mock, of);
     phase.row_cycles--;
-    bus.data_in(bus.board, 0, &phase, page);
+    bus.data_in(bus.board, 0, &phase, data);
     printf("a row cycle too few: %s\n", mock.wrong);
+}
+
+/* The read of LUN 1 puts out these bytes: how long it takes, and whether they are all that is put out; else what is wrong. */
+static void print_output(const simulation *of, const char *name, onfi_output output)
+{
+    static board mock;
+    static uint8_t bytes[PAGE_BYTES + 1];
+    onfi_phase phase = phase_of(&LEGAL[3], 8, 7, 1);
+    board_open(&mock, of);
+    struct onfi_bus bus = board_bus(&mock);
+    make_call(&bus, &LEGAL[1]);
+    memset(bytes, 0xA5, sizeof bytes);
+    uint64_t took = bus.data_out(bus.board, LEGAL[3].start, &phase, &output, bytes) - LEGAL[3].start;
+    bool are_its = !mock.wrong && are_bytes_of_page(bytes, row_of(1, 8, 7), output.column, output.bytes) && bytes[output.bytes] == 0xA5;
+    if (mock.wrong)
+        printf("%s: %s\n", name, mock.wrong);
+    else
+        printf("%s: %u ns, %s\n", name, (unsigned)took, are_its ? "its bytes" : "other bytes");
+}
+
+static void print_outputs(const simulation *of)
+{
+    static const struct {
+        const char *name;
+        onfi_output output;
+    } outputs[] = {
+        {"a page", {0, 18432}},           {"the first sector", {0, 4608}},       {"the last sector", {13824, 4608}}, {"two sectors", {4608, 9216}},
+        {"half a sector", {0, 2304}},     {"from amid a sector on", {8, 4608}},  {"no byte", {4608, 0}},             {"a sector too many", {9216, 13824}},
+        {"after the page",  {18432, 4608}},
+    };
+    for (size_t at = 0; at < sizeof outputs / sizeof *outputs; at++)
+        print_output(of, outputs[at].name, outputs[at].output);
 }
 
 int main(void)
@@ -144,5 +179,6 @@ int main(void)
     for (size_t at = 0; at < sizeof SPOILT / sizeof *SPOILT; at++)
         print_judgement(&of, &SPOILT[at]);
     print_others(&of);
+    print_outputs(&of);
     return 0;
 }

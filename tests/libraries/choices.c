@@ -46,8 +46,9 @@ static void expect(const char *what, const queue *q, uint8_t choice, uint8_t bat
         .timing = {.read = {140, 600, 25100, 11000}, .program = {10800, 600, 200100, 280}, .erase = {100, 600, 1500100, 280}},
         .rules = {.read = true, .write = true, .plane_bits = 1}, .bus_free = q->bus_free,
     };
+    static const onfi_lengths no_sectors;
     size_t chosen[ONFI_WANTS], count = 0;
-    uint32_t status = choice == ONE_KIND ? choose_one_kind(&channel, q->luns, LUNS, q->wants, q->count, chosen, &count)
+    uint32_t status = choice == ONE_KIND ? choose_one_kind(&no_sectors, &channel, q->luns, LUNS, q->wants, q->count, chosen, &count)
                                          : onfi_choose(&channel, q->luns, LUNS, q->wants, q->count, q->accepted, choice, batch, chosen, &count);
     size_t full = batch < q->count ? batch : q->count;
     tried++;

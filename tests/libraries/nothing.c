@@ -93,6 +93,10 @@ static void by_lengths(void)
     expect("its finish by lengths", plan.finish, 77);
     expect("is checked by lengths", onfi_check_within_by(&none, &channel, luns, 1, NOTHING(onfi_want), 0, &plan.schedule, 77, certificate, bytes, &verdict), ONFI_DONE);
     expect("no want by the rule", onfi_plan_rule_by(&none, &channel, luns, 1, NOTHING(onfi_want), 0, &plan, NOTHING(uint8_t), 0, &bytes), ONFI_DONE);
+    onfi_broken broken;
+    expect("nothing to break", onfi_breach(&channel, luns, 1, NOTHING(onfi_want), 0, &plan.schedule, &broken), ONFI_DONE);
+    expect("nothing is broken", broken.condition, ONFI_BREACH_NONE);
+    expect("no LUN to break it", onfi_breach_by(&none, &channel, NOTHING(onfi_lun), 0, NOTHING(onfi_want), 0, &plan.schedule, &broken), ONFI_TOO_MANY);
     expect("nothing to choose", onfi_choose_by(&none, &channel, luns, 1, NOTHING(onfi_want), 0, 0, ONFI_BY_LUN, 8, chosen, &count), ONFI_DONE);
     expect("nothing is chosen", count, 0);
 }
@@ -135,6 +139,18 @@ static void text_checks(void)
     }
 }
 
+static void text_audits(void)
+{
+    for (unsigned all = 0; all < 2; all++) {
+        char room[80];
+        size_t bytes = 0;
+        uint32_t status = onfi_text_audit(NOTHING(char), 0, all == 1, room, sizeof room, &bytes);
+        expect_answer("a log of no script", status, room, bytes);
+        expect("no room for an audit", onfi_text_audit(NOTHING(char), 0, all == 1, NOTHING(char), 0, &bytes), ONFI_NO_ROOM);
+        expect("whose length is told", bytes, strlen(no_script));
+    }
+}
+
 static void status_texts(void)
 {
     size_t bytes;
@@ -159,6 +175,7 @@ int main(int count, char **words)
     devices(page, bytes);
     text_plans();
     text_checks();
+    text_audits();
     status_texts();
     printf("%u tried, %u failed\n", tried, failed);
     return failed ? EXIT_FAILURE : EXIT_SUCCESS;

@@ -259,6 +259,10 @@ static void to_the_end(problem p, const onfi_within *plan)
         expect("its operation", phase.kind & 31, ONFI_READ);
         expect("its first byte", phase.opener, phase.is_post ? 0x06 : 0x00);
         expect("its length", phase.end - phase.start, !phase.is_post ? 140 : sectors ? p.lengths.sectors[sectors - 1] : 11000);
+        onfi_output output;
+        expect("an output of what is due", onfi_output_of(&geometry, 132, &phase, 1, &output), ONFI_DONE);
+        expect("its column", output.column, phase.is_post && sectors ? 132 : 0);
+        expect("its bytes", output.bytes, !phase.is_post ? 0 : sectors ? 132 * sectors : 528);
         expect("ran", onfi_ran_by(&p.lengths, &p.channel, p.luns, p.lun_count, p.wants, &p.want_count, &left, phase.lun, phase.number, phase.start), ONFI_DONE);
         expect("the bus", p.channel.bus_free, phase.end);
         last = phase.end;
@@ -293,6 +297,63 @@ static void chosen(void)
     p.luns[1].member[0].kind = ONFI_READ;
     expect("pages", onfi_choose_by(SAID(&p), 2, ONFI_BY_LUN, 1, places, &count), ONFI_DONE);
     expect("of equals the first", places[0], 0);
+}
+
+/* The column and the count of bytes of what a phase puts out, in one number; else the status, or 0 where something was given beside it. */
+static uint64_t put_out(uint8_t kind, bool is_post, uint16_t sector_bytes, uint8_t first)
+{
+    onfi_phase phase;
+    onfi_output output = {0xA5A5, 0x5A5A};
+    memset(&phase, 0xA5, sizeof phase);
+    phase.kind = kind, phase.is_post = is_post;
+    uint32_t status = onfi_output_of(&geometry, sector_bytes, &phase, first, &output);
+    if (status != ONFI_DONE)
+        return output.column == 0xA5A5 && output.bytes == 0x5A5A ? status : 0;
+    return (uint64_t)output.column << 32 | (uint64_t)output.bytes << 16;
+}
+
+#define OUT(column, bytes) ((uint64_t)(column) << 32 | (uint64_t)(bytes) << 16)
+
+/* Columns and counts of bytes by hand: pages have 528 bytes, four sectors of 132. */
+static void outputs(void)
+{
+    expect("a page", put_out(ONFI_READ, true, 132, 0), OUT(0, 528));
+    expect("a page, whatever is first", put_out(ONFI_READ, true, 132, 255), OUT(0, 528));
+    expect("a page without sectors", put_out(ONFI_READ, true, 0, 7), OUT(0, 528));
+    expect("the first sector", put_out(SECTORS(1), true, 132, 0), OUT(0, 132));
+    expect("the last one", put_out(SECTORS(1), true, 132, 3), OUT(396, 132));
+    expect("two in the middle", put_out(SECTORS(2), true, 132, 1), OUT(132, 264));
+    expect("all four", put_out(SECTORS(4), true, 132, 0), OUT(0, 528));
+    expect("one of a whole page", put_out(SECTORS(1), true, 528, 0), OUT(0, 528));
+    expect("a byte at the end", put_out(SECTORS(1), true, 2, 255), OUT(510, 2));
+    expect("seven at the end", put_out(SECTORS(7), true, 66, 1), OUT(66, 462));
+    expect("a command", put_out(SECTORS(2), false, 132, 2), OUT(0, 0));
+    expect("a command of a page", put_out(ONFI_READ, false, 132, 9), OUT(0, 0));
+    expect("data of a program", put_out(ONFI_PROGRAM, false, 132, 0), OUT(0, 0));
+    expect("the status of a program", put_out(ONFI_PROGRAM, true, 132, 9), OUT(0, 0));
+    expect("the status of an erase", put_out(ONFI_ERASE, true, 0, 0), OUT(0, 0));
+
+    expect("a sector past the page", put_out(SECTORS(1), true, 132, 4), ONFI_BAD_SECTORS);
+    expect("three from the second but one", put_out(SECTORS(3), true, 132, 2), ONFI_BAD_SECTORS);
+    expect("that of a command", put_out(SECTORS(3), false, 132, 2), ONFI_BAD_SECTORS);
+    expect("five of four", put_out(SECTORS(5), true, 132, 0), ONFI_BAD_SECTORS);
+    expect("a sector larger than the page", put_out(SECTORS(1), true, 529, 0), ONFI_BAD_SECTORS);
+    expect("seven of the greatest from the last", put_out(SECTORS(7), true, UINT16_MAX, UINT8_MAX), ONFI_BAD_SECTORS);
+    expect("a sector without bytes", put_out(SECTORS(1), true, 0, 0), ONFI_BAD_SECTORS);
+    expect("a kind", put_out(3, true, 132, 0), ONFI_BAD_KIND);
+    expect("a kind with sectors past the page", put_out(ONFI_KIND(31, 7), false, 0, 9), ONFI_BAD_KIND);
+
+    onfi_geometry none = geometry;
+    const onfi_phase phase = {.kind = SECTORS(1), .is_post = true}, bad = {.kind = 3};
+    onfi_output output = {1, 2};
+    none.lun_count = 9;
+    expect("a geometry before sectors", onfi_output_of(&none, 0, &phase, 0, &output), ONFI_BAD_GEOMETRY);
+    expect("a kind before it", onfi_output_of(&none, 0, &bad, 0, &output), ONFI_BAD_KIND);
+    expect("and nothing is given", output.column + output.bytes, 3);
+    none = geometry, none.data_bytes = 65535, none.spare_bytes = 0;
+    expect("the last of the greatest page", onfi_output_of(&none, 13107, &phase, 4, &output), ONFI_DONE);
+    expect("begins there", output.column, 52428);
+    expect("to its end", output.column + output.bytes, 65535);
 }
 
 static uint64_t state = 1;
@@ -341,6 +402,7 @@ int main(void)
     refusals();
     without();
     phases();
+    outputs();
     chosen();
     same();
     printf("%u tried, %u failed\n", tried, failed);

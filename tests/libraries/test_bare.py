@@ -17,13 +17,14 @@ BARE = EXAMPLES / "bare"
 STRICT = ["-Wall", "-Wextra", "-Werror"]
 CROSS, QEMU = "aarch64-linux-gnu-gcc", "qemu-system-aarch64"
 FLAGS = ["-std=c99", "-O2", "-ffreestanding", "-static", "-nostdlib", "-Wl,--build-id=none"]
-MACHINE = [QEMU, "-M", "virt", "-cpu", "cortex-a53", "-display", "none", "-serial", "stdio", "-semihosting"]
-# Words of the driver: each way, both searches, each kind of request, arrivals by themselves, a word that can't be read.
+MACHINE = [QEMU, "-M", "virt", "-cpu", "cortex-a53", "-nic", "none", "-display", "none", "-serial", "stdio", "-semihosting"]
+# Words of the driver: each way, both searches, each kind of request, reads of sectors, arrivals by themselves, a word that can't be read.
 RUNS = [
     "requests 200 way all",
     "requests 300 way both plan within workload erases byte 0.833",
     "requests 200 way both device slc load 0.7 array 0.4-0.7 ends yes",
     "requests 2000 workload erases depth 256 ends yes",
+    "requests 200 workload mixed-4k way all",
     "way greedy requests 1000 device qlc late 700 slow 90 ends yes",
     "luns 9",
     "help",

@@ -39,6 +39,8 @@ RUNS = [
     "requests 1500 plan within load 0.9 array 0.4-0.9 choice reads-first",
     "requests 800 plan rule byte 0.833 workload erases depth 256",
     "requests 800 plan rule choice one-kind load 0.7 array 0.4-0.7 late 300 slow 60",
+    "requests 800 workload mixed-4k choice one-kind weights reads byte 0.833",
+    "requests 800 workload reads-4k plan within load 0.7 array 0.4-0.7",
 ]
 PLANS = 10_000
 # Runs by which phases, the greedy way, and plans in order, are what the simulator has.
@@ -47,6 +49,8 @@ SIMULATED = [
     "device slc byte 0.833 workload erases array 0.4-0.7",
     "device qlc byte 20 workload reads luns 4 depth 16",
     "device tlc byte 2 workload mixed load 0.6 array 0.7-0.9",
+    "device tlc byte 0.833 workload mixed-4k load 0.8 array 0.7-0.9",
+    "device qlc byte 2 workload reads-4k",
 ]
 BOARD = """\
 nothing: legal
@@ -71,6 +75,15 @@ programs out of order: pages of a block aren't programmed in order
 a status of another page: a post of another page than comes next
 data of another page: the data of another page
 a row cycle too few: another count of row cycles than the device has
+a page: 37639 ns, its bytes
+the first sector: 9991 ns, its bytes
+the last sector: 9991 ns, its bytes
+two sectors: 19207 ns, its bytes
+half a sector: a count of bytes that no sectors have
+from amid a sector on: a column at which no sector begins
+no byte: a count of bytes that no sectors have
+a sector too many: bytes past the end of a page
+after the page: bytes past the end of a page
 """
 
 ROOM = tempfile.TemporaryDirectory(prefix="onfi-firmware-")
@@ -240,6 +253,36 @@ class Board(unittest.TestCase):
         self.assertEqual((ran.stdout, ran.stderr), (BOARD, ""))
 
 
+class Suspends(unittest.TestCase):
+    """Programs that are stopped for reads: the board's mock judges each phase, and reads are answered sooner."""
+
+    SOURCES = ["suspend.c", *(f"firmware{part}.c" for part in ("", "_plans", "_choice", "_board", "_host"))]
+    LINES = re.compile(r"without: 0 stops\n(.*\n)(.*\n)with suspends: (\d+) stops\n(.*\n)(.*\n)")
+    LATENCY = re.compile(r"  (\d+) (reads|programs): ([\d.]+) us in the mean, 99 % within ([\d.]+) us\n")
+
+    def program(self) -> str:
+        return compiled("suspend", C99, ["-O1", *SANE], [EXAMPLES / name for name in self.SOURCES])
+
+    def test_reads_are_answered_sooner(self) -> None:
+        for words in ("", "0.1 2000 2", "0.25 2000 3"):
+            ran = run(self.program(), *words.split())
+            self.assertEqual((ran.returncode, ran.stderr), (0, ""), words)
+            lines = self.LINES.fullmatch(ran.stdout)
+            assert lines is not None, ran.stdout
+            cells = [self.LATENCY.fullmatch(lines[at]) for at in (1, 2, 4, 5)]
+            assert all(cells), ran.stdout
+            reads, programs, reads_then, programs_then = [(cell[2], float(cell[3]), float(cell[4])) for cell in cells if cell]
+            self.assertEqual([it[0] for it in (reads, programs, reads_then, programs_then)], ["reads", "programs"] * 2)
+            self.assertGreater(int(lines[3]), 100, words)
+            self.assertLess(reads_then[1], reads[1], words)
+            self.assertLess(reads_then[2], reads[2], words)
+
+    def test_words_that_cant_be_read(self) -> None:
+        for words in ("0", "x", "0.5 0", "0.5 100001", "0.5 100 0", "0.5 100 1 1"):
+            ran = run(self.program(), *words.split())
+            self.assertEqual((ran.returncode, ran.stdout, ran.stderr.split(" ")[0]), (2, "", "suspend"), words)
+
+
 class Pool(unittest.TestCase):
     def test_random_blocks(self) -> None:
         names = [f"-D{name}=pool_{name}" for name in ("malloc", "realloc", "free")]
@@ -295,7 +338,8 @@ class Drive(unittest.TestCase):
             print("the drive in SimPy: left out, since Debian's python3-simpy3 is not installed")
             self.assertRegex(self.by_python(sys.executable, "--requests 10"), "^nothing is simulated: SimPy is not installed")
             return
-        both: List[Tuple[str, str]] = [("--requests 150", ""), ("--requests 150 --load 0.7 --array 0.4 0.7", "load 0.7 array 0.4-0.7")]
+        both: List[Tuple[str, str]] = [("--requests 150", ""), ("--requests 150 --load 0.7 --array 0.4 0.7", "load 0.7 array 0.4-0.7"),
+                                       ("--requests 150 --sectors 1 --load 0.7 --array 0.4 0.7", "workload mixed-4k load 0.7 array 0.4-0.7")]
         for words, in_c in both:
             told = self.by_python(python, f"--ends {words}")
             for channel in (0, 1):

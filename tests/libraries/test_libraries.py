@@ -2,6 +2,7 @@
 
 from __future__ import annotations
 
+import dataclasses
 import os
 import random
 import re
@@ -75,10 +76,12 @@ class Headers(unittest.TestCase):
     def test_shared_library_shows_its_calls_alone(self) -> None:
         told = run("nm", "-D", "--defined-only", str(LIBRARY / "libonfi.so")).stdout.decode().split()[2::3]
         self.assertEqual(sorted(told), [
-            "onfi_check", "onfi_check_known", "onfi_check_within", "onfi_check_within_by", "onfi_choose", "onfi_choose_by", "onfi_choose_whole", "onfi_due",
-            "onfi_due_by", "onfi_lengths_of_page", "onfi_next", "onfi_plan", "onfi_plan_early", "onfi_plan_early_by", "onfi_plan_known", "onfi_plan_rule",
-            "onfi_plan_rule_by", "onfi_plan_within", "onfi_plan_within_by", "onfi_queue_accept", "onfi_queue_begin", "onfi_queue_ran", "onfi_ran",
-            "onfi_ran_by", "onfi_row", "onfi_status_text", "onfi_text_check", "onfi_text_check_known", "onfi_text_legal", "onfi_text_plan",
+            "onfi_audit_begin", "onfi_audit_begin_by", "onfi_audit_phase", "onfi_audit_ready",
+            "onfi_breach", "onfi_breach_by", "onfi_check", "onfi_check_known", "onfi_check_within", "onfi_check_within_by", "onfi_choose", "onfi_choose_by",
+            "onfi_choose_whole", "onfi_due", "onfi_due_by", "onfi_lengths_of_page", "onfi_next", "onfi_output_of", "onfi_plan", "onfi_plan_early", "onfi_plan_early_by",
+            "onfi_plan_known", "onfi_plan_rule", "onfi_plan_rule_by",
+            "onfi_plan_within", "onfi_plan_within_by", "onfi_queue_accept", "onfi_queue_begin", "onfi_queue_ran", "onfi_ran",
+            "onfi_ran_by", "onfi_row", "onfi_status_text", "onfi_text_audit", "onfi_text_check", "onfi_text_check_known", "onfi_text_legal", "onfi_text_plan",
             "onfi_text_plan_known", "onfi_text_trace", "onfi_timing_of_page", "onfi_timing_of_strobes", "onfi_version"])
 
     def test_shared_library_is_named_by_its_major_version(self) -> None:
@@ -176,7 +179,73 @@ class Choices(unittest.TestCase):
 class Sectors(unittest.TestCase):
     def test_in_c(self) -> None:
         told = run(build(ROOT / "tests/libraries/sectors.c"))
-        self.assertEqual((told.returncode, told.stderr, told.stdout), (0, b"", b"1485 tried, 0 failed\n"))
+        self.assertEqual((told.returncode, told.stderr, told.stdout), (0, b"", b"1542 tried, 0 failed\n"))
+
+
+class Audits(unittest.TestCase):
+    def test_in_c(self) -> None:
+        told = run(build(ROOT / "tests/libraries/audits.c"))
+        self.assertEqual((told.returncode, told.stderr, told.stdout), (0, b"", b"6228 tried, 0 failed\n"))
+
+    def test_memory(self) -> None:
+        source, made = ROOT / "tests/libraries/audit_memory.c", str(Path(BUILT.name) / "audit_memory")
+        wraps = [f"-Wl,--wrap={name}" for name in ("malloc", "realloc", "free")]
+        told = run("cc", "-std=c11", *STRICT, *SANE, f"-I{ROOT / 'include'}", str(source), str(LIBRARY / "libonfi.a"), *wraps, "-o", made)
+        self.assertEqual((told.returncode, told.stderr), (0, b""))
+        told = run(made)
+        self.assertEqual((told.returncode, told.stderr, told.stdout), (0, b"", b"23 tried, 0 failed\n"))
+
+
+class Breaches(unittest.TestCase):
+    def test_each_condition_by_hand(self) -> None:
+        told = run(build(ROOT / "tests/libraries/breaches.c"))
+        self.assertEqual((told.returncode, told.stderr, told.stdout), (0, b"", b"1276 tried, 0 failed\n"))
+
+    def test_python_says_what_the_program_does(self) -> None:
+        """Plans whose starts or groups are changed by chance: one sentence, and none where the schedule is legal."""
+        draw, seen, legal = random.Random(6), set(), 0
+        for number in range(SCRIPTS):
+            script = any_script(draw)
+            channel, luns, wants = said(script)
+            plan = onfi.plan_within(channel, luns, wants)
+            schedule = changed_schedule(draw, plan.schedule)
+            text = plan_text(dataclasses.replace(plan, schedule=schedule, below=plan.finish, certificate=b""))
+            told = run(PROGRAM, "check", "--legal", given=script.encode() + text)
+            breach = onfi.find_breach(channel, luns, wants, schedule)
+            if breach is None:
+                legal += 1
+                self.assertNotIn(b"isn't legal", told.stderr, script)
+                continue
+            seen.add(breach.condition)
+            sentence = str(breach).replace("isn't there", "isn't in the script") if breach.condition == onfi.Condition.UNKNOWN_REQUEST else str(breach)
+            self.assertEqual(told.stderr.decode(), f"onfi_sim: the schedule isn't legal: {sentence}\n", (script, text))
+            with self.assertRaises(onfi.Illegal) as raised:
+                onfi.check_within(channel, luns, wants, schedule, 0, plan.certificate)
+            self.assertEqual(raised.exception.breach, breach)
+        self.assertTrue(legal)
+        self.assertTrue({onfi.Condition.OVERLAP, onfi.Condition.WAIT_TOO_SHORT, onfi.Condition.REPEATED_REQUEST, onfi.Condition.REST_COUNT} <= seen, seen)
+
+
+def changed_schedule(draw: random.Random, schedule: onfi.Schedule) -> onfi.Schedule:
+    """One start earlier or later, a start less, a member for another, two groups in one, a group less, or all as it is."""
+    rest, groups = [[*it] for it in schedule.rest], [([*it.wants], [*it.starts]) for it in schedule.groups]
+    way = draw.randrange(6)
+    times = [it for it in [*rest, *(starts for _, starts in groups)] if it]
+    if way < 2 and times:
+        starts = draw.choice(times)
+        at = draw.randrange(len(starts))
+        starts[at] = max(0, starts[at] + draw.choice((-1, 1, -100, 100, -30_000, 30_000)))
+    elif way == 2 and any(rest):
+        draw.choice([it for it in rest if it]).pop()
+    elif way == 3 and groups:
+        wants = draw.choice(groups)[0]
+        wants[draw.randrange(len(wants))] = draw.choice([want for named, _ in groups for want in named] + [99])
+    elif way == 4 and len(groups) > 1 and len(groups[0][0]) + len(groups[1][0]) <= 4:
+        one, two = groups.pop(0), groups.pop(0)
+        groups.insert(0, ([*one[0], *two[0]], [*one[1], *two[1]]))
+    elif way == 5 and groups:
+        groups.pop()
+    return onfi.Schedule(rest, [onfi.Group(wants, starts) for wants, starts in groups])
 
 
 class Nothing(unittest.TestCase):
@@ -190,7 +259,7 @@ class Nothing(unittest.TestCase):
         for compiler in (C11, CXX):
             told = run(build(ROOT / "tests/libraries/nothing.c", compiler), str(page))
             self.assertEqual((told.returncode, told.stderr), (0, b""), told.stdout.decode())
-            self.assertEqual(told.stdout, b"81 tried, 0 failed\n")
+            self.assertEqual(told.stdout, b"94 tried, 0 failed\n")
 
 
 def said(script: str) -> Tuple[onfi.Channel, List[onfi.Lun], List[onfi.Want]]:
@@ -360,6 +429,16 @@ class Same(unittest.TestCase):
             python = text_of(asked[0], "remember" in asked, case.input)
             self.assertEqual((python.text, python.status), (case.output, case.status), case.place)
         self.assertGreaterEqual(tried, 300)
+
+    def test_logs_of_the_program(self) -> None:
+        """What it says of logs after scripts, in one text each."""
+        seen = set()
+        for case in single_cases([]):
+            if case.arguments[:1] == [b"audit"] and set(case.arguments[1:]) <= {b"--all"}:
+                told = onfi.text_audit(case.input, each=b"--all" in case.arguments)
+                self.assertEqual((told.text, told.status), (case.output, case.status), case.place)
+                seen.add(told.status)
+        self.assertEqual(seen, {0, 1, 2})
 
     def test_texts_of_drawn_scripts(self) -> None:
         """Traces with requests, plans that remember states, their checks, and whether they are legal."""

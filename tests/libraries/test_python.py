@@ -7,6 +7,7 @@ import base64
 import dataclasses
 import hashlib
 import os
+import random
 import re
 import shutil
 import subprocess
@@ -16,7 +17,7 @@ import textwrap
 import unittest
 import zipfile
 from pathlib import Path
-from typing import Any, Callable, Dict, List, Type
+from typing import Any, Callable, Dict, Iterator, List, Sequence, Tuple, Type
 
 sys.path.insert(0, str(Path(__file__).resolve().parent))
 import test_libraries  # noqa: E402, F401
@@ -294,6 +295,228 @@ class Sectors(unittest.TestCase):
             self.assertTrue(all(want.kind == kinds[want.id] for lun in stand.luns for want in [*lun.members, *stand.wants]))
         self.assertEqual((stand.channel.bus_free, stand.wants), (48_180, ()))
         self.assertRaises(onfi.NothingDue, onfi.due, stand.channel, stand.luns, stand.wants, GEOMETRY, stand.schedule, lengths=LENGTHS)
+
+
+class Outputs(unittest.TestCase):
+    """The column and the count of bytes of what a phase puts out; a page has 528 bytes, four sectors of 132."""
+
+    def put_out(self, kind: int, is_post: bool = True, sector_bytes: int = 132, first: int = 0, geometry: onfi.Geometry = GEOMETRY) -> Tuple[int, int]:
+        phase = onfi.Phase(0, 1, 0, 0, 0, 0, 0, kind, 1, 1, 6, 224, 3, is_post)
+        told = onfi.output_of(geometry, sector_bytes, phase, first)
+        return told.column, told.bytes
+
+    def test_pages_and_sectors(self) -> None:
+        one, three = onfi.kind_by(onfi.Kind.READ, 1), onfi.kind_by(onfi.Kind.READ, 3)
+        self.assertEqual(self.put_out(onfi.Kind.READ), (0, 528))
+        self.assertEqual(self.put_out(onfi.Kind.READ, sector_bytes=0, first=255), (0, 528))
+        self.assertEqual([self.put_out(one, first=first) for first in range(4)], [(0, 132), (132, 132), (264, 132), (396, 132)])
+        self.assertEqual(self.put_out(three, first=1), (132, 396))
+        self.assertEqual([self.put_out(kind, is_post=False) for kind in (onfi.Kind.READ, three, onfi.Kind.PROGRAM)], [(0, 0)] * 3)
+        self.assertEqual([self.put_out(kind) for kind in (onfi.Kind.PROGRAM, onfi.Kind.ERASE)], [(0, 0)] * 2)
+
+    def test_of_a_phase_that_is_due(self) -> None:
+        schedule = onfi.plan_within(CHANNEL, LUNS, SECTORS, lengths=LENGTHS).schedule
+        phase = onfi.due(CHANNEL, LUNS, SECTORS, GEOMETRY, schedule, lengths=LENGTHS)
+        self.assertEqual(onfi.output_of(GEOMETRY, 132, phase), onfi.Output(0, 0))
+        self.assertEqual(onfi.output_of(GEOMETRY, 132, dataclasses.replace(phase, kind=SECTORS[2].kind, is_post=True), 1), onfi.Output(132, 396))
+
+    def test_refusals(self) -> None:
+        two = onfi.kind_by(onfi.Kind.READ, 2)
+        self.assertRaises(onfi.BadSectors, self.put_out, two, first=3)
+        self.assertRaises(onfi.BadSectors, self.put_out, two, is_post=False, first=3)
+        self.assertRaises(onfi.BadSectors, self.put_out, two, sector_bytes=0)
+        self.assertRaises(onfi.BadKind, self.put_out, 3, geometry=dataclasses.replace(GEOMETRY, lun_count=9))
+        self.assertRaises(onfi.BadGeometry, self.put_out, two, sector_bytes=0, geometry=dataclasses.replace(GEOMETRY, lun_count=9))
+        self.assertRaises(ValueError, self.put_out, 256)
+        self.assertRaises(ValueError, self.put_out, two, sector_bytes=65_536)
+        self.assertRaises(ValueError, self.put_out, two, first=256)
+        self.assertRaises(ValueError, self.put_out, two, first=-1)
+
+
+class Breaches(unittest.TestCase):
+    """The condition that a schedule breaks."""
+
+    GROUPS = [onfi.Group([9], [500, 25_740]), onfi.Group([3, 5], [640, 1_380, 36_740, 47_740])]
+    LEGAL = onfi.Schedule([(), ()], GROUPS)
+
+    def test_a_legal_schedule_breaks_none(self) -> None:
+        self.assertIsNone(onfi.find_breach(CHANNEL, LUNS, WANTS, self.LEGAL))
+        self.assertIsNone(onfi.find_breach(CHANNEL, LUNS, WANTS, self.LEGAL, lengths=onfi.Lengths({})))
+
+    def test_who_and_when(self) -> None:
+        late = onfi.Schedule([(), ()], [onfi.Group([9], [500, 25_739]), self.GROUPS[1]])
+        breach = onfi.find_breach(CHANNEL, LUNS, WANTS, late)
+        output, command = onfi.NamedPhase(onfi.Part.DATA_OUTPUT, want=9), onfi.NamedPhase(onfi.Part.COMMAND, want=9)
+        self.assertEqual(breach, onfi.Breach(onfi.Condition.WAIT_TOO_SHORT, phase=output, other=command, lun=1, start=25_739, earliest=25_740))
+        self.assertEqual(str(breach), "the data output of request 9 starts at 25739 ns; behind the command of request 9 its LUN 1 is ready from 25740 ns")
+        self.assertIsNone(breach and breach.held)
+        soon = onfi.Schedule([(), ()], [onfi.Group([9], [499, 25_740]), self.GROUPS[1]])
+        self.assertEqual(onfi.find_breach(CHANNEL, LUNS, WANTS, soon),
+                         onfi.Breach(onfi.Condition.LUN_NOT_FREE, phase=command, lun=1, start=499, earliest=500))
+
+    def test_of_groups(self) -> None:
+        mixed = [WANTS[0], dataclasses.replace(WANTS[1], page=6), WANTS[2]]
+        breach = onfi.find_breach(CHANNEL, LUNS, mixed, self.LEGAL)
+        self.assertEqual(breach, onfi.Breach(onfi.Condition.MIXED_GROUP, want=5, other_want=3, difference=onfi.Difference.PAGE))
+        self.assertEqual(str(breach), "request 5 can't be grouped with request 3: their pages differ")
+        running = [onfi.Lun(), onfi.Lun(0, [onfi.Want(0, onfi.Kind.ERASE, 1, 7)], 1)]
+        breach = onfi.find_breach(CHANNEL, running, WANTS, self.LEGAL)
+        self.assertEqual(str(breach), "the number of starts for LUN 1's running group is 0 in place of 1")
+        early = onfi.Schedule([(), (550,)], self.GROUPS)
+        breach = onfi.find_breach(CHANNEL, running, WANTS, early)
+        status, command = onfi.NamedPhase(onfi.Part.STATUS, lun=1, block=7), onfi.NamedPhase(onfi.Part.COMMAND, want=9)
+        self.assertEqual(breach, onfi.Breach(onfi.Condition.OVERLAP, phase=status, other=command, start=550, held=500, earliest=640))
+
+    def test_checks_raise_it(self) -> None:
+        plan, known, within = onfi.plan(CHANNEL, LUNS, WANTS), onfi.plan_known(CHANNEL, LUNS, WANTS), onfi.plan_within(CHANNEL, LUNS, WANTS)
+        short = onfi.Schedule([(), ()], self.GROUPS[:1])
+        wanted = onfi.Breach(onfi.Condition.MISSING_REQUEST, want=3)
+        calls: List[Callable[[], int]] = [
+            lambda: onfi.check(CHANNEL, LUNS, WANTS, short, plan.certificate),
+            lambda: onfi.check_known(CHANNEL, LUNS, WANTS, short, known.certificate),
+            lambda: onfi.check_within(CHANNEL, LUNS, WANTS, short, 0, within.certificate),
+            lambda: onfi.check_within(CHANNEL, LUNS, WANTS, short, 0, within.certificate, lengths=onfi.Lengths({}))]
+        for call in calls:
+            with self.assertRaises(onfi.Illegal) as told:
+                call()
+            self.assertEqual(told.exception.breach, wanted)
+            self.assertEqual(str(told.exception), "the schedule isn't legal: request 3 isn't in the schedule")
+        with self.assertRaises(onfi.BadHeader) as other:
+            onfi.check(CHANNEL, LUNS, WANTS, short, known.certificate)
+        self.assertIsNone(other.exception.breach)
+
+    def test_refusals(self) -> None:
+        self.assertRaises(onfi.TooMany, onfi.find_breach, CHANNEL, [], WANTS, self.LEGAL)
+        self.assertRaises(onfi.BadKind, onfi.find_breach, CHANNEL, LUNS, SECTORS, self.LEGAL)
+        self.assertRaises(onfi.NoLengths, onfi.find_breach, CHANNEL, LUNS, SECTORS, self.LEGAL, lengths=onfi.Lengths({}))
+        self.assertRaises(onfi.BadSchedule, onfi.find_breach, CHANNEL, LUNS, WANTS, onfi.Schedule([(), ()], [onfi.Group([], [])]))
+        self.assertRaises(ValueError, onfi.find_breach, CHANNEL, LUNS, WANTS, onfi.Schedule([(), ()], [onfi.Group([9], [500])]))
+
+    def test_each_sentence_tells_what_a_breach_has(self) -> None:
+        from onfi.breach import SENTENCES, told_by
+
+        names = {it.name for it in dataclasses.fields(onfi.Breach)} - {"condition"}
+        self.assertEqual([*SENTENCES], [*onfi.Condition])
+        self.assertEqual(set().union(*map(told_by, SENTENCES)), names)
+
+
+class Logs(unittest.TestCase):
+    """Logs of phases: a read's command takes 10 ns, its array 100, its output 20, a gap 5."""
+
+    CHANNEL = onfi.Channel(onfi.Timing(onfi.Spans(10, 5, 100, 20), onfi.Spans(40, 5, 200, 2), onfi.Spans(10, 5, 1000, 2)), onfi.Rules(True, True, plane_bits=1))
+    TWO = [onfi.Lun(), onfi.Lun()]
+
+    def read(self, start: int, is_post: bool, block: int = 0, lun: int = 0) -> onfi.Logged:
+        return onfi.Logged(start, lun, onfi.Kind.READ, is_post, block, 0)
+
+    def broken(self, *phases: onfi.Logged, luns: Sequence[onfi.Lun] = TWO, wants: Sequence[onfi.Want] = ()) -> List[onfi.LogBreach]:
+        told = list(onfi.audit(self.CHANNEL, luns, phases, wants))
+        if not wants:
+            self.assertEqual(list(onfi.audit_phases(self.CHANNEL, luns, phases)), told)
+        return told
+
+    def test_a_legal_log(self) -> None:
+        group = [self.read(0, False), self.read(15, False, 1), self.read(125, True), self.read(145, True, 1)]
+        self.assertEqual(self.broken(*group), [])
+        self.assertEqual(self.broken(), [])
+        many = [phase for at in range(1000) for phase in (self.read(130 * at, False), self.read(130 * at + 110, True))]
+        self.assertEqual(self.broken(*many), [])
+
+    def test_phases_of_a_plan(self) -> None:
+        stand, phases = onfi.Stand(CHANNEL, LUNS, WANTS, onfi.plan(CHANNEL, LUNS, WANTS).schedule), []
+        for _ in range(6):
+            phase = onfi.due(stand.channel, stand.luns, stand.wants, GEOMETRY, stand.schedule)
+            phases.append(phase)
+            stand = onfi.ran(stand.channel, stand.luns, stand.wants, stand.schedule, phase.lun, phase.number, phase.start)
+        self.assertEqual(list(onfi.audit(CHANNEL, LUNS, phases, WANTS)), [])
+        phases[-1] = dataclasses.replace(phases[-1], start=phases[-1].start - 1)
+        self.assertEqual([breach.at for breach in onfi.audit(CHANNEL, LUNS, phases, WANTS)], [5])
+
+    def test_each_breach_is_told(self) -> None:
+        condition = onfi.LogCondition
+        self.assertEqual(self.broken(self.read(0, False), self.read(109, True)), [onfi.LogBreach(1, condition.NOT_READY, lun=0, start=109, earliest=110)])
+        self.assertEqual(self.broken(self.read(0, False), self.read(9, False, 0, 1)), [onfi.LogBreach(1, condition.BUS_NOT_FREE, start=9, earliest=10)])
+        self.assertEqual(self.broken(self.read(4, False), luns=[onfi.Lun(5)]), [onfi.LogBreach(0, condition.LUN_NOT_FREE, lun=0, start=4, earliest=5)])
+        self.assertEqual(self.broken(self.read(0, False, 0, 2)), [onfi.LogBreach(0, condition.NO_LUN, lun=2)])
+        self.assertEqual(self.broken(self.read(0, True)), [onfi.LogBreach(0, condition.NOTHING_RUNS, lun=0)])
+        other = onfi.LogBreach(1, condition.OTHER_PHASE, lun=0, is_post=True, block=0, page=0)
+        self.assertEqual(self.broken(self.read(0, False), self.read(110, True, 1)), [other])
+        self.assertEqual(self.broken(self.read(0, False), self.read(15, False, 2)), [onfi.LogBreach(1, condition.NOT_GROUPED, lun=0)])
+        wants = [onfi.Want(0, onfi.Kind.PROGRAM, 0, 0), onfi.Want(1, onfi.Kind.READ, 0, 0)]
+        self.assertEqual(self.broken(self.read(0, False), wants=wants), [onfi.LogBreach(0, condition.BLOCK_ORDER, earlier=0, later=1)])
+        self.assertEqual(self.broken(self.read(0, False, 1), wants=wants), [onfi.LogBreach(0, condition.UNKNOWN_REQUEST, lun=0, block=1)])
+
+    def test_what_ran_before(self) -> None:
+        running = [onfi.Lun(), onfi.Lun(50, [onfi.Want(7, onfi.Kind.ERASE, 1, 3)], 1)]
+        status = onfi.Logged(49, 1, onfi.Kind.ERASE, True, 3, 0)
+        self.assertEqual(self.broken(status, luns=running), [onfi.LogBreach(0, onfi.LogCondition.NOT_READY, lun=1, start=49, earliest=50)])
+        self.assertEqual(self.broken(dataclasses.replace(status, start=50), luns=running), [])
+
+    def test_refusals(self) -> None:
+        self.assertRaises(onfi.BadLun, self.broken, wants=[onfi.Want(0, onfi.Kind.READ, 2, 0)])
+        self.assertRaises(onfi.BadLun, self.broken, luns=[onfi.Lun(0, [onfi.Want(0, onfi.Kind.READ, 0, 0), onfi.Want(0, onfi.Kind.ERASE, 0, 1)], 1)])
+        self.assertRaises(onfi.BadKind, self.broken, onfi.Logged(0, 0, 35, False, 0, 0))
+        self.assertRaises(ValueError, self.broken, self.read(1 << 62, False))
+        self.assertRaises(ValueError, self.broken, self.read(0, False, 65_536))
+        self.assertRaises(ValueError, self.broken, luns=[onfi.Lun(-1)])
+
+    def test_phases_judged_as_they_come(self) -> None:
+        """Whoever looks on learns of a breach before the phase behind it."""
+        taken: List[int] = []
+
+        def bus() -> Iterator[onfi.Logged]:
+            for at, phase in enumerate([self.read(0, False), self.read(109, True), self.read(130, False, 1), self.read(239, True, 1)]):
+                taken.append(at)
+                yield phase
+
+        told = onfi.audit_phases(self.CHANNEL, self.TWO, bus())
+        self.assertEqual(taken, [])
+        self.assertEqual((next(told), taken), (onfi.LogBreach(1, onfi.LogCondition.NOT_READY, lun=0, start=109, earliest=110), [0, 1]))
+        self.assertEqual((next(told), taken), (onfi.LogBreach(3, onfi.LogCondition.NOT_READY, lun=0, start=239, earliest=240), [0, 1, 2, 3]))
+        self.assertEqual(list(told), [])
+
+    def test_phases_of_chance(self) -> None:
+        """Phase by phase the same is told as of the whole log: of 300 logs whose phases are legal by chance alone."""
+        draw, seen = random.Random(11), set()
+        for _ in range(300):
+            luns = [onfi.Lun(draw.choice([0, 40])) for _ in range(2)]
+            phases, start = [], 0
+            for _ in range(12):
+                kind, is_post = draw.choice(list(onfi.Kind)), draw.random() < 0.5
+                page = 0 if kind == onfi.Kind.ERASE else draw.randrange(2)
+                phases.append(onfi.Logged(start, draw.choice([0, 0, 0, 1, 1, 1, 2]), kind, is_post, draw.randrange(2), page))
+                start += draw.choice([5, 10, 20, 110, 130, 250, 1100])
+            told = list(onfi.audit(self.CHANNEL, luns, phases))
+            self.assertEqual(list(onfi.audit_phases(self.CHANNEL, luns, phases)), told)
+            seen |= {breach.condition for breach in told}
+        self.assertEqual(seen, {*onfi.LogCondition} - {onfi.LogCondition.UNKNOWN_REQUEST, onfi.LogCondition.BLOCK_ORDER})
+
+    def test_a_lun_that_was_ready_sooner(self) -> None:
+        log = onfi.Audit(self.CHANNEL, self.TWO)
+        self.assertIsNone(log.judge(self.read(0, False)))
+        log.ready(0, 60)
+        self.assertEqual(log.judge(self.read(59, True)), onfi.LogBreach(1, onfi.LogCondition.NOT_READY, lun=0, start=59, earliest=60))
+        self.assertEqual(log.bus_free, 79)
+        self.assertRaises(onfi.BadLun, log.ready, 2, 0)
+        self.assertRaises(ValueError, log.ready, 0, -1)
+
+    def test_phases_of_sectors(self) -> None:
+        log = onfi.Audit(self.CHANNEL, self.TWO, lengths=onfi.Lengths({3: 7}))
+        three = dataclasses.replace(self.read(0, False), kind=onfi.kind_by(onfi.Kind.READ, 3))
+        self.assertIsNone(log.judge(three))
+        self.assertIsNone(log.judge(self.read(110, True)))
+        self.assertEqual(log.bus_free, 117)
+        self.assertRaises(onfi.NoLengths, log.judge, dataclasses.replace(three, start=200, kind=onfi.kind_by(onfi.Kind.READ, 2)))
+        self.assertEqual(log.judge(self.read(150, False, lun=2)), onfi.LogBreach(2, onfi.LogCondition.NO_LUN, lun=2))
+
+    def test_phases_refused(self) -> None:
+        log = onfi.Audit(self.CHANNEL, self.TWO)
+        self.assertRaises(onfi.Clock, log.judge, self.read(1 << 62, False))
+        self.assertRaises(ValueError, log.judge, self.read(1 << 64, False))
+        self.assertRaises(onfi.BadKind, log.judge, onfi.Logged(0, 0, 3, False, 0, 0))
+        self.assertRaises(onfi.BadLun, log.judge, onfi.Logged(0, 0, onfi.Kind.ERASE, False, 0, 1))
+        self.assertRaises(onfi.TooMany, onfi.Audit, self.CHANNEL, [])
+        self.assertRaises(onfi.BadPlaneBits, onfi.audit_phases, changed(self.CHANNEL, plane_bits=3), self.TWO, [])
 
 
 class Packages(unittest.TestCase):

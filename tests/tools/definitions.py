@@ -1,7 +1,5 @@
 """The definitions of crates/*/specs and the contracts of crates/*/src, as far as the tests of pages look at them."""
 
-from __future__ import annotations
-
 import re
 from functools import lru_cache
 from typing import Dict, Iterator, List, NamedTuple, Set, Tuple

@@ -1,19 +1,19 @@
 """What the tests of the tools share: where things stand, stored traces, and runs of the tools."""
 
-from __future__ import annotations
-
 import os
 import re
 import shlex
 import subprocess
 import sys
+import tempfile
+import unittest
 from pathlib import Path
 from typing import Dict, Iterator, List, Optional
 
 ROOT = Path(__file__).resolve().parent.parent.parent
 sys.path.insert(0, str(ROOT / "tools"))
-sys.dont_write_bytecode = True
 
+from onfi_tools.kit import KIT  # noqa: E402
 from onfi_tools.loading import load_tool  # noqa: E402
 from onfi_tools.script import lengths_of  # noqa: E402
 from onfi_tools.trace import Phase, read_trace  # noqa: E402
@@ -77,8 +77,27 @@ def run_shell(command: str) -> str:
     return subprocess.run(line, shell=True, capture_output=True, text=True, cwd=ROOT).stdout
 
 
+def library(room: Path) -> Optional[Path]:
+    """The folder of a built library: the environment's ONFI_LIBRARIES, lib, or made of the crate's archive; else None."""
+    for folder in (os.environ.get("ONFI_LIBRARIES", ""), str(ROOT / "lib")):
+        if (Path(folder) / "libonfi.a").is_file():
+            return Path(folder)
+    archive = ROOT / "crates/onfi_c/out/libonfi_c.a"
+    if not archive.is_file() or not (KIT / "c/liblibc_c.a").is_file():
+        return None
+    made = subprocess.run([str(ROOT / "tools/make-library"), "archive", str(archive), str(KIT / "c/liblibc_c.a"), str(room)])
+    return None if made.returncode else room
+
+
 def make(*words: str) -> "subprocess.CompletedProcess[str]":
     return subprocess.run(["make", "--no-print-directory", *words], cwd=ROOT, env=plain_environment(), capture_output=True, text=True)
+
+
+def room_of(test: unittest.TestCase, prefix: str = "onfi-") -> Path:
+    """A folder for a test."""
+    room = tempfile.TemporaryDirectory(prefix=prefix)
+    test.addCleanup(room.cleanup)
+    return Path(room.name)
 
 
 def executable(folder: str, text: str) -> str:
@@ -89,9 +108,9 @@ def executable(folder: str, text: str) -> str:
     return str(program)
 
 
-def compiled(folder: str, text: str, *options: str) -> str:
+def compiled(folder: str, text: str, *options: str, name: str = "program") -> str:
     """A program of that text in C."""
-    source, made = Path(folder) / "program.c", str(Path(folder) / "program")
+    source, made = Path(folder) / "program.c", str(Path(folder) / name)
     source.write_text(text)
     subprocess.run(["cc", *options, "-o", made, str(source)], check=True)
     return made

@@ -1,7 +1,5 @@
 """The page of calls: that it is as the tool makes it, and that it has each name that a crate exports."""
 
-from __future__ import annotations
-
 import re
 import unittest
 from typing import Dict
@@ -43,7 +41,7 @@ class Page(unittest.TestCase):
 
     def test_worked_rows(self) -> None:
         self.assertRegex(sections()["onfi_addr"], r"\[`Place`\]\(../crates/onfi_addr/src/place.rt\)\n")
-        self.assertRegex(sections()["onfi_chip"], r"- \[`Chip`\]\(.*\): `command`, `data_out`, `status`, `poll`")
+        self.assertRegex(sections()["onfi_chip"], r"- \[`Chip`\]\(.*\): `command`, `data_out`, `sectors_out`, `status`, `poll`")
         self.assertRegex(sections()["onfi_core"], r"- \[`Core`\]\(.*\): `open`, `last`, `open_with`, `step`, `run`")
         self.assertRegex(sections()["onfi_core"], r"Laws: .*`headline`")
         self.assertIn("[`plan`](../crates/onfi_planner/src/", sections()["onfi_planner"])
@@ -62,7 +60,3 @@ class Below(unittest.TestCase):
         names = lines_below(CRATES, "onfi_program")
         for name in names:
             self.assertTrue(all(it in names for it in crates_below(CRATES)[name] if it.startswith("onfi_")), name)
-
-
-if __name__ == "__main__":
-    unittest.main()

@@ -1,7 +1,5 @@
 """Which functions may be proved otherwise where a crate's files change: each change in turn, of a small crate."""
 
-from __future__ import annotations
-
 import unittest
 from typing import Dict, List
 
@@ -193,7 +191,3 @@ class WhatChangesSome(unittest.TestCase):
 
     def test_a_word_for_the_whole_crate_changes_all(self) -> None:
         self.assertEqual(due_behind("src/lib.rt", "#![tactic(auto)]", "#![tactic(auto, using(half_is))]"), ALL)
-
-
-if __name__ == "__main__":
-    unittest.main()

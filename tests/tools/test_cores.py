@@ -1,7 +1,5 @@
 """A core plays random events as a plain machine does that keeps places, serials, answers and times by itself."""
 
-from __future__ import annotations
-
 import random
 import re
 import subprocess
@@ -12,10 +10,26 @@ import support
 
 TRIALS = support.ROOT / "crates/onfi_trials/out/onfi_trials"
 HOSTS, LUNS, BLOCKS, BATCH, ROOM, WINDOW = 3, 2, 4, 3, 4, 64
-# Of each kind how long its command and its post take, in ns.
-SPANS = {"read": (140, 11_000), "program": (10_800, 280), "erase": (100, 280)}
+SECTORS, SECTOR_BYTES = 4, 132
+# Of each kind how long its command and its post take, in ns; of the post of a read of sectors what comes before the first.
+SPANS = {"read": (140, 11_000), "sectors": (140, 440), "program": (10_800, 280), "erase": (100, 280)}
+SECTOR_TIME = 2_640
 OF_PLAN = re.compile(r"(finish|rest|group|member) |(Bus|Lead|Trail|End|Die|Branch|Yield)\b")
-Act = Tuple[str, int, int, int]
+
+
+class Act(NamedTuple):
+    """What is done; `first` and `sectors` are those of a read of some, else 0."""
+
+    word: str
+    host: int
+    lun: int
+    block: int
+    first: int
+    sectors: int
+
+    def said(self) -> str:
+        """The kind of its request, as it is printed."""
+        return f"ReadSectors {{ first: {self.first}, count: {self.sectors} }}" if self.word == "sectors" else self.word.capitalize()
 
 
 class Job(NamedTuple):
@@ -24,6 +38,7 @@ class Job(NamedTuple):
     kind: str
     lun: int
     block: int
+    sectors: int
 
 
 class Left(NamedTuple):
@@ -39,9 +54,10 @@ def numbers_in(line: str) -> List[int]:
 
 
 class Plain:
-    """One channel whose chip never fails. Which optimal plan is taken it is given; all else it keeps itself."""
+    """One channel whose chip never fails, and has sectors or none. Which optimal plan is taken it is given; all else it keeps itself."""
 
-    def __init__(self) -> None:
+    def __init__(self, sectors: int) -> None:
+        self.sectors = sectors
         self.sent = [0] * HOSTS
         self.waiting: List[Job] = []
         self.accepted: List[Job] = []
@@ -56,15 +72,17 @@ class Plain:
         self.written = [[False] * BLOCKS for _ in range(LUNS)]
 
     def submit(self, act: Act) -> str:
-        kind, host, lun, block = act
-        comes_back = f", and back comes a request of {kind.capitalize()}"
+        kind, host, lun, block, first, count = act
+        comes_back = f", and back comes a request of {act.said()}"
         if host >= HOSTS:
             return "no such host" + comes_back
         if lun >= LUNS:
             return "Lun" + comes_back
+        if kind == "sectors" and not (1 <= count and first + count <= self.sectors):
+            return "Sectors" + comes_back
         if len(self.waiting) >= ROOM:
             return "full" + comes_back
-        self.waiting.append(Job(host, self.sent[host], kind, lun, block))
+        self.waiting.append(Job(host, self.sent[host], kind, lun, block, count))
         self.sent[host] += 1
         return f"Submitted {{ serial: {self.sent[host] - 1} }}"
 
@@ -101,7 +119,8 @@ class Plain:
 
     def length(self, left: Left) -> int:
         places = self.groups[left.group]
-        return SPANS[self.accepted[places[0]].kind][left.phase >= len(places)]
+        job, is_post = self.accepted[places[left.phase % len(places)]], left.phase >= len(places)
+        return SPANS[job.kind][is_post] + is_post * job.sectors * SECTOR_TIME
 
     def bus(self) -> str:
         if not self.left:
@@ -125,8 +144,9 @@ class Plain:
         """The item at the place happens on its block, and its answer is fixed."""
         job = self.accepted[place]
         before = self.written[job.lun][job.block]
-        self.written[job.lun][job.block] = {"read": before, "program": True, "erase": False}[job.kind]
-        told = f"528 bytes of Some({165 if before else 255})" if job.kind == "read" else "done"
+        self.written[job.lun][job.block] = {"program": True, "erase": False}.get(job.kind, before)
+        size = (job.sectors or SECTORS) * SECTOR_BYTES
+        told = f"{size} bytes of Some({165 if before else 255})" if job.kind in ("read", "sectors") else "done"
         self.answers[place] = "failed" if job.kind == "program" and before else told
 
     def post(self, host: int) -> str:
@@ -149,7 +169,7 @@ class Plain:
         return f"reply {place} {self.accepted[place].serial} {self.answers[place]}"
 
     def step(self, act: Act, told: List[str]) -> str:
-        word, host = act[:2]
+        word, host = act.word, act.host
         if word in SPANS:
             return self.submit(act)
         if word in ("post", "collect"):
@@ -158,17 +178,20 @@ class Plain:
 
 
 def drawn(seed: int, count: int) -> Iterator[Act]:
-    """There is no fourth host and no third LUN."""
+    """There is no fourth host and no third LUN, and a page has neither a fifth sector nor a read of none."""
     source = random.Random(seed)
     for _ in range(count):
         word = source.choices(["submit", "accept", "plan", "bus", "post", "collect"], [7, 5, 3, 8, 5, 4])[0]
-        kind = source.choice(list(SPANS))
+        kind = source.choice(list(SPANS)) if word == "submit" else word
         lun = 2 if source.randrange(16) == 15 else source.randrange(LUNS)
-        yield kind if word == "submit" else word, source.randrange(HOSTS + 1), lun, source.randrange(BLOCKS)
+        first, count = (source.randrange(4), source.randrange(5)) if kind == "sectors" else (0, 0)
+        yield Act(kind, source.randrange(HOSTS + 1), lun, source.randrange(BLOCKS), first, count)
 
 
 def row_of(act: Act) -> str:
-    word, host, lun, block = act
+    word, host, lun, block, first, count = act
+    if word == "sectors":
+        return f"sectors,{lun},{block},0,{first},{host},0,{count}\n"
     if word in SPANS:
         return f"{word},{lun},{block},0,165,{host}\n"
     return f"{word},{host}\n" if word in ("post", "collect") else "plan\nlast\n" if word == "plan" else f"{word}\n"
@@ -177,12 +200,13 @@ def row_of(act: Act) -> str:
 class Cores(unittest.TestCase):
     @unittest.skipUnless(TRIALS.is_file(), "onfi_trials isn't built")
     def test_random_events_are_those_of_a_plain_machine(self) -> None:
-        posts, several = 0, 0
+        posts, several, sectors = 0, 0, 0
         for seed in range(10):
             acts = list(drawn(seed, 1_000))
-            rows = f"open,1,{HOSTS},{BATCH},{ROOM},{ROOM},100000\n" + "".join(map(row_of, acts))
+            has_sectors = seed % 2 == 0
+            rows = "sectored\n" * has_sectors + f"open,1,{HOSTS},{BATCH},{ROOM},{ROOM},100000\n" + "".join(map(row_of, acts))
             lines = subprocess.run([TRIALS, "core"], input=rows, stdout=subprocess.PIPE, text=True, check=True).stdout.splitlines()
-            plain = Plain()
+            plain = Plain(SECTORS * has_sectors)
             for number, act in enumerate(acts):
                 line = lines.pop(0)
                 told: List[str] = []
@@ -191,9 +215,7 @@ class Cores(unittest.TestCase):
                 self.assertEqual(line, plain.step(act, told), f"seed {seed}, event {number}: {act}")
             posts += plain.posts
             several += sum(len(places) > 1 for places in plain.groups)
+            sectors += sum(job.kind == "sectors" for job in plain.accepted)
         self.assertGreater(posts, 500)
         self.assertGreater(several, 100)
-
-
-if __name__ == "__main__":
-    unittest.main()
+        self.assertGreater(sectors, 50)

@@ -1,7 +1,5 @@
 """tools/coverage, on a program of which is known what its cases run."""
 
-from __future__ import annotations
-
 import shutil
 import tempfile
 import unittest
@@ -115,7 +113,3 @@ class Programs(unittest.TestCase):
         self.assertIn("has no function of this repository", ran.stderr)
         ran = support.run_tool("coverage", "/no/such")
         self.assertEqual((ran.returncode, ran.stdout), (1, ""))
-
-
-if __name__ == "__main__":
-    unittest.main()

@@ -1,7 +1,5 @@
 """The picture of the crates: what the tool draws, held against crates.txt."""
 
-from __future__ import annotations
-
 import itertools
 import re
 import tempfile
@@ -52,6 +50,15 @@ def lines_of(root: ET.Element) -> Dict[Tuple[str, str], List[Tuple[float, float]
         points = [point.split(",") for point in line.attrib["points"].split()]
         found[title[1], title[2]] = [(float(x), float(y)) for x, y in points]
     return found
+
+
+class Lines(unittest.TestCase):
+    def test_a_crate_stands_on_what_its_files_name(self) -> None:
+        # (the kit makes its sums of a crate by each way down from it, so a name that isn't needed costs minutes of every gate)
+        for name, others in below_of(CRATES).items():
+            files = [it for part in ("src", "specs", "proofs") for it in (support.ROOT / "crates" / name / part).rglob("*.[ra][tn]*")]
+            named = set(re.findall(r"\bonfi_\w+", "\n".join(re.sub(r"//.*", "", it.read_text()) for it in files)))
+            self.assertLessEqual(others, named, name)
 
 
 class Picture(unittest.TestCase):
@@ -130,7 +137,3 @@ class Files(unittest.TestCase):
         ran = support.run_tool("draw-crates", "/no/such")
         self.assertEqual((ran.returncode, ran.stdout), (1, ""))
         self.assertIn("/no/such", ran.stderr)
-
-
-if __name__ == "__main__":
-    unittest.main()

@@ -1,7 +1,5 @@
 """Parameter pages from named fields, phase lengths, and the examples of devices."""
 
-from __future__ import annotations
-
 import re
 import subprocess
 import tempfile
@@ -142,7 +140,3 @@ class Examples(unittest.TestCase):
         """No prompt stands before a command, so that a block does in a shell what it shows."""
         for page in (support.ROOT / "README.md", *sorted((support.ROOT / "docs").glob("**/*.md")), *sorted(EXAMPLES.glob("*/README.md"))):
             self.assertNotRegex(page.read_text(), re.compile(r"^ *\$ ", re.MULTILINE), str(page))
-
-
-if __name__ == "__main__":
-    unittest.main()

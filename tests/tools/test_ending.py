@@ -1,7 +1,5 @@
 """How tools end where nobody reads what they print any more, and where it can't be written."""
 
-from __future__ import annotations
-
 import os
 import subprocess
 import sys
@@ -78,7 +76,3 @@ class Unwritten(unittest.TestCase):
         ran = support.run_tool("make-page", "luns=x")
         self.assertEqual((ran.returncode, ran.stderr), (1, "make-page: luns=x: not a number\n"))
         self.assertEqual(support.run_tool("make-page").returncode, 2)
-
-
-if __name__ == "__main__":
-    unittest.main()

@@ -1,7 +1,5 @@
 """tools/fuzz, on programs that answer rightly and wrongly."""
 
-from __future__ import annotations
-
 import sys
 import tempfile
 import unittest
@@ -106,7 +104,3 @@ class Fuzz(unittest.TestCase):
                 self.assertEqual(status, 1)
                 self.assertIn(told, said)
                 self.assertNotIn(" 0 failed", said.splitlines()[-1])
-
-
-if __name__ == "__main__":
-    unittest.main()

@@ -1,7 +1,5 @@
 """The built program on inputs that break off at each byte, and on more open nodes than may be remembered."""
 
-from __future__ import annotations
-
 import os
 import re
 import subprocess
@@ -101,7 +99,3 @@ class Remembered(unittest.TestCase):
             ran = support.run_program("check", "--remember", given=given)
             self.assertEqual((ran.stdout, ran.returncode), (told, 2))
             self.assertIn("doesn't prove it optimal: ", ran.stderr)
-
-
-if __name__ == "__main__":
-    unittest.main()

@@ -1,13 +1,9 @@
 """Where no Rattle kit is in PATH, make and the tools that call it say so in a line; and what else make refuses before it builds."""
 
-from __future__ import annotations
-
 import shutil
 import subprocess
 import sys
-import tempfile
 import unittest
-from pathlib import Path
 
 import support
 from onfi_tools.kit import NONE
@@ -23,9 +19,7 @@ class WithoutKit(unittest.TestCase):
     """In a copy of which nothing is built, with a PATH of a few commands."""
 
     def setUp(self) -> None:
-        room = tempfile.TemporaryDirectory()
-        self.addCleanup(room.cleanup)
-        self.path, self.top = Path(room.name) / "path", Path(room.name) / "top"
+        self.path, self.top = (support.room_of(self) / name for name in ("path", "top"))
         self.path.mkdir()
         for name in COMMANDS:
             (self.path / name).symlink_to(str(shutil.which(name)))
@@ -77,7 +71,3 @@ class WithoutKit(unittest.TestCase):
                 self.assertEqual((told.returncode, told.stdout, told.stderr.count("\n")), (2, "", 1))
                 self.assertIn(f"PREFIX {word}", told.stderr)
         self.assertFalse((self.top / "to").exists())
-
-
-if __name__ == "__main__":
-    unittest.main()

@@ -1,7 +1,5 @@
 """What the program says on standard error, and that its answers stand without it: words, help, version, files, quiet."""
 
-from __future__ import annotations
-
 import os
 import re
 import subprocess
@@ -17,7 +15,7 @@ Word = Union[str, bytes]
 EXAMPLES = support.ROOT / "examples"
 BATCH = EXAMPLES / "batch.onfi"
 RUN = EXAMPLES / "two-hosts.onfi"
-COMMANDS = ("plan", "check", "run", "device")
+COMMANDS = ("plan", "check", "audit", "run", "device")
 REFUSED_WORDS, FAILED_STREAM = 5, 7
 SECONDS = 20
 # The program reads at most so many bytes at a time.
@@ -54,9 +52,11 @@ class WrongWords(unittest.TestCase):
         ("plan --trase", ["'--trase'", "tip:", "'--trace'"]), ("plan --request", ["'--request'", "tip:", "'--requests'"]),
         ("plan --worker 2", ["'--worker'", "tip:", "'--workers'"]), ("check --remeber", ["'--remeber'", "tip:", "'--remember'"]),
         ("check --legl", ["'--legl'", "tip:", "'--legal'"]), ("run --limt 2", ["'--limt'", "tip:", "'--limit'"]),
-        ("--limit 7 plan", ["'--limit'", "'plan --limit'"]), ("", ["'plan', 'check', 'run' or 'device'", "--help"]),
+        ("--limit 7 plan", ["'--limit'", "'plan --limit'"]), ("", ["'plan', 'check', 'audit', 'run' or 'device'", "--help"]),
         *((f"{command} --limit={value}", ["'--limit'", "1 to 1048576"]) for command in ("plan", "run")
           for value in ("0", "1048577", "x", "", "+7", "99999999999999999999")),
+        ("audit --optimum --limit 0", ["'--limit'", "1 to 1048576"]), ("audit --limit 7", ["'--limit'", "'--optimum'"]),
+        ("audit --csv", ["'--csv'", "'--optimum'"]), ("audit --optimum --ready-by-status", ["'--ready-by-status'", "'--optimum'"]),
         *((f"plan --workers {value}", ["'--workers'", "1 to 8"]) for value in ("0", "9", "two")),
         ("plan --limit", ["a value is required", "--limit <N>"]),
         ("plan --workers 2 --remember", ["'--workers'", "'--remember'"]), ("check --legal --remember", ["'--legal'", "'--remember'"]),
@@ -95,6 +95,7 @@ class Help(unittest.TestCase):
     OPTIONS = {"plan": ["--limit <N>", "--trace", "--requests", "--workers <N>", "--remember", "--within", "--rule", "--early", "--slack <N>",
                         "-q, --quiet", "[FILE]"],
                "check": ["--remember", "--within", "--legal", "-q, --quiet", "[FILE]", "[PLAN]"],
+               "audit": ["--all", "--ready-by-status", "--optimum", "--limit <N>", "--csv", "-q, --quiet", "[FILE]", "[LOG]"],
                "run": ["--limit <N>", "--plain", "--within", "--slack <N>", "--rule", "--clock <CLOCK>", "-q, --quiet", "[FILE]"],
                "device": ["-q, --quiet", "[FILE]"]}
 
@@ -155,9 +156,7 @@ class Files(unittest.TestCase):
     """A script and a plan text may stand in files; the answer is that of the same bytes on standard input."""
 
     def setUp(self) -> None:
-        room = tempfile.TemporaryDirectory()
-        self.addCleanup(room.cleanup)
-        self.room = Path(room.name)
+        self.room = support.room_of(self)
         self.script = BATCH.read_bytes()
         self.plan = ran("plan", given=self.script).output.encode()
 
@@ -249,14 +248,15 @@ class Files(unittest.TestCase):
         self.assertIsNone(UNSAFE.search(found.said), found.said)
 
     def test_a_directory_is_refused_as_a_file_that_cannot_be_opened(self) -> None:
-        for words in (["plan", str(self.room)], ["check", str(BATCH), str(self.room)], ["run", str(self.room)], ["device", str(self.room)]):
+        commands = (["plan"], ["check", str(BATCH)], ["audit", str(BATCH)], ["run"], ["device"])
+        for words in ([*command, str(self.room)] for command in commands):
             self.assertEqual(ran(*words), ("", f"error: the file '{self.room}' can't be read: it is a directory\n", REFUSED_WORDS))
             self.assertEqual(ran(*words, "--quiet"), ("", "", REFUSED_WORDS))
 
     @unittest.skipUnless(Path("/proc/self/mem").exists(), "no file that can be opened and not read")
     def test_a_file_whose_read_fails_is_status_7_and_nothing_is_said(self) -> None:
         absent = "/proc/self/mem"
-        for words in (["plan", absent], ["check", str(BATCH), absent], ["run", absent], ["device", absent]):
+        for words in (["plan", absent], ["check", str(BATCH), absent], ["audit", str(BATCH), absent], ["run", absent], ["device", absent]):
             self.assertEqual(ran(*words), ("", "", FAILED_STREAM))
 
 
@@ -318,30 +318,23 @@ class Streams(unittest.TestCase):
 
 
 @unittest.skipUnless(support.program(), "no built program")
-class TooManyOperations(unittest.TestCase):
+class Runs(unittest.TestCase):
+    DEVICE = "".join(line for line in RUN.read_text().splitlines(keepends=True) if line.startswith(("page,", "sheet,")))
+
     def test_the_operation_that_is_one_too_many_is_told_how_many_may_be(self) -> None:
-        device = "".join(line for line in RUN.read_text().splitlines(keepends=True) if line.startswith(("page,", "sheet,")))
-        found = ran("run", given=(device + 10_001 * "op,0,0,read,0,0,0\n" + "end\n").encode())
-        row = device.count("\n") + 10_001
+        found = ran("run", given=(self.DEVICE + 10_001 * "op,0,0,read,0,0,0\n" + "end\n").encode())
+        row = self.DEVICE.count("\n") + 10_001
         self.assertEqual((found.output, found.status), (f"script refused {row} OutOfRange\n", 1))
         self.assertIn(f":{row}: row {row} 'op,0,0,read,0,0,0': a script has at most 10000 rows 'op'\n", found.said)
 
-
-@unittest.skipUnless(support.program(), "no built program")
-class OverInARun(unittest.TestCase):
     def test_a_channel_that_is_over_is_told_what_to_do(self) -> None:
         """Which operations one plan takes up isn't fixed, so there are many, and the run is made again where each plan was over."""
-        device = "".join(line for line in RUN.read_text().splitlines(keepends=True) if line.startswith(("page,", "sheet,")))
         operations = "".join(f"op,0,0,read,{block % 2},{block},0\n" for block in range(200))
         for _ in range(100):
-            found = ran("run", "--limit", "1", given=(device + operations + "end\n").encode())
+            found = ran("run", "--limit", "1", given=(self.DEVICE + operations + "end\n").encode())
             self.assertIn(found.status, (0, 6))
             self.assertEqual(bool(found.said), found.status == 6)
             if found.status == 6:
                 self.assertRegex(found.said, r"^onfi_sim: 'over,0,1': .*'--limit'.*'batch,N'.*\n\Z")
                 return
         self.fail("no plan opened more than one node")
-
-
-if __name__ == "__main__":
-    unittest.main()

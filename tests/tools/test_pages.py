@@ -1,7 +1,5 @@
 """The pages: links and anchors, files that they name, lengths of cells, what READ-FIRST counts; the manual page, refusals, and what tests show."""
 
-from __future__ import annotations
-
 import re
 import subprocess
 import tempfile
@@ -94,7 +92,7 @@ class Examples(unittest.TestCase):
     def test_code_of_contributing_is_in_its_files(self) -> None:
         planner = ROOT / "crates/onfi_planner"
         shown = [(ROOT / "CONTRIBUTING.md", "pub fn unrow", ROOT / "crates/onfi_addr/src/geometry.rt"),
-                 (ROOT / "CONTRIBUTING.md", "opened: limit", planner / "must-fail/over_always.edit"),
+                 (ROOT / "CONTRIBUTING.md", "opened: limit", planner / "wrong-bodies/over_always.edit"),
                  (ROOT / "CONTRIBUTING.md", "u32::MAX", planner / "wrong-bodies/over_always.twin"),
                  (ROOT / "docs/LIBRARIES.md", "Problem::new", ROOT / "examples/rattle/README.md")]
         for page, word, source in shown:
@@ -154,8 +152,8 @@ def shown(page: str) -> List[str]:
     return [re.sub(r"\\f[BR]", "", line).replace("\\-", "-") for block in blocks for line in block.splitlines()]
 
 
+@unittest.skipUnless(support.program(), "no built program")
 class Manual(unittest.TestCase):
-    @unittest.skipUnless(support.program(), "no built program")
     def test_its_examples_print_what_is_written(self) -> None:
         lines = shown(MANUAL.read_text())
         commands = [line[2:] for line in lines if line.startswith("$ ")]
@@ -167,7 +165,6 @@ class Manual(unittest.TestCase):
             ran = subprocess.run(script, shell=True, capture_output=True, text=True, cwd=folder)
         self.assertEqual((ran.stdout.splitlines(), ran.stderr), (lines, ""))
 
-    @unittest.skipUnless(support.program(), "no built program")
     def test_it_names_what_help_names(self) -> None:
         page = MANUAL.read_text().replace("\\-", "-")
         commands = ["plan", "check", "run"]
@@ -178,7 +175,6 @@ class Manual(unittest.TestCase):
         for word in [*commands, *options]:
             self.assertIn(word, page)
 
-    @unittest.skipUnless(support.program(), "no built program")
     def test_any_number_of_workers_gives_the_same_plan(self) -> None:
         for user in ("firmware", "simulator", "test-bench"):
             script = (ROOT / "examples" / user / "batch.onfi").read_text()
@@ -235,7 +231,3 @@ class Testing(unittest.TestCase):
         there = {path.name for path in (ROOT / "tests").glob("*/*")}
         for name in names:
             self.assertIn(name, there)
-
-
-if __name__ == "__main__":
-    unittest.main()

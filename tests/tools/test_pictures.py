@@ -1,7 +1,5 @@
 """Pictures of traces, read back by readers of this file and held against the traces' own lines."""
 
-from __future__ import annotations
-
 import json
 import re
 import subprocess
@@ -393,7 +391,3 @@ class Commands(unittest.TestCase):
         ran = support.run_tool("draw-trace", "--script", "README.md", given=support.trace_text("batch"))
         self.assertEqual((ran.returncode, ran.stdout), (1, ""))
         self.assertIn("no line `end`", ran.stderr)
-
-
-if __name__ == "__main__":
-    unittest.main()

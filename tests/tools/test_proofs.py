@@ -1,7 +1,5 @@
 """PROOFS: each file, call, clause, definition and lemma that the page names is there, and rests on what the page says."""
 
-from __future__ import annotations
-
 import re
 import unittest
 from pathlib import Path
@@ -265,7 +263,3 @@ class FurtherPromises(unittest.TestCase):
         for row in self.rows:
             self.assertTrue(NAMED.search(row.definition), row.promise)
             self.holds(row)
-
-
-if __name__ == "__main__":
-    unittest.main()

@@ -1,7 +1,5 @@
 """The programs of examples/rattle, as their pages have them, over the crates as they stand; nothing is proved here."""
 
-from __future__ import annotations
-
 import re
 import shutil
 import tempfile

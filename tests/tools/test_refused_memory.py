@@ -1,7 +1,5 @@
 """tools/refuse-memory, on small programs that take refused memory rightly and wrongly."""
 
-from __future__ import annotations
-
 import subprocess
 import tempfile
 import unittest
@@ -144,7 +142,3 @@ class RefusedStreams(unittest.TestCase):
                 said = said_of_program(STREAMS.replace("WHERE_READ", where_read).replace("WHERE_WRITTEN", where_written), "--streams")
                 self.assertEqual((said.returncode, said.stdout.splitlines()[-1]), (int(last.startswith("0")), last))
                 self.assertRegex(said.stdout, told)
-
-
-if __name__ == "__main__":
-    unittest.main()

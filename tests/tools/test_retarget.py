@@ -1,13 +1,9 @@
 """How modules are carried over to other processors: where it stops, and what stands in place of pointers of 64 bits; what is left out."""
 
-from __future__ import annotations
-
 import os
 import subprocess
 import sys
-import tempfile
 import unittest
-from pathlib import Path
 from typing import Dict, List
 
 import support
@@ -178,13 +174,9 @@ class Tool(unittest.TestCase):
     """The tool on a module of one function, which the kit's own compiler compiles."""
 
     def setUp(self) -> None:
-        self.made = tempfile.TemporaryDirectory()
-        self.room = Path(self.made.name)
+        self.room = support.room_of(self)
         (self.room / "onfi.h").write_text(HEADER)
         self.keep(module("%r0 = call { i64, i64 } @rattle_alloc(i64 %a1, i64 8)", "%r1 = extractvalue { i64, i64 } %r0, 1", "store i64 %r1, ptr %a0, align 8"))
-
-    def tearDown(self) -> None:
-        self.made.cleanup()
 
     def keep(self, text: str) -> None:
         (self.room / "module.txt").write_text(text)
@@ -245,7 +237,3 @@ class LeftOut(unittest.TestCase):
         told = support.run_tool("test-targets", "no-program", "sparc")
         self.assertEqual((told.returncode, told.stdout), (2, ""))
         self.assertIn("sparc isn't one of aarch64, ", told.stderr)
-
-
-if __name__ == "__main__":
-    unittest.main()

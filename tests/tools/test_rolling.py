@@ -1,24 +1,24 @@
-"""The simulator of channels in rolling use: worked runs, its judge on broken phases, its choices, and its tables."""
+"""The simulator of channels in rolling use: worked runs, its judge on broken phases, its choices, its tables; and what no scheduler passes."""
 
-from __future__ import annotations
-
-import os
-import shutil
 import subprocess
 import tempfile
 import unittest
 from pathlib import Path
-from typing import Dict, List, NamedTuple, Optional
+from typing import Dict, List, NamedTuple
 
 import support
-from onfi_tools.rolling_tables import nine_of_ten, of_bound, quick_tables, room_table, spread_table, whole_tables
-from onfi_tools.rolling_use import (ALL, SOURCES, STRICT, TWELVE, WITH_ERASES, Asked, Configuration, Figures, Measured, Rows, build, key_of,
-                                    measure, run_way, sources_of)
-from onfi_tools.rolling_ways import BASE, GREEDY, PLANS, QUICK, SETTINGS, SOME, WAYS, WITHOUT_SEARCH
+from onfi_tools.channel_bound import Channel, Request, bounds_of, bus_bound, dies_bound, found_mates, loop_bound, most_outstanding, read_source, requests_for
+from onfi_tools.device import Spans
+from onfi_tools.rolling_tables import gain_table, nine_of_ten, of_bound, pairs_of, room_table, sector_table, spread_table
+from onfi_tools.rolling_use import (ALL, OF_SECTORS, SOURCES, STRICT, TWELVE, WITH_ERASES, Asked, Configuration, Figures, Measured, Rows, bound_of, build,
+                                    key_of, measure, run_way, six_of, sources_of)
+from onfi_tools.rolling_ways import BASE, GREEDY, PLANS, QUICK, SETTINGS, WAYS, WITHOUT_SEARCH
 
-KIT_ARCHIVE = "c/liblibc_c.a"
 ASKED = Asked(requests=200, seed=3, limit=2000, jobs=1)
+LONG = Asked(requests=2000, seed=1, limit=1, jobs=1)
+# Of tlc at 2 ns a byte: the parts of a read, and four programs as one, on their LUN.
 READ, ARRAY, OUTPUT = 175, 75100, 37639
+FOUR = 4 * 37439 + 3 * 600 + 800100 + 4 * 305
 PROCESSOR_TIME = ("planning_us", "planning_longest_us")
 # Plans that end first; the others end early.
 EXACT = ("plan", "plan-by-lun", "plan-reads-first")
@@ -50,31 +50,13 @@ class Phase(NamedTuple):
     opens: int
 
 
-def library(room: Path) -> Optional[Path]:
-    """The folder of a built library: the environment's ONFI_LIBRARIES, lib, or made of the crate's archive; else None."""
-    for folder in (os.environ.get("ONFI_LIBRARIES", ""), str(support.ROOT / "lib")):
-        if (Path(folder) / "libonfi.a").is_file():
-            return Path(folder)
-    archive, rt = support.ROOT / "crates/onfi_c/out/libonfi_c.a", shutil.which("rt")
-    if not archive.is_file() or rt is None:
-        return None
-    kit = Path(os.path.realpath(rt)).parent.parent / KIT_ARCHIVE
-    made = subprocess.run([str(support.ROOT / "tools/make-library"), "archive", str(archive), str(kit), str(room)])
-    return None if made.returncode else room
-
-
-ROOM: "tempfile.TemporaryDirectory[str]"
-GREEDY_ALONE: Path
+ROOM = tempfile.TemporaryDirectory(prefix="rolling-")
+GREEDY_ALONE = Path(ROOM.name) / "greedy"
 
 
 def setUpModule() -> None:
-    global ROOM, GREEDY_ALONE
-    ROOM = tempfile.TemporaryDirectory(prefix="rolling-")
-    GREEDY_ALONE = build(Path(ROOM.name) / "greedy", None)
-
-
-def tearDownModule() -> None:
-    ROOM.cleanup()
+    unittest.addModuleCleanup(ROOM.cleanup)
+    build(GREEDY_ALONE, None)
 
 
 def phases(program: Path, of: Configuration, way: str, requests: int) -> List[Phase]:
@@ -120,7 +102,7 @@ class Answered:
 
     def test_each_request_is_answered_once(self) -> None:
         for way in self.ways:
-            for of in (TWELVE[1], TWELVE[8], TWELVE[9], TWELVE[1]._replace(load=0.5), TWELVE[1]._replace(array="0.4-0.7")):
+            for of in (TWELVE[1], TWELVE[8], TWELVE[9], TWELVE[1]._replace(load=0.5), TWELVE[1]._replace(array="0.4-0.7"), six_of("mixed-4k")[0]):
                 self.check_once(of, way)
 
     def test_one_seed_gives_the_same_figures_twice(self) -> None:
@@ -159,20 +141,27 @@ class Greedy(Answered, unittest.TestCase):
 
     def test_reads_first_fills_the_planes_by_hand(self) -> None:
         # One LUN: the data of four programs with gaps of 600 between them, one array, four statuses.
-        four = 4 * 37439 + 3 * 600 + 800100 + 4 * 305
-        self.assertAlmostEqual(self.rate(Configuration("tlc", "sequential", 2, luns=1), "rfirst:all"), 4e9 / four, 2)
+        self.assertAlmostEqual(self.rate(Configuration("tlc", "sequential", 2, luns=1), "rfirst:all"), 4e9 / FOUR, 2)
 
     def test_an_array_that_is_early_counts_where_it_is_told(self) -> None:
         of = Configuration("tlc", "reads", 2, luns=1, depth=1, array="0.5-0.5")
         self.assertAlmostEqual(self.rate(of, "fifo"), 1e9 / (READ + ARRAY // 2 + OUTPUT), 2)
         self.assertAlmostEqual(self.rate(of._replace(told=False), "fifo"), 1e9 / (READ + ARRAY + OUTPUT), 2)
 
-    def test_requests_that_come_seldom_wait_for_none(self) -> None:
-        figures = run_way(self.program, Configuration("tlc", "reads", 2, load=0.00001), "fifo", ASKED)
-        self.assertAlmostEqual(figures["read_mean"], (READ + ARRAY + OUTPUT) / 1000, 3)
-        self.assertAlmostEqual(figures["read_999"], (READ + ARRAY + OUTPUT) / 1000, 3)
+    def test_a_sector_has_the_bus_for_a_quarter_of_the_bytes(self) -> None:
+        """4,608 bytes at 2 ns in place of 18,432; and all else is the same, requests too."""
+        output = 7 * 25 + 500 + 4608 * 2 + 100
+        self.assertAlmostEqual(self.rate(Configuration("tlc", "reads-4k", 2, luns=1, depth=1), "fifo"), 1e9 / (READ + ARRAY + output), 2)
+        for sectors, pages in OF_SECTORS.items():
+            words = [[*Configuration("slc", name, 2).words(), "source", "yes"] for name in (sectors, pages)]
+            one, other = (subprocess.run([str(self.program), *each], capture_output=True, text=True, check=True).stdout.splitlines() for each in words)
+            self.assertEqual([(at, line) for at, line in enumerate(one) if line != other[at]], [(2, "read 175 600 25100 2935")])
 
     def test_an_open_loop_has_the_bus_for_its_load(self) -> None:
+        """And where requests come seldom none waits for another."""
+        figures = run_way(self.program, Configuration("tlc", "reads", 2, load=0.00001), "fifo", ASKED)
+        for name in ("read_mean", "read_999"):
+            self.assertAlmostEqual(figures[name], (READ + ARRAY + OUTPUT) / 1000, 3)
         figures = run_way(self.program, TWELVE[1]._replace(load=0.4), "rfirst:all", ASKED._replace(requests=4000))
         self.assertAlmostEqual(figures["bus"], 0.4, delta=0.03)
 
@@ -197,7 +186,7 @@ class Plans(Answered, unittest.TestCase):
 
     @classmethod
     def setUpClass(cls) -> None:
-        found = library(Path(ROOM.name))
+        found = support.library(Path(ROOM.name))
         if found is None:
             raise unittest.SkipTest("no built library")
         cls.program = build(Path(ROOM.name) / "planned", found)
@@ -210,10 +199,9 @@ class Plans(Answered, unittest.TestCase):
             self.assertEqual(figures["answered"], 180, way)
 
     def test_plans_fill_the_planes_by_hand(self) -> None:
-        four = 4 * 37439 + 3 * 600 + 800100 + 4 * 305
         for way in self.ways:
             figures = run_way(self.program, Configuration("tlc", "sequential", 2, luns=1), way, ASKED)
-            self.assertAlmostEqual(figures["rate"], 4e9 / four, 2, way)
+            self.assertAlmostEqual(figures["rate"], 4e9 / FOUR, 2, way)
 
 
 class WithoutSearch(Plans):
@@ -248,10 +236,7 @@ def measured_by(rates: Dict[str, List[float]]) -> List[Measured]:
 
 class Tables(unittest.TestCase):
     def test_what_is_measured(self) -> None:
-        self.assertEqual((len(ALL), len(set(ALL))), (216, 216))
-        self.assertEqual(len(TWELVE), 12)
-        self.assertLessEqual(set(TWELVE), set(ALL))
-        self.assertLessEqual(set(SETTINGS), set(QUICK))
+        self.assertEqual((len(ALL), len(set(ALL)), len(TWELVE), set(TWELVE) - set(ALL), set(SETTINGS) - set(QUICK)), (216, 216, 12, set(), set()))
 
     def test_spread_by_hand(self) -> None:
         """Ten configurations: nine of ten are at least the second least. Reads take twice as long on all but one, which has none."""
@@ -274,19 +259,22 @@ class Tables(unittest.TestCase):
         self.assertEqual(room_table(measured, ["plan"])[2], "| plan in order | 95.0 | 95.0 | 100.0 | 90.0 | 76; 72 | 1.00 |")
         self.assertEqual(len(room_table(measured[:1], ["plan"])), 2)
 
+    def test_sectors_beside_pages_by_hand(self) -> None:
+        """Two configurations: reads first gives 100 and 200, 150 and 150 a second; phase by phase as many of pages, of sectors 210 and 120."""
+        pages, sectors = measured_by({BASE: [100, 150], "steady": [100, 150]}), measured_by({BASE: [200, 150], "steady": [210, 120]})
+        sectors = [one._replace(configuration=of) for of, one in zip(six_of("reads-4k"), sectors)]
+        for figures in sectors[0].by_way.values():
+            figures["read_mean"] = 0.5
+        pairs = pairs_of(pages, sectors)
+        rows = sector_table(pairs, [BASE, "steady"])
+        self.assertEqual(rows[2], "| tlc, random reads of 4 KiB, 2 ns, 8 LUNs, 64 | 100 | 200 | 2.00 | 160 | 100; 105 |")
+        self.assertEqual(rows[3].split("|")[2:], [" 150 ", " 150 ", " 1.00 ", " 120 ", " 100; 80 ", ""])
+        self.assertEqual(gain_table(pairs, [BASE, "steady"])[3],
+                         "| random reads of 4 KiB, phase by phase | 0.80 | 1.45 | 2.10 | 0.75 | 92.5; 80.0; 105.0 | 132; 96 |")
+
     def test_runs_with_erases_are_longer(self) -> None:
         self.assertEqual([ASKED.requests_of(of) for of in TWELVE[7:9]], [ASKED.requests, WITH_ERASES])
         self.assertEqual(ASKED._replace(requests=20_000).requests_of(TWELVE[8]), 20_000)
-
-    def test_each_table_has_a_cell_for_each_column(self) -> None:
-        whole = whole_tables([one._replace(configuration=of) for of, one in zip(ALL, measured_by({"plan": [90.0] * 216}))], list(WAYS))
-        quick = quick_tables([measured_by({"plan": [90.0] * size}) for size in (12, 6, 3)], QUICK, SOME)
-        for lines in (whole, quick):
-            tables = [part.splitlines() for part in "\n".join(lines).split("\n\n")]
-            self.assertGreaterEqual(len(tables), 4)
-            for rows in tables:
-                self.assertEqual(len({row.count("|") for row in rows}), 1, rows[0])
-                self.assertGreater(len(rows), 2)
 
     def test_figures_are_kept_as_they_come(self) -> None:
         """A run that the file has isn't run again: with no program at all the figures are there, and the file is as it was."""
@@ -302,6 +290,16 @@ class Tables(unittest.TestCase):
         self.assertEqual(path.read_text().splitlines()[:-1], lines)
         self.assertEqual(Rows(path).found[key_of(of[1], BASE, ASKED)], both[1].by_way[BASE])
 
+    def test_the_tool(self) -> None:
+        for words, count in ((["--quick"], 9), (["--workload", "erases"], 9), (["--quick", "--workload", "reads-4k"], 2)):
+            ran = support.run_tool("bench", "rolling", *words, "--ways", "fifo", "--requests", "50")
+            self.assertEqual((ran.returncode, ran.stderr), (0, ""))
+            tables = [part.splitlines() for part in ran.stdout.split("\n\n")][:-1]
+            self.assertEqual(len(tables), count)
+            for rows in tables:
+                self.assertEqual(len({row.count("|") for row in rows}), 1, rows[0])
+                self.assertGreater(len(rows), 2)
+
     def test_a_way_that_there_isnt(self) -> None:
         ran = support.run_tool("bench", "rolling", "--ways", "plan,best")
         self.assertEqual((ran.returncode, ran.stdout), (2, ""))
@@ -313,5 +311,98 @@ class Tables(unittest.TestCase):
         self.assertEqual(ran.stderr, "bench rolling: no libonfi.a in /nowhere: `make library` builds it\n")
 
 
-if __name__ == "__main__":
-    unittest.main()
+def channel(luns: int = 1, depth: int = 1, planes: int = 4) -> Channel:
+    """Phases of 10 and 30 ns, gaps of 2; arrays of 100, 500 and 1,000."""
+    spans: Dict[str, Spans] = {
+        "read": Spans(10, 2, 100, 30),
+        "program": Spans(10, 2, 500, 30),
+        "erase": Spans(10, 2, 1000, 30),
+    }
+    return Channel(spans, planes, 10**15, luns, depth)
+
+
+def reads(*luns: int) -> List[Request]:
+    return [Request("read", lun) for lun in luns]
+
+
+class Bounds(unittest.TestCase):
+    def test_the_bus_has_each_command_and_post(self) -> None:
+        self.assertAlmostEqual(bus_bound(channel(), reads(0, 0, 0)), 1e9 / 40)
+
+    def test_one_at_a_time_is_a_stay_of_one(self) -> None:
+        """One program outstanding: whatever groups there could be, each stays for 540 ns."""
+        programs = [Request("program", 0)] * 10
+        self.assertAlmostEqual(dies_bound(channel(luns=8, depth=1), programs), 1e9 / 540)
+        self.assertAlmostEqual(bounds_of(channel(luns=8, depth=1), programs + programs, 10)["loop"], 1e9 / 540)
+
+    def test_one_lun_has_whole_groups(self) -> None:
+        """Many outstanding on one LUN: four programs have it for 4 * 40 + 3 * 2 + 500 ns."""
+        self.assertAlmostEqual(dies_bound(channel(depth=256), [Request("program", 0)] * 8), 4e9 / 666)
+        self.assertAlmostEqual(dies_bound(channel(depth=256, planes=2), [Request("program", 0)] * 8), 2e9 / 582)
+
+    def test_large_groups_stay_too_long(self) -> None:
+        """Two LUNs, two planes, two outstanding. One by one 540 / 2 = 270 ns an answer; in pairs 145.5 of the LUNs, but 283.5 of the stays."""
+        self.assertAlmostEqual(dies_bound(channel(luns=2, depth=2, planes=2), [Request("program", 0)] * 8), 1e9 / 270)
+
+    def test_some_groups_are_large(self) -> None:
+        """Three LUNs, two planes, five outstanding. One by one 180 ns an answer by the LUNs and 108 by the stays; in pairs 97 and 113.4.
+
+        Both say the same where a share of 72 / 88.4 goes in pairs: 180 - 83 x = 108 + 5.4 x.
+        """
+        self.assertAlmostEqual(dies_bound(channel(luns=1, depth=3, planes=2), [Request("program", 0)] * 8), 1e9 / 291)
+        found = dies_bound(channel(luns=3, depth=5, planes=2), [Request("program", 0)] * 8)
+        self.assertAlmostEqual(1e9 / found, 108 + 5.4 * 72 / 88.4, 6)
+
+    def test_mates_come_beyond_the_room(self) -> None:
+        erases = [Request("erase", 0), *[Request("erase", 0, True)] * 3]
+        self.assertEqual(most_outstanding(channel(depth=16), erases), 19)
+        self.assertEqual(most_outstanding(channel(depth=16), erases[:1]), 16)
+        # All four have had their parts, 1,166 / 4 ns each, after the stay of 1,040.
+        self.assertAlmostEqual(loop_bound(channel(depth=1), erases, range(0, 4)), 4e9 / 1166)
+
+    def test_reads_find_mates_seldom(self) -> None:
+        self.assertEqual(found_mates(channel(luns=2, depth=16)._replace(pages=100), 16), 15 * 3 / (4 * 2 * 100))
+        few = channel(depth=2)._replace(pages=2)
+        self.assertAlmostEqual(dies_bound(few, reads(0) * 8), 1e9 / (140 - 3 / 8 * 98))
+
+    def test_the_loop_by_hand(self) -> None:
+        """Two outstanding, LUNs 0 0 0 1: the first two are of LUN 0, so that LUN 1 has nothing to do until its read comes at 280."""
+        requests = reads(0, 0, 0, 1, 0, 1)
+        found = [loop_bound(channel(luns=2, depth=2), requests, range(0, answers)) for answers in (1, 2, 3, 4)]
+        for bound, answers, end in zip(found, (1, 2, 3, 4), (140, 280, 420, 420)):
+            self.assertAlmostEqual(bound, answers * 1e9 / end, 3)
+
+    def test_the_loop_goes_on_with_the_shortest(self) -> None:
+        """A program of one plane runs when a read comes to its LUN: 540 ns of it and 140 of the read, which is answered first."""
+        requests = [Request("program", 0), Request("read", 1), Request("read", 0), Request("read", 1), Request("read", 1)]
+        bound = loop_bound(channel(luns=2, depth=2, planes=1), requests, range(0, 4))
+        # Reads of LUN 1 and LUN 0 at 140 and 280, then two of LUN 1 at 420 and 560; the program at 680.
+        self.assertAlmostEqual(bound, 4e9 / 560, 3)
+
+
+class Simulated(unittest.TestCase):
+    def bounds(self, of: Configuration) -> Dict[str, float]:
+        words = [*of.words(), "requests", str(requests_for(2000, of.depth)), "source", "yes"]
+        text = subprocess.run([str(GREEDY_ALONE), *words], capture_output=True, text=True, check=True).stdout
+        return bounds_of(*read_source(text, of.luns, of.depth, 1), 2000)
+
+    def test_it_is_reached(self) -> None:
+        """Where one LUN, one request or the bus decides, the greedy way has all that there is."""
+        reached = {
+            "dies": (Configuration("tlc", "sequential", 2, luns=1), 4e9 / FOUR),
+            "loop": (Configuration("tlc", "reads", 2, luns=1, depth=1), 1e9 / (READ + ARRAY + OUTPUT)),
+            "bus": (TWELVE[4], 1e9 / (175 + 15_354 + 675)),
+        }
+        for name, (of, rate) in reached.items():
+            bounds = self.bounds(of)
+            self.assertEqual(min(bounds.values()), bounds[name], name)
+            self.assertAlmostEqual(bounds[name] / run_way(GREEDY_ALONE, of, "rfirst:all", LONG)["rate"], 1, 3, name)
+            self.assertLess(abs(bounds[name] / rate - 1), 0.01, name)
+
+    def test_no_way_passes_it(self) -> None:
+        """A run may by what it leaves undone: with erases by a twentieth, else by a hundredth."""
+        conditions = [*TWELVE, *ALL[::31], TWELVE[10]._replace(array="0.4-0.7"), TWELVE[10]._replace(load=0.9), TWELVE[1]._replace(array="0.4-0.7", told=False)]
+        for of in conditions:
+            bound = bound_of(GREEDY_ALONE, of, LONG)
+            for way in GREEDY:
+                self.assertLess(run_way(GREEDY_ALONE, of, way, LONG)["rate"], bound * (1.05 if of.workload == "erases" else 1.01), (of, way))

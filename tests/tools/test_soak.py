@@ -1,12 +1,10 @@
 """tools/soak and its die model: worked answers, and programs that answer rightly and wrongly."""
 
-from __future__ import annotations
-
 import random
 import sys
 import tempfile
 import unittest
-from typing import Any, List, Tuple
+from typing import Any, List, Set, Tuple
 
 import support
 from onfi_tools.die import Block, Device, Operation
@@ -22,7 +20,8 @@ from onfi_tools.die import Block, Device, Operation
 
 rows = list(csv.reader(sys.stdin.read().split("\\nend")[0].splitlines()))
 page = numbers_of(first_copy(bytes.fromhex("".join(row[1] for row in rows if row[0] == "page"))))
-device = Device(page["pages_per_block"], page["data_bytes"] + page["spare_bytes"], bool(page["any_page_order"]))
+sector = sum(int(row[1]) for row in rows if row[0] == "sector")
+device = Device(page["pages_per_block"], page["data_bytes"] + page["spare_bytes"], bool(page["any_page_order"]), sector)
 faults, fails, unready, blocks, serials, calls, stopped, lines = {{}}, {{}}, {{}}, {{}}, {{}}, {{}}, {{}}, []
 for row in rows:
     if row[0] == "fault":
@@ -43,12 +42,14 @@ def run(channel, spot, operation):
 
 
 for row in rows:
-    if row[0] == "op":
-        host, channel, kind, lun, number, at = int(row[1]), int(row[2]), row[3], int(row[4]), int(row[5]), int(row[6])
+    if row[0] in ("op", "opread"):
+        kind = row.pop(3) if row[0] == "op" else "read"
+        host, channel, lun, number, at = map(int, row[1:6])
         serial = serials.setdefault((host, channel), 0)
         serials[(host, channel)] += 1
-        content = bytes.fromhex(row[7]) if kind == "program" else b""
-        answer = None if channel in stopped else run(channel, (channel, lun, number), Operation(kind, at, content))
+        content = bytes.fromhex(row[6]) if kind == "program" else b""
+        first, count = map(int, row[6:8]) if row[0] == "opread" else (0, 0)
+        answer = None if channel in stopped else run(channel, (channel, lun, number), Operation(kind, at, content, {reads}))
         if channel not in stopped:
             lines.append((host, channel, serial, answer))
 {spoilt}
@@ -63,7 +64,7 @@ sys.exit(3 if stopped else 0)
 
 OVER = """
 if IS_OVER:
-    for channel in sorted(set(row[2] for row in rows if row[0] == "op")):
+    for channel in sorted(set(row[2] for row in rows if row[0] in ("op", "opread"))):
         print("over," + channel + "," + str(COUNT))
     print("closed")
     sys.exit(6)
@@ -75,10 +76,10 @@ def over(where: str, count: str) -> str:
     return OVER.replace("IS_OVER", where).replace("COUNT", count)
 
 
-def soaked(spoilt: str, *words: str, scripts: int = 30) -> Tuple[int, str]:
-    """Status and output of the tool on a program that does this with its lines before it prints them."""
+def soaked(spoilt: str, *words: str, scripts: int = 30, reads: str = "first, count") -> Tuple[int, str]:
+    """Status and output of the tool on a program that reads these sectors, and does this with its lines before it prints them."""
     with tempfile.TemporaryDirectory() as folder:
-        program = support.executable(folder, PROGRAM.format(python=sys.executable, tools=str(support.ROOT / "tools"), spoilt=spoilt))
+        program = support.executable(folder, PROGRAM.format(python=sys.executable, tools=str(support.ROOT / "tools"), spoilt=spoilt, reads=reads))
         said = support.run_tool("soak", "1", program, "--scripts", str(scripts), *words)
     return said.returncode, said.stdout + said.stderr
 
@@ -107,6 +108,15 @@ class DieModel(unittest.TestCase):
         self.assertEqual(answers(USUAL, frozenset([0]), [program, read]), ["failed", "read,*00"])
         erased = [program, program, Operation("erase", 0), read, program]
         self.assertEqual(answers(USUAL, frozenset([2]), erased), ["done", "failed", "failed", "read,*00", "failed"])
+
+    def test_a_read_gives_its_sectors(self) -> None:
+        page = bytes(byte % 251 for byte in range(528))
+        device = USUAL._replace(sector_bytes=132)
+        asked = [Operation("read", 0, first=1, sectors=2), Operation("program", 0, page), Operation("read", 0, first=1, sectors=2),
+                 Operation("read", 0, first=3, sectors=1)]
+        told = answers(device, frozenset([1]), [*asked, Operation("read", 0), Operation("erase", 0), asked[0]])
+        hexed = page.hex().upper()
+        self.assertEqual(told, ["read,*FF", "done", "read," + hexed[264:792], "read," + hexed[792:], "read," + hexed, "failed", "read,*00"])
 
 
 BEHIND = "the lines behind the replies"
@@ -155,6 +165,11 @@ class Soak(unittest.TestCase):
                 self.assertEqual(status, 1, said)
                 self.assertIn(told, said)
 
+    def test_reads_of_sectors_each_and_of_others(self) -> None:
+        for reads in ("first, count", "0, 0", "0, count", "first, 1", "first, min(count + 1, 7)"):
+            status, said = soaked("", "--sectors", reads=reads)
+            self.assertEqual((status, "no order of acceptance" in said), (0, False) if reads == "first, count" else (1, True), reads)
+
 
 class Drawn(unittest.TestCase):
     """What scripts are drawn in each way."""
@@ -179,11 +194,19 @@ class Drawn(unittest.TestCase):
             self.assertLessEqual(script.sizes.postcap, 2)
         self.assertEqual({script.asked[0].spot[0] for script in scripts}, {0, 1, 2, 3})
 
+    def test_sectors_that_are_read_lie_on_their_page(self) -> None:
+        counts: Set[int] = set()
+        for number in range(40):
+            rng = random.Random(f"1 {number}")
+            script = SOAK.drawn_script(rng, SOAK.mixed(rng)._replace(sectors=True))
+            self.assertEqual([row for row in script.rows if row.startswith("sector,")], [f"sector,{script.device.sector_bytes}"])
+            for one in (it.operation for it in script.asked if it.operation.sectors):
+                self.assertEqual(one.kind, "read")
+                self.assertLessEqual((one.first + one.sectors) * script.device.sector_bytes, script.device.page_bytes)
+                counts.add(one.sectors)
+        self.assertEqual(counts, {1, 2, 3, 4})
+
     def test_wide_are_eight_luns_of_four_planes(self) -> None:
         scripts = self.drawn("wide")
         self.assertEqual({(script.sizes.luns, script.sizes.plane_bits) for script in scripts}, {(8, 2)})
         self.assertEqual({one.spot[1] for script in scripts for one in script.asked}, set(range(8)))
-
-
-if __name__ == "__main__":
-    unittest.main()

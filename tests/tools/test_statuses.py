@@ -1,14 +1,10 @@
 """The page of statuses: the header, the Python package and the Rattle source say what it says, and the tool says where one doesn't."""
 
-from __future__ import annotations
-
 import contextlib
 import io
 import shutil
 import sys
-import tempfile
 import unittest
-from pathlib import Path
 from typing import Any, List, Tuple
 from unittest import mock
 
@@ -17,15 +13,12 @@ import support
 TOOL: Any = support.load("make-statuses")
 FILES = (TOOL.PAGE, TOOL.HEADER, TOOL.REFUSED, TOOL.PACKAGE, TOOL.CALLS, TOOL.SOURCE, TOOL.WORDS)
 ROW = "22 | Clock | Times that reach 2^62 ns. | times that reach 2^62 ns\n"
-LAST = ("28 | NoLengths | A read of so many sectors without a post of as many, or sectors of what is no read. | "
-        "sectors without lengths\n")
+LAST = "58 | EndsBefore | The schedule ends before the time that is given. | the schedule ends before the time that is told\n"
 
 
 class Statuses(unittest.TestCase):
     def setUp(self) -> None:
-        room = tempfile.TemporaryDirectory()
-        self.addCleanup(room.cleanup)
-        self.folder = Path(room.name)
+        self.folder = support.room_of(self)
         for path in FILES:
             (self.folder / path).parent.mkdir(parents=True, exist_ok=True)
             shutil.copyfile(support.ROOT / path, self.folder / path)
@@ -64,7 +57,7 @@ class Statuses(unittest.TestCase):
         said_of: List[Tuple[str, str, str, str]] = [
             (TOOL.SOURCE, ", enum Status", "    /// Times that reach 2^62 ns.\n", "    /// Late times.\n"),
             (TOOL.SOURCE, ", ALL", "    Status::Clock,\n", ""),
-            (TOOL.SOURCE, ", ALL", "[Status; 62]", "[Status; 60]"),
+            (TOOL.SOURCE, ", ALL", "[Status; 63]", "[Status; 60]"),
             (TOOL.SOURCE, ", number", "Status::Clock => 22,", "Status::Clock => 23,"),
             (TOOL.SOURCE, ", text", '"times that reach 2^62 ns"', '"late times"'),
             (TOOL.WORDS, ", its names", " Clock,", ""),
@@ -82,15 +75,15 @@ class Statuses(unittest.TestCase):
             (self.folder / path).write_bytes(before)
 
     def test_a_new_line_of_the_page_is_written_and_asked_for_in_the_source(self) -> None:
-        self.change(TOOL.PAGE, LAST, f"{LAST}29 | TooLate | It is too late. | too late\n")
+        self.change(TOOL.PAGE, LAST, f"{LAST}59 | TooLate | It is too late. | too late\n")
         status, said = self.run_here()
         self.assertEqual((status, said[:3]), (1, [f"wrote {TOOL.HEADER}", f"wrote {TOOL.REFUSED}", f"wrote {TOOL.PACKAGE}"]))
         self.assertEqual(said[3], f"{TOOL.PACKAGE}, __all__: it lacks TooLate")
-        self.assertEqual(said[4], f"{TOOL.SOURCE}, enum Status: 'A count of a schedule is out of its range, or a start is 2^63 ns or more. BadSchedule' "
+        self.assertEqual(said[4], f"{TOOL.SOURCE}, enum Status: 'A parameter page has fewer than 256 bytes. PageShort' "
                                   "where the page has 'It is too late. TooLate'")
         self.assertEqual(len(said), 11)
-        self.assertIn("    ONFI_TOO_LATE = 29, /* It is too late. */\n    /* schedules */\n", (self.folder / TOOL.HEADER).read_text(encoding="utf-8"))
-        self.assertIn('class TooLate(Refused):\n    """It is too late."""\n\n    status = 29\n\n\n', (self.folder / TOOL.REFUSED).read_text(encoding="utf-8"))
+        self.assertIn("    ONFI_TOO_LATE = 59, /* It is too late. */\n    /* parameter pages */\n", (self.folder / TOOL.HEADER).read_text(encoding="utf-8"))
+        self.assertIn('class TooLate(Refused):\n    """It is too late."""\n\n    status = 59\n\n\n', (self.folder / TOOL.REFUSED).read_text(encoding="utf-8"))
 
     def test_a_line_that_is_none_is_told(self) -> None:
         for row in ("22 | Clock | Times that reach 2^62 ns.\n", "21 | Clock | A. | a\n", "x | Clock | A. | a\n", "22 | Clock | \"A\". | a\n", "22 | Clock | A. |\n"):
@@ -103,7 +96,3 @@ class Statuses(unittest.TestCase):
     def test_a_mark_that_is_gone_is_told(self) -> None:
         self.change(TOOL.HEADER, f"    /* {TOOL.END} */\n", "")
         self.assertEqual(self.run_here(), (1, [f"{TOOL.HEADER}: a mark is missing: '{TOOL.BEGIN}' or '{TOOL.END}'"]))
-
-
-if __name__ == "__main__":
-    unittest.main()

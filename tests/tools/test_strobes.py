@@ -1,7 +1,5 @@
 """Devices by strobes: their lengths as computed here, and strobes that give a sheet's lengths give its texts."""
 
-from __future__ import annotations
-
 import random
 import re
 import unittest
@@ -10,8 +8,8 @@ from typing import Dict, List, Tuple
 import support
 from onfi_tools import device
 from onfi_tools.cases import read_cases
+from onfi_tools.channel import Device
 from onfi_tools.drawn import MIX, drawn_wants, running_row
-from onfi_tools.policies import Device
 
 SCRIPT = (support.ROOT / "examples/program-by-page.onfi").read_text()
 PAGE = [line for line in SCRIPT.splitlines() if line.startswith("page,")]
@@ -110,7 +108,3 @@ class Texts(unittest.TestCase):
             self.assertEqual((ran.stdout, ran.returncode), (case.output.decode(), 0), case.place)
             tried += 1
         self.assertGreater(tried, 50)
-
-
-if __name__ == "__main__":
-    unittest.main()

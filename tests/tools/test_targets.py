@@ -1,7 +1,5 @@
 """What is built for another processor: what make takes for TARGET, and libraries of an archive that stands for the proved one."""
 
-from __future__ import annotations
-
 import os
 import shutil
 import struct
@@ -13,6 +11,7 @@ from pathlib import Path
 from typing import List
 
 import support
+from onfi_tools.kit import KIT
 
 VERSION = (support.ROOT / "VERSION").read_text().strip()
 ARM = "aarch64"
@@ -102,10 +101,7 @@ class Prove(unittest.TestCase):
 @unittest.skipUnless(shutil.which("rt"), "no kit")
 class Library(unittest.TestCase):
     def setUp(self) -> None:
-        room = tempfile.TemporaryDirectory(prefix="onfi target ")
-        self.addCleanup(room.cleanup)
-        self.room = Path(room.name)
-        self.kit = Path(os.path.realpath(str(shutil.which("rt")))).parent.parent / "toolchain/bin"
+        self.room, self.kit = support.room_of(self, "onfi target "), KIT / "toolchain/bin"
         (self.room / "call.c").write_text(CALL)
 
     def tool(self, *words: str) -> str:
@@ -152,7 +148,3 @@ class Library(unittest.TestCase):
         told = support.run_tool("make-wheel", str(lib / "libonfi.so"), str(self.room / "dist"))
         self.assertEqual((told.returncode, told.stderr), (0, ""))
         self.assertEqual(told.stdout, f"{self.room}/dist/onfi-{VERSION}-py3-none-manylinux_2_17_aarch64.whl\n")
-
-
-if __name__ == "__main__":
-    unittest.main()

@@ -1,12 +1,10 @@
 """Whose wrong bodies a landing tries whole: whose turn is longest ago, as long as there is room, and always one."""
 
-from __future__ import annotations
-
 import unittest
 from typing import Any, Dict, List
 
 import support
-from onfi_tools.turns import TURNS, UNKNOWN, Landing, in_turn, landings_ago, read_costs, read_landings
+from onfi_tools.turns import TURNS, UNKNOWN, Landing, in_room, in_turn, landings_ago, read_costs, read_landings, settled
 
 TOOL: Any = support.load("wrong-bodies")
 
@@ -20,10 +18,14 @@ class Pages(unittest.TestCase):
         self.assertEqual(read_landings("1f a b\n\n2f\n"), [Landing("1f", frozenset("ab")), Landing("2f", frozenset())])
         self.assertEqual(read_landings(""), [])
 
+    def test_a_crate_of_which_something_was_left_has_a_mark(self) -> None:
+        self.assertEqual(read_landings("1f -b a -c\n"), [Landing("1f", frozenset("a"), frozenset("bc"))])
+
     def test_costs_and_room(self) -> None:
         costs = read_costs("# minutes\nroom: 90\na: 2.5\n")
         self.assertEqual((costs.room, costs.of("a"), costs.of("b")), (90, 2.5, UNKNOWN))
         self.assertEqual(read_costs("").room, float("inf"))
+        self.assertEqual([costs.of_part("a", share) for share in (0, 0.5, 1)], [1.5, 2.0, 2.5])
 
     def test_each_crate_with_wrong_bodies_has_its_cost_and_no_other(self) -> None:
         costs = read_costs(TOOL.COSTS.read_text(encoding="utf-8"))
@@ -35,7 +37,31 @@ class Pages(unittest.TestCase):
     def test_each_landing_names_crates_and_a_whole_commit(self) -> None:
         for landing in read_landings(TOOL.LANDINGS.read_text(encoding="utf-8")):
             self.assertRegex(landing.commit, "^[0-9a-f]{40}$")
-            self.assertTrue(all(name.startswith("onfi_") for name in landing.whole))
+            self.assertTrue(all(name.startswith("onfi_") for name in landing.whole | landing.left))
+            self.assertFalse(landing.whole & landing.left)
+
+
+class Waiting(unittest.TestCase):
+    def test_what_was_left_is_due_since_the_landing_before(self) -> None:
+        some = read_landings("1f\n2f -b -c\n3f -c\n4f -c -d\n")
+        self.assertEqual([settled(it, some) for it in "abcd"], [1, 1, 4, 2])
+        self.assertEqual(settled("a", read_landings("1f -a\n")), 1)
+
+    def test_the_first_is_taken_and_others_as_far_as_there_is_room(self) -> None:
+        minutes = {"a": 9.0, "b": 3.0, "c": 2.0, "d": 1.0}
+        self.assertEqual(in_room(minutes, "abcd", 0), (["a"], ["b", "c", "d"]))
+        self.assertEqual(in_room(minutes, "bacd", 6), (["b", "c", "d"], ["a"]))
+        self.assertEqual(in_room({}, "", 6), ([], []))
+
+    def test_no_crate_waits_for_ever_where_each_landing_changes_all(self) -> None:
+        minutes = {str(at): 1.0 + at for at in range(7)}
+        past = landings("")
+        for at in range(21):
+            queue = sorted(minutes, key=lambda it: -settled(it, past))
+            past.append(Landing(str(at), frozenset(), frozenset(in_room(minutes, queue, 0)[1])))
+        for name in minutes:
+            for at in range(14):
+                self.assertTrue(any(name not in it.left for it in past[at + 1 : at + 8]))
 
 
 class Turns(unittest.TestCase):
@@ -83,7 +109,3 @@ class Turns(unittest.TestCase):
         tried = self.tried(minutes, 4, 30)
         for at in range(20):
             self.assertIn("dear", [it for crates in tried[at : at + len(minutes)] for it in crates])
-
-
-if __name__ == "__main__":
-    unittest.main()

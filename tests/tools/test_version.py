@@ -1,56 +1,36 @@
 """The version stands in the file VERSION; all other places that give one give the same."""
 
-from __future__ import annotations
-
 import re
 import unittest
+from typing import List, Tuple
 
 import support
 
 VERSION = (support.ROOT / "VERSION").read_text().rstrip("\n")
-MAJOR, MINOR, PATCH = map(int, VERSION.split("."))
-NUMBER = 10_000 * MAJOR + 100 * MINOR + PATCH
-
-
-def found(path: str, pattern: str) -> str:
-    told = re.search(pattern, (support.ROOT / path).read_text(), re.MULTILINE)
-    assert told, path
-    return told[1]
+MAJOR, MINOR, PATCH = VERSION.split(".")
+NUMBER = str(10_000 * int(MAJOR) + 100 * int(MINOR) + int(PATCH))
+PARTS = {"MAJOR": MAJOR, "MINOR": MINOR, "PATCH": PATCH}
+# Of the header, the library, Python, the library that it looks for, the program, the manual page, the changes.
+PLACES: List[Tuple[str, str, str]] = [
+    *(("include/onfi.h", rf"^#define ONFI_VERSION_{name} (\d+)$", part) for name, part in PARTS.items()),
+    ("include/onfi.h", r'^#define ONFI_VERSION "(.*)"$', VERSION),
+    ("include/onfi.h", r"^#define ONFI_VERSION_NUMBER UINT32_C\((\d+)\)", NUMBER),
+    *(("crates/onfi_c/src/version.rt", rf"^const {name}: u32 = (\d+);$", part) for name, part in PARTS.items()),
+    ("crates/onfi_c/src/version.rt", r"ensures \{ result ≡ (\d+) \}", NUMBER),
+    ("python/onfi/__init__.py", r'^__version__ = "(.*)"$', VERSION),
+    ("python/pyproject.toml", r"^version = \{ attr = \"(.*)\" \}$", "onfi.__version__"),
+    ("python/onfi/library.py", r'^SONAME = "libonfi\.so\.(\d+)"$', MAJOR),
+    ("crates/onfi_console/src/help.rt", r'^pub const VERSION: &str = "(.*)";$', VERSION),
+    ("docs/onfi_sim.1", r'^\.TH ONFI_SIM 1 "\d{4}-\d\d-\d\d" "onfi_sim (.*?)"', VERSION),
+    ("CHANGELOG.md", r"^## (\S+)", VERSION),
+]
 
 
 class Version(unittest.TestCase):
     def test_it_has_three_numbers(self) -> None:
         self.assertRegex(VERSION, r"^(0|[1-9]\d*)(\.(0|[1-9]\d*)){2}$")
 
-    def test_the_header_tells_it(self) -> None:
-        numbers = [found("include/onfi.h", rf"^#define ONFI_VERSION_{part} (\d+)$") for part in ("MAJOR", "MINOR", "PATCH")]
-        self.assertEqual(".".join(numbers), VERSION)
-        self.assertEqual(found("include/onfi.h", r'^#define ONFI_VERSION "(.*)"$'), VERSION)
-        self.assertEqual(int(found("include/onfi.h", r"^#define ONFI_VERSION_NUMBER UINT32_C\((\d+)\)")), NUMBER)
-
-    def test_the_library_tells_it(self) -> None:
-        source = "crates/onfi_c/src/version.rt"
-        numbers = [found(source, rf"^const {part}: u32 = (\d+);$") for part in ("MAJOR", "MINOR", "PATCH")]
-        self.assertEqual(".".join(numbers), VERSION)
-        self.assertEqual(int(found(source, r"ensures \{ result ≡ (\d+) \}")), NUMBER)
-
-    def test_python_tells_it(self) -> None:
-        self.assertEqual(found("python/onfi/__init__.py", r'^__version__ = "(.*)"$'), VERSION)
-        self.assertEqual(found("python/pyproject.toml", r"^version = \{ attr = \"(.*)\" \}$"), "onfi.__version__")
-
-    def test_python_looks_for_the_library_of_its_major_version(self) -> None:
-        self.assertEqual(found("python/onfi/library.py", r'^SONAME = "libonfi\.so\.(\d+)"$'), VERSION.split(".")[0])
-
-    def test_the_program_tells_it(self) -> None:
-        self.assertEqual(found("crates/onfi_console/src/help.rt", r'^pub const VERSION: &str = "(.*)";$'), VERSION)
-
-    def test_the_manual_page_tells_it(self) -> None:
-        self.assertRegex(found("docs/onfi_sim.1", r'^\.TH ONFI_SIM 1 "(.*?)"'), r"^\d{4}-\d\d-\d\d$")
-        self.assertEqual(found("docs/onfi_sim.1", r'^\.TH ONFI_SIM 1 ".*?" "onfi_sim (.*?)"'), VERSION)
-
-    def test_the_changes_begin_with_it(self) -> None:
-        self.assertEqual(found("CHANGELOG.md", r"^## (\S+)"), VERSION)
-
-
-if __name__ == "__main__":
-    unittest.main()
+    def test_each_place_gives_it(self) -> None:
+        for path, pattern, wanted in PLACES:
+            found = re.search(pattern, (support.ROOT / path).read_text(), re.MULTILINE)
+            self.assertEqual(found and found[1], wanted, (path, pattern))

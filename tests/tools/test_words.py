@@ -1,7 +1,5 @@
 """The words of the pages: the glossary, words that go, the length of README, and the sections of the standard that the code cites."""
 
-from __future__ import annotations
-
 import re
 import unittest
 from typing import Dict, List, Tuple
@@ -159,7 +157,3 @@ class Sections(unittest.TestCase):
             for names, crate, module in parts:
                 for name in re.findall(r"`(\w+)`", names):
                     self.assertIn((crate, module, name), known)
-
-
-if __name__ == "__main__":
-    unittest.main()

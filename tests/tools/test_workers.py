@@ -1,7 +1,5 @@
 """tools/bench plan --workers, on a program whose threads do a known amount of work and count it themselves."""
 
-from __future__ import annotations
-
 import subprocess
 import tempfile
 import unittest
@@ -114,7 +112,3 @@ class Workers(unittest.TestCase):
         said = said_of('workers == 4 ? "group 1\\n" : ""', "_exit")
         self.assertEqual(said.returncode, 1)
         self.assertIn("the plans of several workers differ", said.stderr)
-
-
-if __name__ == "__main__":
-    unittest.main()

@@ -1,7 +1,5 @@
 """Scripts of workloads: a worked one, where pages stand, what writes do, and what is refused."""
 
-from __future__ import annotations
-
 import random
 import re
 import tempfile
@@ -183,8 +181,8 @@ class Refused(unittest.TestCase):
         self.assertEqual(made("0,R,0,1\n", "--channels", "5")[0], 2)
 
 
+@unittest.skipUnless(support.program(), "no built program")
 class Runs(unittest.TestCase):
-    @unittest.skipUnless(support.program(), "no built program")
     def test_the_program_runs_the_example(self) -> None:
         """Without moments of arrival: each read gives the line that wrote its page, or FF."""
         script = support.run_tool("make-workload", TRACE, "--device", DEVICE, "--channels", "2", "--unit", "us").stdout
@@ -196,7 +194,6 @@ class Runs(unittest.TestCase):
         first = ["read,*FF", "read,*FF", "done", "done", "read,*FF", "read,*03", "done", "read,*06"]
         self.assertEqual(told, [*first, "read,*FF", "read,*FF", "done", "done", "read,*03", "read,*03"])
 
-    @unittest.skipUnless(support.program(), "no built program")
     def test_requests_arrive_at_their_moments(self) -> None:
         """No reply comes before its request, and of the first one of each channel it is known when it comes."""
         script = support.run_tool("make-workload", TRACE, "--device", DEVICE, "--channels", "2", "--unit", "us").stdout
@@ -220,7 +217,3 @@ class Read(unittest.TestCase):
     def test_the_lines_of_a_trace(self) -> None:
         found = list(read_requests(["time,kind,address,size", "1, w ,2,3", "", "1,Read,4,5"], "ns"))
         self.assertEqual(found, [Request(2, 1, "write", 2, 3), Request(4, 1, "read", 4, 5)])
-
-
-if __name__ == "__main__":
-    unittest.main()

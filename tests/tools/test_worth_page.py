@@ -1,7 +1,5 @@
 """WORTH, and what SPEED and REMEMBER have of the same kind: tables are of the raw rows in bench, and what WORTH says of gains is so."""
 
-from __future__ import annotations
-
 import csv
 import statistics
 import unittest
@@ -9,9 +7,10 @@ from pathlib import Path
 from typing import Dict, List
 
 import support
-from onfi_tools.rolling_tables import ROOM, bound_table, of_bound, room_table, share, spread_table
-from onfi_tools.rolling_use import ALL, Asked, Measured, Rows, measure
+from onfi_tools.rolling_tables import ROOM, bound_table, gain_table, of_bound, pairs_of, room_table, sector_table, share, spread_table
+from onfi_tools.rolling_use import ALL, OF_SECTORS, Asked, Measured, Rows, all_of, measure, six_of
 from onfi_tools.rolling_ways import BASE, WAYS
+from onfi_tools.rolling_ways import OF_SECTORS as WAYS_OF_SECTORS
 
 BENCH = support.ROOT / "bench"
 PAGE = (support.ROOT / "docs/WORTH.md").read_text()
@@ -78,6 +77,34 @@ class Page(unittest.TestCase):
         self.assertIn(f"has {most - 100:.1f} % more than the bound", PAGE)
 
 
+class Sectors(unittest.TestCase):
+    """Reads of 4 KiB beside whole pages: of all configurations without a search, and of six of each workload; by all ways that the rows have."""
+
+    def shown(self, first: str, tables: List[List[str]], least: int) -> None:
+        made = {row: cells for lines in tables for row, cells in table_of(lines).items()}
+        shown = page_table(first)
+        self.assertGreaterEqual(len(shown), least)
+        for row, cells in shown.items():
+            for column, cell in cells.items():
+                self.assertEqual(made[row][column], cell, f"{row}: {column}")
+
+    def test_all_configurations(self) -> None:
+        pages, sectors, made = Rows(BENCH / "rolling.csv"), Rows(BENCH / "sectors.csv"), []
+        ways = [BASE, *(way for way in WAYS if way != BASE and any(way in key and str(ASKED.requests) in key for key in sectors.found))]
+        for workload, page in OF_SECTORS.items():
+            pairs = pairs_of(*(measure(Path("/nowhere"), all_of([name]), ways, ASKED, rows) for name, rows in ((page, pages), (workload, sectors))))
+            made.append(gain_table(pairs, ways))
+        self.shown("over whole pages", made, 2)
+
+    def test_six_configurations(self) -> None:
+        rows, asked, made = Rows(BENCH / "sectors.csv"), ASKED._replace(requests=2000), []
+        ways = [way for way in WAYS_OF_SECTORS if any(way in key and str(asked.requests) in key for key in rows.found)]
+        for workload, page in OF_SECTORS.items():
+            pairs = pairs_of(*(measure(Path("/nowhere"), six_of(name), ways, asked, rows) for name in (page, workload)))
+            made.append(sector_table(pairs, ways))
+        self.shown("requests a second", made, 4)
+
+
 class Stored(unittest.TestCase):
     """The tables whose runs take the library or the program: their cells are those of the stored rows."""
 
@@ -92,7 +119,7 @@ class Stored(unittest.TestCase):
         found = {row["way"]: row for row in rows_of("spread.csv") if row["configurations"] == "216, 2000 nodes"}
         for way, cells in page_table("216 configurations").items():
             row = found[way]
-            made = [row["median"], row["nine_of_ten"], row["worst"], row["best"], f"{row['one_percent_more']}; {row['one_percent_less']}", row["read_99"]]
+            made = [row["median"], row["nine_of_ten"], row["worst"], row["best"], row["read_99"]]
             self.assertEqual(list(cells.values()), made, way)
 
     def test_twelve_configurations(self) -> None:
@@ -132,7 +159,3 @@ class Stored(unittest.TestCase):
             kind = certificate or kind
             row = found[kind.replace("remembered by check --remember", "remembered").replace("plain by", "plain, by"), tokens]
             self.assertEqual([row["instructions_a_token"], row["in_all"]], [instructions, whole], tokens)
-
-
-if __name__ == "__main__":
-    unittest.main()

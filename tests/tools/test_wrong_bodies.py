@@ -1,10 +1,9 @@
 """The tool of wrong bodies: how it reads edits, puts them into rounds, asks the prover and takes its answer. Nothing is proved here."""
 
-from __future__ import annotations
-
 import contextlib
 import io
 import subprocess
+import sys
 import tempfile
 import unittest
 import unittest.mock
@@ -136,11 +135,9 @@ class OfTheKit(unittest.TestCase):
     """A crate 'demo' with edits in must-fail/, which rt ci tries too."""
 
     def setUp(self) -> None:
-        room = tempfile.TemporaryDirectory()
-        self.addCleanup(room.cleanup)
-        self.folder = Path(room.name) / "crates" / "demo"
         self.addCleanup(setattr, TOOL, "ROOT", TOOL.ROOT)
-        TOOL.ROOT = Path(room.name)
+        TOOL.ROOT = support.room_of(self)
+        self.folder = TOOL.ROOT / "crates" / "demo"
         self.write("src/half.rt", HALF.replace("≡ n / 2", "≡ half n"))
         for path, new in (("must-fail/a.edit", "n / 4"), ("wrong-bodies/a.twin", "n / (2 - 0)"), ("wrong-bodies/b.edit", "n / 8")):
             self.write(path, f"file: src/half.rt\nold: n / 2\nnew: {new}\n")
@@ -281,8 +278,8 @@ class Cycles(unittest.TestCase):
 
 def ran(*command: str) -> Tuple[int, int, List[str]]:
     with contextlib.redirect_stdout(io.StringIO()):
-        told: Tuple[int, int, List[str]] = GATE.run([*command])
-        return told
+        passed, failed, said, _ = GATE.run([*command])
+        return passed, failed, said
 
 
 def git(folder: Path, *words: str) -> str:
@@ -298,9 +295,7 @@ class Due(unittest.TestCase):
     EDITS = {"one": "1", "two": "2"}
 
     def setUp(self) -> None:
-        room = tempfile.TemporaryDirectory()
-        self.addCleanup(room.cleanup)
-        self.folder = Path(room.name)
+        self.folder = support.room_of(self)
         git(self.folder, "init", "-q")
         for name in self.NAMES:
             self.write(name, "src/lib.rt", self.SOURCE)
@@ -331,6 +326,9 @@ class Due(unittest.TestCase):
         """The first commit landed as often as there are these, each time with these crates tried whole."""
         TOOL.LANDINGS.write_text("".join(f"{self.first} {it}\n" for it in whole), encoding="utf-8")
 
+    def give_room(self, minutes: int) -> None:
+        TOOL.COSTS.write_text(TOOL.COSTS.read_text(encoding="utf-8").replace("room: 8", f"room: {minutes}"), encoding="utf-8")
+
     def due(self) -> Tuple[Dict[str, List[str]], str]:
         """By crate the edits and twins that are due, and what is said of it."""
         crates = [TOOL.Crate(name) for name in self.NAMES]
@@ -353,7 +351,7 @@ class Due(unittest.TestCase):
         self.assertIn("due: a: 0 of 4, since nothing that they rest on changed\n", said)
         self.assertIn("due: c: all 4, in its turn\n", said)
         self.assertIn("left for want of room: e, 4 minutes; it was tried whole 3 landings ago", said)
-        self.assertIn("due: 2 minutes of what changed, 6 of crates in their turn; 8 is the room\nwhole: b c\n", said)
+        self.assertIn("due: 3 minutes of what changed, 5 of crates in their turn; 8 is the room\nwhole: b c\n", said)
         self.land("a b c d e f", "a b", "d f")
         due, said = self.due()
         self.assertEqual(due, {"b": ["two.edit", "two.twin"], "c": self.ALL})
@@ -391,23 +389,41 @@ class Due(unittest.TestCase):
         self.land("c", "a b d e f")
         self.assertEqual(self.due()[0]["e"], ["three.edit"])
 
-    def test_what_changed_is_due_where_there_is_no_room_and_one_crate_whole(self) -> None:
-        for name in "abde":
+    def test_what_waits_for_room_comes_first_in_the_next_landing(self) -> None:
+        for name in "abc":
             self.write(name, "src/lib.rt", self.SOURCE.replace("-> u8 {", "-> u8\n    ensures { result ≡ 2 }\n{"))
+        self.land("a b c d", "e f")
+        due, said = self.due()
+        self.assertEqual(due, dict.fromkeys("ab", self.ALL))
+        self.assertIn("due: c: it waits for want of room\n", said)
+        self.assertIn("due: 8 minutes of what changed, 0 of crates in their turn; 8 is the room\nwhole: a b\nwaiting: c\n", said)
+        self.commit()
+        landed = git(self.folder, "rev-parse", "HEAD")
+        TOOL.LANDINGS.write_text(TOOL.LANDINGS.read_text(encoding="utf-8") + f"{landed} a b -c\n", encoding="utf-8")
+        self.write("a", "src/lib.rt", self.SOURCE.replace("-> u8 {", "-> u8\n    ensures { result ≡ 3 }\n{"))
+        self.give_room(4)
+        due, said = self.due()
+        self.assertEqual(due, {"c": self.ALL})
+        self.assertIn("\nwhole: c\nwaiting: a\n", said)
+
+    def test_a_crate_is_tried_where_there_is_no_room(self) -> None:
+        for name in "ab":
+            self.write(name, "src/lib.rt", self.SOURCE.replace("-> u8 {", "-> u8\n    ensures { result ≡ 2 }\n{"))
+        self.give_room(1)
         self.land("")
         due, said = self.due()
-        self.assertEqual(due, dict.fromkeys("abcde", self.ALL))
-        self.assertIn("left for want of room: f, 4 minutes; no landing tried it whole\n", said)
-        self.assertIn("\nwhole: a b c d e\n", said)
+        self.assertEqual(due, {"a": self.ALL})
+        self.assertIn("\nwhole: a\nwaiting: b\n", said)
 
     def test_a_landing_is_added_with_the_crates_that_its_own_tool_names(self) -> None:
-        tool = "#!/usr/bin/env python3\nimport sys\nprint('due: a: all 4, in its turn')\nprint('whole: a c' if sys.argv[1:] == ['--due', '--list'] else 'no')\n"
+        told = "print('waiting: d\\nwhole: a c' if sys.argv[1:] == ['--due', '--list'] else 'no')"
+        tool = f"#!/usr/bin/env python3\nimport sys\nprint('due: a: all 4, in its turn')\n{told}\n"
         (self.folder / "tools").mkdir()
         (self.folder / "tools" / "wrong-bodies").write_text(tool, encoding="utf-8")
         self.commit()
         second = git(self.folder, "rev-parse", "HEAD")
         self.assertEqual([self.added(it) for it in ("HEAD", "HEAD", self.first, "gone")], [0, 1, 0, 1])
-        self.assertEqual(TOOL.LANDINGS.read_text(encoding="utf-8"), f"{second} a c\n{self.first}\n")
+        self.assertEqual(TOOL.LANDINGS.read_text(encoding="utf-8"), f"{second} a c -d\n{self.first}\n")
         self.assertEqual(git(self.folder, "worktree", "list").count("\n"), 0)
 
     def added(self, commit: str) -> int:
@@ -485,11 +501,17 @@ class Gate(unittest.TestCase):
         for line in ("rt: must-fail a/b.edit: refused, as it must be: note: src/a.rt:1:1", "rt: ok; 2 refused, 1 of them only by a limit, 1 bad"):
             self.assertEqual(ran("printf", f"{line}\n3 passed, 0 failed"), (3, 0, []))
 
+    def test_the_last_parts_are_added_to_those_that_run_alone(self) -> None:
+        said = io.StringIO()
+        parts = [[("a", ["echo", "1 passed, 0 failed"])], [("b", ["sh", "-c", "echo FAILED: x; echo 2 passed, 1 failed"]), ("c", ["echo", "rt: y proved"])]]
+        with unittest.mock.patch.multiple(GATE, PARTS=parts[0], SIDE_BY_SIDE=parts[1], remove_what_is_built=list, ask_for_kit=list):
+            with unittest.mock.patch.object(sys, "argv", ["gate"]), contextlib.redirect_stdout(said):
+                self.assertEqual(GATE.main(), 1)
+        lines = said.getvalue().splitlines()
+        self.assertEqual((lines[-1], lines[-3]), ("3 passed, 2 failed", "b: FAILED: x"))
+        self.assertIn("[0 min] rt: y proved", lines)
+
     def test_libraries_are_built_before_wrong_bodies_take_them(self) -> None:
-        titles = [title for title, _ in GATE.PARTS]
+        titles = [title for title, _ in [*GATE.PARTS, *GATE.SIDE_BY_SIDE]]
         order = ["proofs, tests and the stored run", "libraries for C and Python", "wrong bodies"]
         self.assertEqual(sorted(order, key=titles.index), order)
-
-
-if __name__ == "__main__":
-    unittest.main()

@@ -1,7 +1,5 @@
 """A program run under valgrind's callgrind, with the instructions that it took."""
 
-from __future__ import annotations
-
 import os
 import subprocess
 from pathlib import Path

@@ -1,7 +1,5 @@
 """The public calls and types of a crate, with the file that each stands in."""
 
-from __future__ import annotations
-
 import re
 from pathlib import Path
 from typing import Dict, Iterator, List, NamedTuple

@@ -3,8 +3,6 @@
 Their README has the format.
 """
 
-from __future__ import annotations
-
 import pathlib
 import re
 import shlex
@@ -17,6 +15,11 @@ FORMS = (["+++"], ["===", "---"], ["===", "---", "!!!"])
 ESCAPE = re.compile(rb"\\(x.{0,2}|[^x])")
 ESCAPED = {b"\n": b"", b"n": b"\n", b"r": b"\r", b"t": b"\t", b"0": b"\0", b"\\": b"\\"}
 ESCAPED.update((b"x%02X" % byte, bytes([byte])) for byte in range(256))
+
+# Whole messages: why an answer is a refusal, and what was expected.
+MESSAGES = re.compile(rb"(onfi_sim: [ -~]+\n(  (expected|did you mean)\b[ -~]+\n)?)*")
+# What of a page a plan doesn't look at.
+CAUTIONS = re.compile(rb"(onfi_sim: [ -~]+ ('strict,1', or 'strict,0' where they aren't|it is planned all the same)\n)*")
 
 
 class Part(NamedTuple):
@@ -149,3 +152,8 @@ def read_cases(words: List[str], folder: pathlib.Path = CASES) -> List[Case]:
     cases = [case for path in sorted(folder.glob("*.texts")) for case in read_page(path, shared)]
     cases += [case for path in sorted(folder.glob("*.cases")) for case in read_page(path, dict(shared))]
     return [case for case in cases if not words or any(word in case.place or word in case.name for word in words)]
+
+
+def may_be_said(status: int, errors: bytes) -> bool:
+    """Whether this may stand beside an answer with that status: cautions beside each, other messages only beside a refusal."""
+    return (MESSAGES if status else CAUTIONS).fullmatch(errors) is not None

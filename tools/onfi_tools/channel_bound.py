@@ -28,8 +28,6 @@ back for that, not knowing which will come, of those that come at most `found_ma
 array. That much is taken from the part of each.
 """
 
-from __future__ import annotations
-
 import heapq
 import itertools
 from collections import Counter, deque

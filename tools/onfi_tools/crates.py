@@ -1,7 +1,5 @@
 """What crates.txt says: the crates, each after those that it stands on."""
 
-from __future__ import annotations
-
 from pathlib import Path
 from typing import Dict, List
 

@@ -1,7 +1,5 @@
 """Parameter pages from named fields and back, and the phase lengths that a page and a timing sheet give, with strobes or without."""
 
-from __future__ import annotations
-
 from typing import Dict, Iterator, List, Mapping, NamedTuple, Optional, Tuple
 
 KINDS = ("read", "program", "erase")

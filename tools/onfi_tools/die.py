@@ -1,27 +1,31 @@
 """What a die answers: the contents of blocks, as the definitions of the simulated chip give them."""
 
-from __future__ import annotations
-
-from typing import Dict, FrozenSet, NamedTuple, Optional
+from typing import Dict, FrozenSet, NamedTuple
 
 ERASED = "erased"
 TORN = "torn"
 
 
 class Device(NamedTuple):
-    """What of a device its answers depend on."""
+    """What of a device its answers depend on; sectors of 0 bytes are none."""
 
     pages: int
     page_bytes: int
     any_page_order: bool
+    sector_bytes: int = 0
 
 
 class Operation(NamedTuple):
-    """A request at a page; an erase names page 0, a program brings a page of bytes."""
+    """A request at a page; an erase names page 0, a program brings a page of bytes.
+
+    A read gives so many sectors from that one on; of none, the page.
+    """
 
     kind: str
     page: int
     content: bytes = b""
+    first: int = 0
+    sectors: int = 0
 
 
 class Block:
@@ -46,7 +50,7 @@ class Block:
     def apply(self, asked: Operation) -> str:
         """Does the operation; its answer as a report spells it."""
         if asked.kind == "read":
-            return "read," + spelled(self.bytes_of(asked.page))
+            return "read," + spelled(self.output_of(asked))
         number = self.done
         self.done += 1
         if asked.kind == "erase":
@@ -66,6 +70,11 @@ class Block:
             return held
         return (b"\xff" if held == ERASED else b"\0") * self.device.page_bytes
 
+    def output_of(self, asked: Operation) -> bytes:
+        """What a read gives."""
+        held, size = self.bytes_of(asked.page), self.device.sector_bytes
+        return held[asked.first * size : (asked.first + asked.sectors) * size] if asked.sectors else held
+
     def takes_program(self, number: int) -> bool:
         """Whether the page is erased and, where pages go in order, each higher one is."""
         higher = [] if self.device.any_page_order else range(number + 1, self.device.pages)
@@ -75,20 +84,3 @@ class Block:
 def spelled(content: bytes) -> str:
     """Bytes as a report has them: `*HH` where all are equal."""
     return f"*{content[0]:02X}" if len(set(content)) == 1 else content.hex().upper()
-
-
-class Line(NamedTuple):
-    """A line `reply` of a report."""
-
-    host: int
-    channel: int
-    serial: int
-    answer: str
-
-
-def line_of(text: str) -> Optional[Line]:
-    """A line `reply`; None where it is another."""
-    words = text.split(",", 4)
-    if words[0] != "reply" or len(words) != 5 or not all(word.isdigit() for word in words[1:4]):
-        return None
-    return Line(int(words[1]), int(words[2]), int(words[3]), words[4])

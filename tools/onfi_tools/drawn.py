@@ -4,13 +4,11 @@ Measures name the seed and the set that their figures are of, so the order in wh
 sets of SETS and for `long_search`.
 """
 
-from __future__ import annotations
-
 import random
 from typing import Callable, Dict, List, Sequence, Tuple
 
+from onfi_tools.channel import Device, Group, Lun, Want, script_of
 from onfi_tools.device import KINDS, Spans, spans_of
-from onfi_tools.policies import Device, Want, script_of
 
 REQUESTS = 8
 SHEET = {"tADL": 400, "tWHR": 80, "tRHW": 100, "tWB": 100, "tPLRBSY": 500, "tPLPBSY": 500, "tPLEBSY": 500}
@@ -38,6 +36,11 @@ def drawn_device(rng: random.Random, luns: int) -> Device:
     return Device(luns, rng.randint(0, 2), rng.random() < 0.5, rng.random() < 0.5, drawn_lengths(rng))
 
 
+def device_of(bits: int, page: Dict[str, int], cycle: int, luns: int) -> Device:
+    """A device of these plane address bits, fields of a page, and ns a byte and cycle."""
+    return Device(luns, bits, True, True, spans_of(page, {**SHEET, "tWC": cycle, "tRC": cycle}))
+
+
 def drawn_wants(rng: random.Random, luns: int, weights: Sequence[int], count: int = REQUESTS, blocks: int = 16) -> List[Want]:
     wants = []
     for number in range(count):
@@ -55,7 +58,7 @@ def running_row(rng: random.Random, device: Device, lun: int, most: int) -> str:
     blocks = [rng.randrange(4) * planes + plane for plane in sorted(rng.sample(range(planes), size))]
     ready = rng.randint(0, device.lengths[kind].array)
     page = 0 if kind == "erase" else rng.randrange(2)
-    return ",".join(map(str, ["running", lun, rng.randint(1, 2 * size - 1), ready, kind, page, *blocks]))
+    return Lun(ready, Group(kind, page, tuple(blocks), rng.randint(1, 2 * size - 1))).row(lun)
 
 
 def with_running(rng: random.Random, device: Device, wants: List[Want], part: float, most: int) -> str:
@@ -71,8 +74,7 @@ def mixed(rng: random.Random, luns: int, weights: Sequence[int]) -> str:
 
 def built_device(rng: random.Random) -> str:
     """A batch on one of five devices as they are built."""
-    bits, page, cycle = rng.choice(DEVICES)
-    device = Device(rng.choice((4, 8)), bits, True, True, spans_of(page, {**SHEET, "tWC": cycle, "tRC": cycle}))
+    device = device_of(*rng.choice(DEVICES), rng.choice((4, 8)))
     return with_running(rng, device, drawn_wants(rng, device.luns, MIX), 0.5, 4)
 
 

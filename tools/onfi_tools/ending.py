@@ -1,12 +1,10 @@
 """How a tool ends: by its status, and without a word where nobody reads any more what it prints."""
 
-from __future__ import annotations
-
 import os
 import select
 import sys
 from pathlib import Path
-from typing import Callable, NoReturn, Optional, Union
+from typing import Callable, NoReturn, Optional, Type, Union
 
 # What a shell reports of a program that the closed pipe itself ended.
 CLOSED = 141
@@ -14,15 +12,19 @@ CLOSED = 141
 Status = Union[int, str, None]
 
 
-def end(main: Callable[[], Optional[int]]) -> NoReturn:
-    """Runs a tool, and ends with its status: 141 where the pipe is closed that it prints to, 1 where the last of it can't be written."""
+def end(main: Callable[[], Optional[int]], *faults: Type[Exception]) -> NoReturn:
+    """Runs a tool, and ends with its status: 141 where the pipe is closed that it prints to, 1 where the last of it can't be written, and
+    where it meets one of these faults, of which a line is said."""
+    name = Path(main.__code__.co_filename).name
     try:
         status = status_of(main)
     except BrokenPipeError:
         if not nobody_reads():
             raise
         status = CLOSED
-    sys.exit(written(status, Path(main.__code__.co_filename).name))
+    except faults as fault:
+        status = f"{name}: {fault}"
+    sys.exit(written(status, name))
 
 
 def status_of(main: Callable[[], Optional[int]]) -> Status:

@@ -1,7 +1,5 @@
 """The functions of a source file, as rt fmt lays them out, by the names that the prover gives them."""
 
-from __future__ import annotations
-
 import re
 from dataclasses import dataclass
 from pathlib import PurePosixPath

@@ -1,7 +1,5 @@
 """Where the Rattle kit stands: above the folder in PATH that has its `rt`."""
 
-from __future__ import annotations
-
 import os
 import shutil
 import sys

@@ -1,7 +1,5 @@
 """A drawing of what stands on what: each thing in a layer above all that it stands on, lines that run round other things."""
 
-from __future__ import annotations
-
 import itertools
 import statistics
 from typing import Dict, FrozenSet, Iterable, List, Mapping, NamedTuple, Sequence, Tuple
@@ -144,7 +142,3 @@ class Layout:
 
     def boxes_in_order(self) -> Iterable[str]:
         return (name for row in self.rows for name in row if name in self.boxes)
-
-
-def drawing(below: Below) -> Drawing:
-    return Layout(below).drawing()

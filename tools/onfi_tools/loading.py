@@ -1,7 +1,5 @@
 """Tools that are Python files without an ending, as modules."""
 
-from __future__ import annotations
-
 import importlib.machinery
 import importlib.util
 import sys

@@ -8,8 +8,6 @@ place holds what it holds on a machine of 64 bits whose addresses are below 2^32
 than the eight bytes by which malloc aligns there.
 """
 
-from __future__ import annotations
-
 import math
 import re
 from typing import Callable, Dict, Iterable, Iterator, List, Match, NamedTuple, Optional, Pattern, Tuple

@@ -1,7 +1,5 @@
 """The calls of onfi.h for processors of 32 bits, as C over the same calls with counts of 64 bits, which tools/retarget makes."""
 
-from __future__ import annotations
-
 import re
 from typing import Dict, List, NamedTuple
 

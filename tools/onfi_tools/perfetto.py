@@ -1,7 +1,5 @@
 """A trace in the Trace Event Format, the form that the viewers of Perfetto and Chrome read."""
 
-from __future__ import annotations
-
 import json
 from typing import Any, Dict, List, Mapping, Optional
 

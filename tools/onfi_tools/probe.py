@@ -1,7 +1,5 @@
 """A program of a few files over crates of this repository, run unproved in a folder apart."""
 
-from __future__ import annotations
-
 import shutil
 import subprocess
 from pathlib import Path

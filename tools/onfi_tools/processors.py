@@ -1,7 +1,5 @@
 """Processors for which the library is made of the kit's LLVM module for x86-64 (tools/retarget)."""
 
-from __future__ import annotations
-
 from typing import Dict, List, NamedTuple, Sequence, Tuple
 
 ARM = "e-m:e-p:32:32-Fi8-i64:64-v128:64:128-a:0:32-n32-S64"

@@ -1,7 +1,5 @@
 """Figures of channels in rolling use as tables."""
 
-from __future__ import annotations
-
 import statistics
 from typing import Callable, Dict, List, Sequence, Tuple
 
@@ -20,13 +18,7 @@ PART_TITLES: List[Callable[[Configuration], str]] = [
     lambda of: f"{of.depth} outstanding",
 ]
 
-
 Cell = Callable[[Measured, str], str]
-
-
-def cells_table(first: str, measured: Sequence[Measured], ways: Sequence[str], cell: Cell) -> List[str]:
-    rows = [[title_of(one.configuration), *(cell(one, way) for way in ways)] for one in measured]
-    return table([first, *(title(way) for way in ways)], rows)
 
 
 def title_of(of: Configuration) -> str:
@@ -45,23 +37,14 @@ def of_bound(one: Measured, way: str) -> float:
     return 100 * one.by_way[way]["rate"] / one.by_way[way]["bound"]
 
 
-def of_bound_cell(one: Measured, way: str) -> str:
-    return f"{of_bound(one, way):.0f}"
-
-
 def share_cell(one: Measured, way: str) -> str:
     figures = one.by_way[way]
     return f"{figures['rate']:,.0f}; {100 * figures['bus']:.0f} %" if way == BASE else f"{share(one, way):.0f}"
 
 
-def latency_cell(kind: str) -> Cell:
-    def cell(one: Measured, way: str) -> str:
-        figures = one.by_way[way]
-        if not figures[f"{kind}s"]:
-            return ""
-        return " / ".join(f"{figures[f'{kind}_{which}']:,.0f}" for which in ("mean", "99", "999"))
-
-    return cell
+def latency_cell(kind: str, *which: str) -> Cell:
+    """Latencies of a kind of requests; empty where there are none."""
+    return lambda one, way: " / ".join(f"{one.by_way[way][f'{kind}_{it}']:,.0f}" for it in which) if one.by_way[way][f"{kind}s"] else ""
 
 
 def planning_cell(one: Measured, way: str) -> str:
@@ -69,9 +52,10 @@ def planning_cell(one: Measured, way: str) -> str:
     return f"{figures['planning_us']:,.0f} / {figures['planning_longest_us'] / 1000:,.0f}; {figures['over']:.0f} of {figures['plans']:,.0f}"
 
 
-def erasing_cell(one: Measured, way: str) -> str:
-    """How many LUNs erase in the mean while any does."""
-    return f"{one.by_way[way]['erasing']:.1f}"
+def cells_table(first: str, measured: Sequence[Measured], ways: Sequence[str], cell: Cell) -> List[str]:
+    """Configurations one by one; nothing where there are none, or no ways."""
+    rows = [[title_of(one.configuration), *(cell(one, way) for way in ways)] for one in measured]
+    return table([first, *map(title, ways)], rows) if rows and ways else []
 
 
 def nine_of_ten(numbers: Sequence[float]) -> float:
@@ -119,39 +103,46 @@ def room_table(measured: Sequence[Measured], ways: Sequence[str]) -> List[str]:
     return table([f"on the {len(own)} with at most {ROOM} % of the bound", *columns], rows)
 
 
-def rate_cell(one: Measured, way: str) -> str:
-    figures = one.by_way[way]
-    return f"{figures['rate']:,.0f}; {figures['read_99']:,.0f}"
+Pair = Tuple[Measured, Measured]
 
 
-def loop_cell(one: Measured, way: str) -> str:
-    figures = one.by_way[way]
-    return "; ".join(f"{figures[f'{kind}_mean']:,.0f} / {figures[f'{kind}_99']:,.0f}" for kind in ("read", "program"))
+def pairs_of(pages: Sequence[Measured], sectors: Sequence[Measured]) -> List[Pair]:
+    """The same configurations with reads of whole pages and of one sector of four."""
+    return list(zip(pages, sectors))
 
 
-def twelve_tables(twelve: Sequence[Measured], ways: Sequence[str], some: Sequence[str]) -> List[str]:
-    """The twelve configurations one by one: throughput, latencies, plans, erases."""
-    plans = [way for way in ways if way in PLANS]
-    planning = cells_table("a plan, us in the mean / ms at most; over", twelve, plans, planning_cell) + [""] if plans else []
-    return [
-        *cells_table("throughput, % of reads first, all", twelve, ways, share_cell), "",
-        *cells_table("throughput, % of what no scheduler passes", twelve, ways, of_bound_cell), "",
-        *cells_table("reads, us: mean / 99 % / 99.9 %", twelve, some, latency_cell("read")), "",
-        *cells_table("programs, us: mean / 99 % / 99.9 %", twelve, some, latency_cell("program")), "",
-        *planning,
-        *cells_table("LUNs that erase at once", [one for one in twelve if one.by_way[BASE]["erasing"]], ways, erasing_cell),
-    ]
+def gain(pair: Pair, way: str, name: str = "rate") -> float:
+    """A figure with reads of a sector over that with reads of pages."""
+    page, sector = pair
+    return sector.by_way[way][name] / page.by_way[way][name]
 
 
-def quick_tables(parts: Sequence[Sequence[Measured]], ways: Sequence[str], some: Sequence[str]) -> List[str]:
-    twelve, early, loops = parts
-    return [
-        *twelve_tables(twelve, ways, some), "",
-        *spread_table("over the twelve", twelve, ways), "",
-        *room_table(twelve, ways), "",
-        *cells_table("requests a second; reads' 99 %, us", early, some, rate_cell), "",
-        *cells_table("reads' mean / 99 %; programs', us", loops, some, loop_cell),
-    ]
+def sector_row(pair: Pair, ways: Sequence[str]) -> List[str]:
+    page, sector = pair
+    rates = [f"{one.by_way[BASE]['rate']:,.0f}" for one in pair]
+    shares = [f"{share(page, way):.0f}; {share(sector, way):.0f}" for way in ways if way != BASE]
+    return [title_of(sector.configuration), *rates, f"{gain(pair, BASE):.2f}", f"{of_bound(sector, BASE):.0f}", *shares]
+
+
+def sector_table(pairs: Sequence[Pair], ways: Sequence[str]) -> List[str]:
+    """What reads of a sector give by reads first over all; of the other ways their throughput in % of its, of pages and of sectors."""
+    columns = ["a page", "a sector", "ratio", "% of the bound", *(title(way) for way in ways if way != BASE)]
+    return table(["requests a second", *columns], [sector_row(pair, ways) for pair in pairs])
+
+
+def gain_row(pairs: Sequence[Pair], way: str) -> List[str]:
+    found, latencies = [gain(pair, way) for pair in pairs], [gain(pair, way, "read_mean") for pair in pairs]
+    sectors = [sector for _, sector in pairs]
+    shares = [share(one, way) for one in sectors]
+    numbers = (min(found), statistics.median(found), max(found), statistics.median(latencies))
+    own = f"{statistics.median(shares):.1f}; {min(shares):.1f}; {max(shares):.1f}"
+    return [f"{WORKLOADS[sectors[0].configuration.workload]}, {title(way)}", *(f"{number:.2f}" for number in numbers), own, bound_cell(sectors, way)]
+
+
+def gain_table(pairs: Sequence[Pair], ways: Sequence[str]) -> List[str]:
+    """Of one workload: how much more requests a second reads of a sector give than reads of pages, and how much later they are answered."""
+    columns = ["least", "median", "most", "reads' mean latency, median", "% of reads first, all: median; worst; best", "of the bound: median; least"]
+    return table(["over whole pages", *columns], [gain_row(pairs, way) for way in ways])
 
 
 def parts_of(measured: Sequence[Measured]) -> List[Tuple[str, List[Measured]]]:
@@ -175,17 +166,36 @@ def bound_table(measured: Sequence[Measured]) -> List[str]:
     return table([f"{title(BASE)}, % of the bound", *columns], [bound_row(name, own) for name, own in parts_of(measured)])
 
 
-def part_row(name: str, own: Sequence[Measured], ways: Sequence[str]) -> List[str]:
-    return [name, *(f"{statistics.median(share(one, way) for one in own):.0f}" for way in ways)]
+def apart(*tables: List[str]) -> List[str]:
+    """The tables that have rows, an empty line between them."""
+    return "\n\n".join("\n".join(lines) for lines in tables if lines).splitlines()
+
+
+def twelve_tables(twelve: Sequence[Measured], ways: Sequence[str], some: Sequence[str]) -> List[List[str]]:
+    """The twelve configurations one by one: throughput, latencies, plans, erases."""
+    return [
+        cells_table("throughput, % of reads first, all", twelve, ways, share_cell),
+        cells_table("throughput, % of what no scheduler passes", twelve, ways, lambda one, way: f"{of_bound(one, way):.0f}"),
+        *(cells_table(f"{kind}s, us: mean / 99 % / 99.9 %", twelve, some, latency_cell(kind, "mean", "99", "999")) for kind in ("read", "program")),
+        cells_table("a plan, us in the mean / ms at most; over", twelve, [way for way in ways if way in PLANS], planning_cell),
+        cells_table("LUNs that erase at once", [one for one in twelve if one.by_way[BASE]["erasing"]], ways,
+                    lambda one, way: f"{one.by_way[way]['erasing']:.1f}"),
+    ]
+
+
+def quick_tables(parts: Sequence[Sequence[Measured]], ways: Sequence[str], some: Sequence[str]) -> List[str]:
+    """The twelve; early arrays and open loops, one by one."""
+    twelve, early, loops = parts
+    reads, programs = (latency_cell(kind, "mean", "99") for kind in ("read", "program"))
+    return apart(
+        *twelve_tables(twelve, ways, some), spread_table("over the twelve", twelve, ways), room_table(twelve, ways),
+        cells_table("requests a second; reads' 99 %, us", early, some, lambda one, way: "{rate:,.0f}; {read_99:,.0f}".format(**one.by_way[way])),
+        cells_table("reads' mean / 99 %; programs', us", loops, some, lambda one, way: f"{reads(one, way)}; {programs(one, way)}"))
 
 
 def whole_tables(measured: Sequence[Measured], ways: Sequence[str]) -> List[str]:
     """All configurations, and what each device, workload, bus and number of LUNs has of it; the twelve one by one."""
     twelve = [one for of in TWELVE for one in measured if one.configuration._replace(array=of.array) == of]
-    return [
-        *spread_table("throughput, % of reads first, all", measured, ways), "",
-        *room_table(measured, ways), "",
-        *bound_table(measured), "",
-        *table(["its median", *(title(way) for way in ways)], [part_row(name, own, ways) for name, own in parts_of(measured)]), "",
-        *twelve_tables(twelve, ways, ways),
-    ]
+    medians = [[name, *(f"{statistics.median(share(one, way) for one in own):.0f}" for way in ways)] for name, own in parts_of(measured)]
+    return apart(spread_table("throughput, % of reads first, all", measured, ways), room_table(measured, ways), bound_table(measured),
+                 table(["its median", *map(title, ways)], medians), *twelve_tables(twelve, ways, ways))

@@ -1,7 +1,5 @@
 """Channels in rolling use: the simulator built, and its configurations run by all ways."""
 
-from __future__ import annotations
-
 import csv
 import itertools
 import os
@@ -27,7 +25,9 @@ WITH_ERASES = 10_000
 
 # The workloads of the 216 configurations; those of others are asked for by their names.
 OF_ALL = {"reads": "random reads", "mixed": "70 % reads", "sequential": "sequential programs", "erases": "with erases"}
-WORKLOADS = {**OF_ALL, "random-programs": "random programs"}
+WORKLOADS = {**OF_ALL, "random-programs": "random programs", "reads-4k": "random reads of 4 KiB", "mixed-4k": "70 % reads of 4 KiB"}
+# Those whose reads put out one sector of four, each with the one whose reads put out their pages.
+OF_SECTORS = {"reads-4k": "reads", "mixed-4k": "mixed"}
 
 Figures = Dict[str, float]
 
@@ -127,6 +127,14 @@ def all_of(workloads: Iterable[str]) -> List[Configuration]:
 
 
 ALL = all_of(OF_ALL)
+# Device, bus, LUNs and requests outstanding of those in which sectors are measured beside pages.
+SIX = [("tlc", 2, 8, 64), ("tlc", 2, 4, 16), ("tlc", 0.833, 8, 64), ("tlc", 0.833, 4, 16), ("qlc", 2, 8, 64), ("slc", 2, 8, 64)]
+
+
+def six_of(workload: str) -> List[Configuration]:
+    return [Configuration(device, workload, byte, luns, depth) for device, byte, luns, depth in SIX]
+
+
 ARRAYS = ("0.7-0.9", "0.4-0.7")
 LOADS = (0.04, 0.4, 0.7)
 

@@ -1,7 +1,5 @@
 """The ways of the simulator of channels in rolling use, each with its title and whether it searches."""
 
-from __future__ import annotations
-
 from typing import Dict, NamedTuple
 
 
@@ -45,6 +43,8 @@ SETTINGS = ["plan-near-by-lun", "plan-near-reads-first", "plan-near-heavy-reads"
 # The ways of the short measurement.
 QUICK = [*GREEDY, "plan", "plan-early", "plan-by-lun", *SETTINGS, *WITHOUT_SEARCH]
 SOME = ["rfirst:8", BASE, "plan", *SETTINGS, *WITHOUT_SEARCH]
+# The ways by which sectors are measured beside pages.
+OF_SECTORS = [BASE, "steady", "rule-whole-groups", "plan", "plan-near-by-lun", "plan-near-one-kind"]
 
 
 def title(way: str) -> str:

@@ -1,7 +1,5 @@
 """The phase lengths of a script, of either form; the program says what is wrong with a script, this reader doesn't."""
 
-from __future__ import annotations
-
 import csv
 from typing import Dict, List, Mapping
 

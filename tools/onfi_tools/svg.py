@@ -1,7 +1,5 @@
 """A trace as a drawing: one row for the bus, one for each LUN, over an axis in ns."""
 
-from __future__ import annotations
-
 import xml.etree.ElementTree as ET
 from typing import Dict, Iterator, List, Mapping, NamedTuple, Optional, Tuple
 
@@ -80,9 +78,7 @@ def add_patterns(root: ET.Element) -> None:
         ET.SubElement(pattern, shape, drawn)
 
 
-def add_rows(
-    root: ET.Element, scale: Scale, bus: List[Stretch], rows: Mapping[int, List[Stretch]], labels: bool
-) -> int:
+def add_rows(root: ET.Element, scale: Scale, bus: List[Stretch], rows: Mapping[int, List[Stretch]], labels: bool) -> int:
     """Draws the bus and each LUN; gives the height so far."""
     top = TOP
     add_row(root, scale, "bus", top, bus, owners(scale, bus))
@@ -170,9 +166,7 @@ def base_of(label: Label, top: int) -> int:
     return top - TIER * label.tier + TIER - 5
 
 
-def add_text(
-    group: ET.Element, x: float, y: int, text: str, anchor: str, fill: str = INK, weight: str = "normal"
-) -> ET.Element:
+def add_text(group: ET.Element, x: float, y: int, text: str, anchor: str, fill: str = INK, weight: str = "normal") -> ET.Element:
     place = {"x": f"{x:.2f}", "y": str(y), "text-anchor": anchor, "fill": fill}
     element = ET.SubElement(group, "text", {**place, **({} if weight == "normal" else {"font-weight": weight})})
     element.text = text

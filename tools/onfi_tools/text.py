@@ -1,8 +1,6 @@
 """A trace as text: one row for the bus, one for each LUN."""
 
-from __future__ import annotations
-
-from typing import Dict, List, NamedTuple, Optional, Tuple
+from typing import List, NamedTuple, Optional
 
 from onfi_tools.trace import Phase, Window, by_lun, whole
 
@@ -45,20 +43,13 @@ def bus_row(phases: List[Phase], columns: Columns) -> List[str]:
     return row
 
 
-def rows_of(phases: List[Phase], columns: Columns) -> Tuple[List[str], Dict[int, List[str]]]:
-    """The bus row and the row of each LUN."""
-    luns = {lun: row_of(own, columns) for lun, own in by_lun(phases).items()}
-    return bus_row(phases, columns), luns
-
-
 def picture(phases: List[Phase], columns: int, window: Optional[Window] = None) -> str:
     """The lines of the picture, from 0 to the finish or of a window; nothing where there is no phase."""
     if not phases:
         return ""
     window = window or whole(phases)
-    bus, luns = rows_of(phases, Columns(window, columns))
-    lines = ["bus    " + "".join(bus).rstrip()]
-    lines += [f"LUN {lun}  " + "".join(row).rstrip() for lun, row in luns.items()]
-    begin = str(window.begin)
+    within, begin = Columns(window, columns), str(window.begin)
+    rows = {"bus": bus_row(phases, within), **{f"LUN {lun}": row_of(own, within) for lun, own in by_lun(phases).items()}}
+    lines = [f"{name:7}{''.join(row)}" for name, row in rows.items()]
     lines.append(f"       {begin}" + f" {window.end} ns".rjust(columns - len(begin)))
     return "\n".join(line.rstrip() for line in lines) + "\n"

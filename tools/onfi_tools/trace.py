@@ -1,7 +1,5 @@
 """Traces of `onfi_sim plan --trace` or `--requests`: their phases, and what each LUN does from one to the next."""
 
-from __future__ import annotations
-
 import enum
 from typing import Dict, Iterable, List, Mapping, NamedTuple, Optional, Sequence, TypeVar
 
@@ -21,9 +19,6 @@ class Part(enum.Enum):
     OUTPUT = "data output"
     STATUS = "status"
     BEFORE = "runs since before"
-
-
-ON_THE_BUS = (Part.COMMAND, Part.OUTPUT, Part.STATUS)
 
 
 class Phase(NamedTuple):

@@ -1,7 +1,5 @@
 """A trace of a drive's requests as operations of a run: which page of which chip each byte stands on, and what a write does."""
 
-from __future__ import annotations
-
 import csv
 from decimal import Decimal, InvalidOperation
 from typing import Dict, Iterable, Iterator, List, NamedTuple, Optional, Tuple

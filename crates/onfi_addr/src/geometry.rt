@@ -36,6 +36,8 @@ pub struct Geometry {
     pub data_bytes: u16,
     /// Spare bytes of a page; with the data bytes at most 65,535.
     pub spare_bytes: u16,
+    /// Bytes of a sector, of which a read may put out as many as lie on a page; 0 where pages are read as a whole alone.
+    pub sector_bytes: u16,
     /// Whether the pages of a block may be programmed in any order (features, bit 2).
     pub any_page_order: bool,
     /// Whether several planes may program or erase at the same time (features, bit 3).
@@ -67,11 +69,12 @@ impl Geometry {
     ghost use Rattle.onfi_addr.specs.Faults.{IsFirstFault, NoFault};
     ghost use Rattle.onfi_addr.specs.Layout.{IsGeometryOf};
     ghost use Rattle.onfi_addr.specs.Limits.{IsWithinLimits};
+    ghost use Rattle.onfi_addr.specs.Sectors.{IsSectorSize};
     ghost use Rattle.onfi_addr.specs.Rows.{IsInRange, page_bytes_of, plane_of_block, row_of};
     ghost use Rattle.onfi_addr.specs.declared.fault.GeometryFault.{GeometryFault};
     ghost use Rattle.onfi_addr.specs.declared.place.Place.{Place};
 
-    /// The geometry of a device by its parameter page.
+    /// The geometry of a device by its parameter page. Its reads put out pages as a whole.
     ///
     /// # Errors
     /// The first fault of the page in the order of [`GeometryFault`].
@@ -102,10 +105,24 @@ impl Geometry {
             row_address_cycles: page.row_cycles(),
             data_bytes: page.data_bytes() as u16,
             spare_bytes: page.spare_bytes(),
+            sector_bytes: 0,
             any_page_order: page.has_non_sequential_programming(),
             multi_plane_writes: page.has_multi_plane_program_and_erase(),
             multi_plane_reads: page.has_multi_plane_read(),
         }
+    }
+
+    /// The same device, whose reads may put out sectors of so many bytes; `None` where a page has fewer, or a sector none.
+    pub fn with_sector_bytes(self, bytes: u16) -> Option<Geometry>
+        ensures some { IfSome result (λ geometry. IsSectorSize self bytes × (geometry ≡ record self { sector_bytes = bytes })) }
+        ensures none { IfNone result (¬ IsSectorSize self bytes) }
+    {
+        if bytes == 0 || bytes > self.page_bytes() {
+            return None;
+        }
+        let mut geometry = self;
+        geometry.sector_bytes = bytes;
+        Some(geometry)
     }
 
     /// The bytes of a page: its data bytes and its spare bytes.

@@ -17,6 +17,8 @@ use Rattle.onfi_die.specs.Contents.{fresh, runs}
 use Rattle.onfi_die.specs.Answers.{requests_on}
 use Rattle.onfi_die.specs.Blocks.{is_on}
 use Rattle.onfi_die.specs.Rightful.{IsRightful, AreRightful}
+use Rattle.onfi_chip.specs.declared.fault.PostFault.TheVariants as post_fault
+use Rattle.onfi_chip.specs.Calls.{IsLost}
 use Rattle.onfi_chip.specs.Chip.{Chip, Failures, Lun, opened}
 use Rattle.onfi_chip.specs.Chip.Lun.{Idle}
 use Rattle.onfi_group.specs.Words.{Has, Pairs, number}
@@ -35,8 +37,8 @@ use Rattle.onfi_core.specs.declared.setup.Setup.{Setup}
 use Rattle.onfi_core.specs.declared.setup.Choice.TheVariants.{InOrder}
 use Rattle.onfi_core.specs.declared.setup.Replanning.TheVariants.{AtOnce}
 use Rattle.onfi_core.specs.Dues.{IsDue}
-use Rattle.onfi_core.specs.State.{HalfState, want_of, wants_from, item_at, request_of, device_for}
-use Rattle.onfi_core.specs.Steps.{RunsOnChip, none_left, unplanned}
+use Rattle.onfi_core.specs.State.{HalfState, want_of, wants_from, item_at, quiet, request_of, device_for}
+use Rattle.onfi_core.specs.Steps.{RunsOnChip, IsLostAt, none_left, unplanned}
 use Rattle.onfi_core.specs.Kept.{ChipAgrees, IsHalf, IsTaken, IsSound, LunAgrees, commanding, unposted, on, is_of_place}
 use Rattle.onfi_core.proofs.Numbered.{all_taken}
 use Rattle.onfi_core.proofs.Members.{request_at}
@@ -47,10 +49,12 @@ use Rattle.onfi_core.proofs.Opening.{idle, none_running, same_element}
 use Rattle.onfi_batch.specs.declared.course.Course.{Course}
 use Rattle.onfi_lun.specs.declared.lanes.any_lun.AnyLun.{AnyLun}
 use Rattle.onfi_lun.specs.declared.target.Target.{Target}
-use Rattle.onfi_batch.specs.Batch.{IsBatchOf, EachReplied, HoldsItems, RestsOn}
-use Rattle.onfi_batch.specs.Course.{GoesOn, IsDriven, IsInOrder, IsOnCourse, opening, state_of}
+use Rattle.onfi_batch.specs.declared.fault.BatchFault.{BatchFault}
+use Rattle.onfi_batch.specs.declared.fault.BatchFault.TheVariants as fault
+use Rattle.onfi_batch.specs.Batch.{AfterBatchFault, IsBatchOf, EachReplied, HoldsItems, KeptSince, RestsOn}
+use Rattle.onfi_batch.specs.Course.{AfterPhaseFault, GoesOn, IsDriven, IsInOrder, IsOnCourse, opening, state_of}
 use Rattle.onfi_lun.specs.Lanes.{LanesAgree}
-use Rattle.onfi_batch.proofs.Order.{order_kept, order_opens}
+use Rattle.onfi_batch.proofs.Order.{order_kept, order_opens, sectors_told}
 use Rattle.onfi_batch.proofs.Steps.{kept_by, kept_on, kept_same}
 
 abbrev NothingRuns : List LunState → Type 0
@@ -140,6 +144,7 @@ module _ (target : Target) (items : List Item) (p : Problem) (s : Schedule) (fau
     limit = 1;
     choice = InOrder;
     replanning = AtOnce;
+    mark = 256;
     some_channel = lit≤ tt;
     few_channels = lit≤ tt;
     some_host = lit≤ tt;
@@ -152,6 +157,7 @@ module _ (target : Target) (items : List Item) (p : Problem) (s : Schedule) (fau
     few_posts = lit≤ tt;
     some_node = lit≤ tt;
     few_nodes = lit≤ tt;
+    stated = λ (byte : 256 < 256). absurd (omega (arith, byte));
   }
 
   abbrev count : ℕ
@@ -255,6 +261,37 @@ course_kept target schedule items first started lanes chip course started' lanes
           (basis_behind h (state_of started') chip chip' due first.faults course.kept.faults on old));
       kept = kept_on first chip chip' course.kept (kept_by h (state_of started') chip chip' due on);
     }
+
+-- A fault
+
+-- counts of failures that rose at a phase rose since the batch opened
+lost_since_bus : (first old new : Chip) → KeptSince first old → IsLost post_fault.Bus old new → IsLost post_fault.Bus first new
+lost_since_bus first old new kept lost =
+    let before = kept.failures.bus in
+    let rose = lost.rose in
+    record { faults = lost.faults ∙ kept.faults; rose = omega (arith, before, rose) }
+
+lost_since_unready : (first old new : Chip) → KeptSince first old → IsLost post_fault.NotReady old new → IsLost post_fault.NotReady first new
+lost_since_unready first old new kept lost =
+    let before = kept.failures.unready in
+    let rose = lost.rose in
+    record { faults = lost.faults ∙ kept.faults; rose = omega (arith, before, rose) }
+
+-- what a fault at the next phase leaves of the chip, it leaves since the batch opened
+module _ (schedule : Schedule) (s : Setup) (h : HalfState) (sound : IsSound s h) (order : IsInOrder schedule h) (first old new : Chip) (kept : KeptSince first old) where
+  bus_leaves : IsLostAt (quiet h old) post_fault.Bus new → AfterBatchFault schedule fault.Bus first new
+  bus_leaves lost =
+      elim lost.why [
+        | inl rose ↦ inl (lost_since_bus first old new kept (record { faults = lost.faults; rose = rose }))
+        | inr lacks ↦ (
+            let (move, start, left, next, asks) = lacks.asked in
+            inr (record { output = sectors_told schedule s h sound order move start left next asks; kept = kept_on first old new kept (kept_same old new lacks.same) }))
+      ]
+
+  pub fault_since : (f : BatchFault) → AfterPhaseFault h f old new → AfterBatchFault schedule f first new
+  fault_since fault.Bus lost = bus_leaves lost
+  fault_since (fault.NotReady lun) lost = lost_since_unready first old new kept lost
+  fault_since fault.Memory same = kept_on first old new kept same
 
 -- The end
 

@@ -26,14 +26,14 @@ use Rattle.onfi_core.specs.Dues.{IsDue}
 use Rattle.onfi_core.specs.Kept.{IsSound}
 use Rattle.onfi_core.specs.State.{HalfState}
 use Rattle.onfi_flight.specs.Flight.{IsPhase, left_behind, move_of}
-use Rattle.onfi_core.specs.Steps.{RunsOnChip, half_after_phase, reply_to}
+use Rattle.onfi_core.specs.Steps.{AsksSectors, RunsOnChip, half_after_phase, reply_to}
 use Rattle.onfi_core.proofs.Lists.{get_has}
 use Rattle.onfi_core.proofs.Next.{get_drop}
 use Rattle.onfi_core.proofs.MayRunDue.{group_lun}
 use Rattle.onfi_batch.specs.declared.fault.BatchFault.{BatchFault}
 use Rattle.onfi_batch.specs.declared.fault.BatchFault.TheVariants as fault
 use Rattle.onfi_batch.specs.Course.{GoesOn, IsFaultOf, IsInOrder}
-use Rattle.onfi_batch.specs.Order.{PostStarts, RepliesAt, TellsStatus}
+use Rattle.onfi_batch.specs.Order.{PostStarts, RepliesAt, StartsSectors, TellsStatus}
 
 zip_more : {A B : Type 0} (R : A → B → Type 0) (xs : List A) (ys : List B) (x : A) (y : B) → AllZip R xs ys → R x y → AllZip R (xs ++ x ∷ []) (ys ++ y ∷ [])
 zip_more R [] [] x y h r = (r, tt)
@@ -216,6 +216,18 @@ status_told schedule s h sound order (fault.NotReady lun) (move, start, left, ne
     let lun_is = here ∙ group_lun h.now sound.problem move asks.group asks.phase asks.is ∙ is_lun in
     let post = post_starts schedule asks.group step.starts asks.phase start step.rest step.planned step.at asks.member asks.behind asks.there in
     (start, (asks.member, lun_is, asks.operation, post))
+
+-- an output of some sectors that comes next is one of the schedule
+pub sectors_told : (schedule : Schedule) (s : Setup) (h : HalfState) → IsSound s h → IsInOrder schedule h → (move : Move) (start : ℕ) (left : Schedule)
+    → ComesNext h.now h.left move start left → AsksSectors h.now move → StartsSectors schedule
+sectors_told schedule s h sound order move start left next asks =
+    let step = step_of schedule s h sound order move start left next asks.group asks.phase asks.is in
+    record {
+      start = start;
+      want = asks.member;
+      sectors = asks.sectors;
+      post = post_starts schedule asks.group step.starts asks.phase start step.rest step.planned step.at asks.member asks.behind asks.there;
+    }
 
 -- where nothing is done
 pub order_opens : (schedule : Schedule) (h : HalfState) → h.left.groups ≡ schedule.groups

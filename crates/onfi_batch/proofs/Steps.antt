@@ -7,6 +7,7 @@ use Rattle.onfi_request.specs.declared.want.Want.{Want}
 use Rattle.onfi_die.specs.Shapes.{device_of}
 use Rattle.onfi_chip.specs.Calls.{AreNoFewer, HasDone}
 use Rattle.onfi_chip.specs.Chip.{Chip, Failures}
+use Rattle.onfi_chip.specs.declared.fault.PostFault.TheVariants as post_fault
 use Rattle.onfi_group.specs.Group.{lun_of}
 use Rattle.onfi_group.specs.Words.{total}
 use Rattle.onfi_problem.proofs.Perm.{All-has}
@@ -21,19 +22,19 @@ use Rattle.onfi_lun.specs.declared.drive.DriveFault.TheVariants as drive
 use Rattle.onfi_flight.specs.declared.due.Due.{Due}
 use Rattle.onfi_lun.specs.declared.phase_result.PhaseResult.{PhaseResult}
 use Rattle.onfi_core.specs.declared.setup.Setup.{Setup}
-use Rattle.onfi_lun.specs.Drive.{HasRun, IsStatus}
+use Rattle.onfi_lun.specs.Drive.{HasRun, AfterDrive, IsStatus}
 use Rattle.onfi_flight.specs.Flight.{left_behind, member_of, move_of}
 use Rattle.onfi_core.specs.Dues.{IsDue, after_due, replies_of}
 use Rattle.onfi_core.specs.Kept.{IsHalf, IsSound, IsTaken, ChipAgrees}
-use Rattle.onfi_core.specs.State.{HalfState, device_for, item_at, no_item}
-use Rattle.onfi_core.specs.Steps.{RunsOnChip}
+use Rattle.onfi_core.specs.State.{HalfState, device_for, item_at, no_item, quiet}
+use Rattle.onfi_core.specs.Steps.{RunsOnChip, LacksSectors}
 use Rattle.onfi_core.proofs.Bus.{AfterPhase, after_move}
 use Rattle.onfi_core.proofs.Done.{goes}
-use Rattle.onfi_core.proofs.Driving.{asks_status, ran_on_chip}
+use Rattle.onfi_core.proofs.Driving.{asks_sectors, asks_status, ran_on_chip}
 use Rattle.onfi_core.proofs.Lists.{get_has, index_get}
 use Rattle.onfi_lun.proofs.Places.{get_of_or}
 use Rattle.onfi_batch.specs.Batch.{KeptSince, fault_of}
-use Rattle.onfi_batch.specs.Course.{GoesOn, IsFaultOf, steps_left}
+use Rattle.onfi_batch.specs.Course.{AfterPhaseFault, GoesOn, IsFaultOf, steps_left}
 
 -- Reading
 
@@ -101,6 +102,20 @@ module _ (s : Setup) (h : HalfState) (chip : Chip) (half : IsHalf s (device_for 
         let asks = asks_status s h chip half.sound agrees due is m at item item_is (status refl) in
         (move_of due, due.start, left_behind h.left due, is.next half.sound.legal, is.lun ∙ sym e, asks)
     fault_is drive.Memory lun e status = tt
+
+    -- what it leaves of the chip
+    pub fault_leaves : (fault : DriveFault) (lun : ℕ) (chip' : Chip) → AfterDrive due item fault chip chip' → AfterPhaseFault h (fault_of fault lun) chip chip'
+    fault_leaves drive.Bus lun chip' (inl lost) = record { faults = lost.faults; why = inl lost.rose }
+    fault_leaves drive.Bus lun chip' (inr none) =
+        let asks = asks_sectors s h chip half.sound agrees due is m at item item_is none.post none.sectors in
+        let lacks : LacksSectors (quiet h chip) post_fault.Bus chip' = record {
+          bus = refl;
+          same = none.same;
+          asked = (move_of due, due.start, left_behind h.left due, is.next half.sound.legal, asks);
+        } in
+        record { faults = ap (λ (x : Chip). x.faults) none.same; why = inr lacks }
+    fault_leaves drive.NotReady lun chip' lost = lost
+    fault_leaves drive.Memory lun chip' same = kept_same chip chip' same
 
 -- One phase less is left
 

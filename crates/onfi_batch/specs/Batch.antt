@@ -1,5 +1,5 @@
 -- What a batch asks for, and what it gives.
-use Rattle.std.specs.Prelude.{◌≡◌, ◌≢◌, ℕ, List, Some, slice_get}
+use Rattle.std.specs.Prelude.{◌≡◌, ◌≢◌, ◌⊎◌, ℕ, List, Some, slice_get}
 use Rattle.std.specs.List.{AllByRecursion as Each}
 use Rattle.onfi_addr.specs.declared.geometry.Geometry.{Geometry}
 use Rattle.onfi_timing.specs.declared.timing.Timing.{Timing}
@@ -17,11 +17,13 @@ use Rattle.onfi_chip.specs.declared.fault.PostFault.TheVariants as post_fault
 use Rattle.onfi_group.specs.Words.{Has}
 use Rattle.onfi_problem.specs.declared.lun_state.LunState.TheVariants.{Running}
 use Rattle.onfi_problem.specs.Problem.{Problem}
+use Rattle.onfi_schedule.specs.Schedule.{Schedule}
 use Rattle.onfi_batch.specs.declared.fault.BatchFault.{BatchFault}
 use Rattle.onfi_batch.specs.declared.fault.BatchFault.TheVariants.{Bus, NotReady, Memory}
 use Rattle.onfi_lun.specs.declared.drive.DriveFault.{DriveFault}
 use Rattle.onfi_lun.specs.declared.drive.DriveFault.TheVariants as drive
 use Rattle.onfi_core.specs.State.{wants_from}
+use Rattle.onfi_batch.specs.Order.{StartsSectors}
 
 -- a chip as it opened
 abbrev pub IsOpened : Geometry → Timing → Chip → Type 0
@@ -46,11 +48,16 @@ pub record KeptSince (old new : Chip) : Type 0 where
   pub faults : new.faults ≡ old.faults
   pub failures : AreNoFewer old.failures new.failures
 
+-- the schedule has an output of some sectors, of which the chip has none
+pub record FindsNoSectors (schedule : Schedule) (old new : Chip) : Type 0 where
+  pub output : StartsSectors schedule
+  pub kept : KeptSince old new
+
 -- what a fault leaves of the chip
-abbrev pub AfterBatchFault : BatchFault → Chip → Chip → Type 0
-AfterBatchFault Bus old new = IsLost post_fault.Bus old new
-AfterBatchFault (NotReady lun) old new = IsLost post_fault.NotReady old new
-AfterBatchFault Memory old new = KeptSince old new
+abbrev pub AfterBatchFault : Schedule → BatchFault → Chip → Chip → Type 0
+AfterBatchFault schedule Bus old new = IsLost post_fault.Bus old new ⊎ FindsNoSectors schedule old new
+AfterBatchFault schedule (NotReady lun) old new = IsLost post_fault.NotReady old new
+AfterBatchFault schedule Memory old new = KeptSince old new
 
 -- why a phase on that LUN wasn't run, as why the batch ends
 abbrev pub fault_of : DriveFault → ℕ → BatchFault

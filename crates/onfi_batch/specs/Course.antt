@@ -4,7 +4,9 @@ use Rattle.std.specs.List.{AllByRecursion as Each, AllZip}
 use Rattle.onfi_request.specs.declared.want.Want.{Want}
 use Rattle.onfi_request.specs.declared.request.Item.{Item}
 use Rattle.onfi_request.specs.declared.reply.Reply.{Reply}
+use Rattle.onfi_chip.specs.Calls.{IsLost}
 use Rattle.onfi_chip.specs.Chip.{Chip}
+use Rattle.onfi_chip.specs.declared.fault.PostFault.TheVariants as post_fault
 use Rattle.onfi_group.specs.Words.{Has, Pairs, total}
 use Rattle.onfi_problem.specs.declared.lun_state.LunState.TheVariants.{Free, Running}
 use Rattle.onfi_problem.specs.Problem.{Problem}
@@ -14,8 +16,8 @@ use Rattle.onfi_core.specs.declared.outcome.Cause.TheVariants as cause
 use Rattle.onfi_core.specs.declared.setup.Setup.{Setup}
 use Rattle.onfi_core.specs.Dues.{after_due}
 use Rattle.onfi_core.specs.Kept.{IsHalf, ChipAgrees}
-use Rattle.onfi_core.specs.State.{HalfState, device_for}
-use Rattle.onfi_core.specs.Steps.{RunsOnChip, IsCauseOf}
+use Rattle.onfi_core.specs.State.{HalfState, device_for, quiet}
+use Rattle.onfi_core.specs.Steps.{RunsOnChip, IsCauseOf, IsLostAt}
 use Rattle.onfi_batch.specs.declared.fault.BatchFault.{BatchFault}
 use Rattle.onfi_batch.specs.declared.fault.BatchFault.TheVariants as fault
 use Rattle.onfi_batch.specs.declared.course.Course.{Course}
@@ -66,6 +68,12 @@ abbrev pub IsFaultOf : HalfState → BatchFault → Type 0
 IsFaultOf h fault.Bus = Unit {0}
 IsFaultOf h (fault.NotReady lun) = IsCauseOf h (cause.NotReady lun)
 IsFaultOf h fault.Memory = Unit {0}
+
+-- what a fault at the next phase leaves of the chip
+abbrev pub AfterPhaseFault : HalfState → BatchFault → Chip → Chip → Type 0
+AfterPhaseFault h fault.Bus old new = IsLostAt (quiet h old) post_fault.Bus new
+AfterPhaseFault h (fault.NotReady lun) old new = IsLost post_fault.NotReady old new
+AfterPhaseFault h fault.Memory old new = KeptSince old new
 
 -- how many phases are left
 abbrev pub steps_left : Schedule → ℕ

@@ -1,3 +1,3 @@
-pub mod Batch
 pub mod Order
+pub mod Batch
 pub mod Course

@@ -1,8 +1,8 @@
 -- In which order a batch replies, and which LUN it names where one isn't ready.
-use Rattle.std.specs.Prelude.{◌≡◌, ◌≢◌, ℕ, ◌+◌, ◌<◌, List, length, Some, slice_get}
+use Rattle.std.specs.Prelude.{◌≡◌, ◌≢◌, ℕ, ◌+◌, ◌<◌, ◌≤◌, List, length, Some, slice_get}
 use Rattle.std.specs.List.{AllZip}
 use Rattle.onfi_timing.specs.declared.operation.Operation.TheVariants.{Read}
-use Rattle.onfi_timing.specs.Kinds.{operation_of}
+use Rattle.onfi_timing.specs.Kinds.{operation_of, sectors_of}
 use Rattle.onfi_request.specs.declared.want.Want.{Want}
 use Rattle.onfi_request.specs.declared.reply.Reply.{Reply}
 use Rattle.onfi_group.specs.Words.{Has, Pairs}
@@ -27,6 +27,13 @@ pub record AreInPostOrder (schedule : Schedule) (replies : List Reply) : Type 0 
   pub starts : List ℕ
   pub posts : AllZip (RepliesAt schedule) replies starts
   pub rise : Pairs (λ a b. a < b) starts
+
+-- the schedule starts the output of some sectors
+pub record StartsSectors (schedule : Schedule) : Type 0 where
+  pub start : ℕ
+  pub want : Want
+  pub sectors : 1 ≤ sectors_of want.kind
+  pub post : PostStarts schedule want start
 
 -- a LUN that isn't ready is one whose status is asked for then: the post of a program or an erase on it starts
 abbrev pub TellsStatus : Schedule → ℕ → BatchFault → Type 0

@@ -27,8 +27,9 @@ use std::alloc::Global;
 ///
 /// # Errors
 /// `Bus`, or `NotReady` with the LUN whose status said so, one on which the schedule has a program or an erase; each only
-/// where the chip's count of that fault rose, and nothing more is then known of the chip. `Memory` where a growth was
-/// refused; calls may have been made, and the chip is as they left it.
+/// where the chip's count of that fault rose, and nothing more is then known of the chip. `Bus` too where the schedule puts
+/// out some sectors of a page, and the chip has none. `Memory` where a growth was refused. In these two cases calls may have
+/// been made, and the chip is as they left it.
 pub fn run_batch<C: Chip>(
     alloc: Global,
     chip: &mut C,
@@ -45,7 +46,7 @@ pub fn run_batch<C: Chip>(
     ensures order { IfOk result (λ replies. AreInPostOrder schedule.now replies.items) }
     ensures blocks { IfOk result (λ _. HoldsItems (device_of geometry.now (C.state chip.old).faults) items.items (C.state chip.new)) }
     ensures basis { IfOk result (λ replies. Each (RestsOn items.items (C.state chip.old).faults) replies.items) }
-    ensures fault { IfErr result (λ fault. AfterBatchFault fault (C.state chip.old) (C.state chip.new)) }
+    ensures fault { IfErr result (λ fault. AfterBatchFault schedule.now fault (C.state chip.old) (C.state chip.new)) }
     ensures told { IfErr result (λ fault. (start : ℕ) × TellsStatus schedule.now start fault) }
 {
     problem_is_one(problem);

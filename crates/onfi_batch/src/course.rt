@@ -8,8 +8,7 @@ ghost use Rattle.onfi_core.specs.Dues.{IsDue, IsRan, after_due, replies_of};
 ghost use Rattle.onfi_core.specs.Kept.{IsSound};
 ghost use Rattle.onfi_core.specs.State.{item_at};
 ghost use Rattle.onfi_core.specs.Steps.{none_left};
-ghost use Rattle.onfi_batch.specs.Course.{state_of, opening, IsFaultOf, IsDriven, GoesOn};
-ghost use Rattle.onfi_batch.specs.Batch.{AfterBatchFault};
+ghost use Rattle.onfi_batch.specs.Course.{state_of, opening, AfterPhaseFault, IsFaultOf, IsDriven, GoesOn};
 
 use crate::fault::{BatchFault, fault_of};
 use onfi_addr::Geometry;
@@ -82,7 +81,7 @@ impl Course {
         requires due { IsDue (state_of self.old) due }
         ensures ran { IfOk result (λ _. GoesOn (state_of self.old) (C.state chip.old) due (state_of self.new) (C.state chip.new)) }
         ensures driven { IfOk result (λ _. IsDriven target.now self.new lanes.new (C.state chip.new)) }
-        ensures err { IfErr result (λ fault. AfterBatchFault fault (C.state chip.old) (C.state chip.new)) }
+        ensures err { IfErr result (λ fault. AfterPhaseFault (state_of self.old) fault (C.state chip.old) (C.state chip.new)) }
         ensures told { IfErr result (IsFaultOf (state_of self.old)) }
     {
         let lun = due.lun;

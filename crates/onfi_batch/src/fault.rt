@@ -7,7 +7,7 @@ use thiserror::Error;
 /// Why a batch wasn't driven to its end.
 #[derive(Clone, Copy, Debug, PartialEq, Eq, Error)]
 pub enum BatchFault {
-    /// The bus failed: nothing more is known of the chip.
+    /// The bus failed: nothing more is known of the chip. Or the chip puts out no sectors, and is as the calls so far left it.
     #[error("the bus failed")]
     Bus,
     /// The LUN reported that it isn't ready: nothing more is known of the chip.

@@ -150,7 +150,7 @@ pub both_false : (a b : Bool) → (a || b) ≡ false → (a ≡ false) × (b ≡
 both_false true b none = cc
 both_false false b none = (refl, none)
 
-none_weaker : {A : Type 0} (f g : A → Bool) → ((x : A) → f x ≡ false → g x ≡ false) → (xs : List A) → list_any f xs ≡ false → list_any g xs ≡ false
+pub none_weaker : {A : Type 0} (f g : A → Bool) → ((x : A) → f x ≡ false → g x ≡ false) → (xs : List A) → list_any f xs ≡ false → list_any g xs ≡ false
 none_weaker f g weaker [] none = refl
 none_weaker f g weaker (x ∷ xs) none =
     let both = both_false (f x) (list_any f xs) none in

@@ -1,4 +1,7 @@
 mod Answering
+mod AuditBegins
+mod Audits
+mod Breaches
 mod DueInPlace
 mod Filled
 mod Geometries

@@ -123,7 +123,7 @@ read_again (suc (suc (suc (suc (suc (suc zero)))))) few = refl
 read_again (suc (suc (suc (suc (suc (suc (suc zero))))))) few = refl
 read_again (suc (suc (suc (suc (suc (suc (suc (suc count)))))))) few = absurd (omega (arith, few))
 
-kind_again : (kind : ℕ) → kind_of (number_of_kind (kind_of kind)) ≡ kind_of kind
+pub kind_again : (kind : ℕ) → kind_of (number_of_kind (kind_of kind)) ≡ kind_of kind
 kind_again kind = elim (cases_Bool (operation_in kind == 0)) [
   | inl read ↦ rw read (read_again (sectors_in kind) (omega arith))
   | inr other ↦ elim (cases_Bool (operation_in kind == 1)) [ inl program ↦ rw (other, program) refl | inr erase ↦ rw (other, erase) refl ]
@@ -133,7 +133,7 @@ pub are_plain : (bits : ℕ) (wants : List PlainWant) → Each (IsPlain bits) (w
 are_plain bits [] = tt
 are_plain bits (w ∷ wants) = (record { plane = refl; kind = kind_again w.kind }, are_plain bits wants)
 
-first_keeps : (P : Want → Type 0) (f : Want → Bool) (wants : List Want) (m : Want) → Each P wants → slice_get (filter f wants) 0 ≡ Some m → P m
+pub first_keeps : (P : Want → Type 0) (f : Want → Bool) (wants : List Want) (m : Want) → Each P wants → slice_get (filter f wants) 0 ≡ Some m → P m
 first_keeps P f [] m each e = cc
 first_keeps P f (w ∷ wants) m each e = elim (cases_Bool (f w)) [
   | inl hit ↦ (let z : Some w ≡ Some m = rw hit at e in let q : w ≡ m = cc in subst P q each.0)

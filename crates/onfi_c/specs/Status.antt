@@ -7,7 +7,7 @@ use Rattle.onfi_problem.specs.declared.fault.ProblemFault.TheVariants as problem
 use Rattle.onfi_timing.specs.declared.spans.SpanFault.{SpanFault}
 use Rattle.onfi_timing.specs.declared.spans.SpanFault.TheVariants.{Zero as ZeroLength, TooLong}
 use Rattle.onfi_c.specs.declared.status.Status.{Status}
-use Rattle.onfi_c.specs.declared.status.Status.TheVariants.{Done, NoRoom, Memory, BadLimit, Over, ZeroSpan, LongSpan, BadPlaneBits, BadKind, BadMembers, TooMany, BadLun, Clock, BadPlace, BadGeometry, BadChoice, BadBatch, BadOrder, NoLengths, BadSchedule, NothingDue, NotDue, TooSoon, BadHeader, BadToken, TooManyTokens, OtherOption, Illegal, Short, Trailing, Width, BoundLow, YieldNoFit, YieldLoop, NotEnd, EndsBefore, PageShort, NoCopy, WideBus, NoStatusEnhanced, NoColumnEnhanced, NoMultiLun, LunCount, PlaneBits, Zero, RowTooWide, ColumnTooWide, TooLarge, SheetMissing, SheetRepeated, SheetUnknown, SheetNotANumber, SheetZeroCycle, SheetTooLong, StrobeMissing, StrobeRepeated, StrobeUnknown, StrobeNotANumber, UnknownNode, OtherLeft, Sooner, TooManyNodes}
+use Rattle.onfi_c.specs.declared.status.Status.TheVariants.{Done, NoRoom, Memory, BadLimit, Over, ZeroSpan, LongSpan, BadPlaneBits, BadKind, BadMembers, TooMany, BadLun, Clock, BadPlace, BadGeometry, BadChoice, BadBatch, BadOrder, NoLengths, BadSectors, BadSchedule, NothingDue, NotDue, TooSoon, BadHeader, BadToken, TooManyTokens, OtherOption, Illegal, Short, Trailing, Width, BoundLow, YieldNoFit, YieldLoop, NotEnd, EndsBefore, PageShort, NoCopy, WideBus, NoStatusEnhanced, NoColumnEnhanced, NoMultiLun, LunCount, PlaneBits, Zero, RowTooWide, ColumnTooWide, TooLarge, SheetMissing, SheetRepeated, SheetUnknown, SheetNotANumber, SheetZeroCycle, SheetTooLong, StrobeMissing, StrobeRepeated, StrobeUnknown, StrobeNotANumber, UnknownNode, OtherLeft, Sooner, TooManyNodes}
 
 abbrev pub number_of : Status → ℕ
 number_of Done = 0
@@ -29,6 +29,7 @@ number_of BadChoice = 25
 number_of BadBatch = 26
 number_of BadOrder = 27
 number_of NoLengths = 28
+number_of BadSectors = 29
 number_of BadSchedule = 30
 number_of NothingDue = 31
 number_of NotDue = 33
@@ -94,6 +95,7 @@ text_of BadChoice = codes "a choice of a batch that is none"
 text_of BadBatch = codes "a batch that is not 1 to 8"
 text_of BadOrder = codes "numbers of requests that are equal or fall, or reach the count of all"
 text_of NoLengths = codes "sectors without lengths"
+text_of BadSectors = codes "sectors that a page doesn't have"
 text_of BadSchedule = codes "a count of the schedule out of its range, or a start of 2^63 ns or more"
 text_of NothingDue = codes "no phase of the schedule is left"
 text_of NotDue = codes "a phase that isn't due"

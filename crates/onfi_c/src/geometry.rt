@@ -81,6 +81,7 @@ fn read(said: &PlainGeometry) -> Geometry
         row_address_cycles: said.row_address_cycles,
         data_bytes: said.data_bytes,
         spare_bytes: said.spare_bytes,
+        sector_bytes: 0,
         any_page_order: said.any_page_order,
         multi_plane_writes: said.multi_plane_writes,
         multi_plane_reads: said.multi_plane_reads,

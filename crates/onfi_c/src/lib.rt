@@ -5,6 +5,11 @@
 #![tactic(auto)]
 
 mod answered;
+mod audit;
+mod audit_begin;
+mod audit_phase;
+mod auditing;
+mod broken;
 mod channel;
 mod checking;
 mod choosing;
@@ -17,8 +22,10 @@ mod geometry;
 mod in_order;
 mod least;
 mod lengths;
+mod log_broken;
 mod lun;
 mod next;
+mod output;
 mod phase;
 mod planning;
 mod queue;

@@ -47,7 +47,7 @@ pub struct Behind {
 }
 
 /// What stands where a LUN has no member.
-const NO_WANT: PlainWant = PlainWant {
+pub const NO_WANT: PlainWant = PlainWant {
     id: 0,
     kind: 0,
     lun: 0,
@@ -56,7 +56,7 @@ const NO_WANT: PlainWant = PlainWant {
 };
 
 /// The members of a group, as plain structs.
-fn plain_members(wants: &[Want]) -> [PlainWant; 4]
+pub fn plain_members(wants: &[Want]) -> [PlainWant; 4]
     requires { length wants.now ≤ 4 }
     ensures { result ≡ filled 4 spec.no_want (map written_want wants.now) }
 {

@@ -55,7 +55,7 @@ fn read_of(count: u8) -> Kind
 }
 
 /// The kind of a number.
-fn kind_of(kind: u8) -> Kind
+pub fn kind_of(kind: u8) -> Kind
     ensures { result ≡ spec.kind_of kind }
 {
     if kind == 0 {

@@ -47,6 +47,8 @@ pub enum Status {
     BadOrder,
     /// A read of so many sectors without a post of as many, or sectors of what is no read.
     NoLengths,
+    /// Sectors of a read that its page doesn't have, or that have no byte.
+    BadSectors,
     /// A count of a schedule is out of its range, or a start is 2^63 ns or more.
     BadSchedule,
     /// No phase of the schedule is left.
@@ -136,7 +138,7 @@ pub enum Status {
 }
 
 /// Each of them.
-pub const ALL: [Status; 62] = [
+pub const ALL: [Status; 63] = [
     Status::Done,
     Status::NoRoom,
     Status::Memory,
@@ -156,6 +158,7 @@ pub const ALL: [Status; 62] = [
     Status::BadBatch,
     Status::BadOrder,
     Status::NoLengths,
+    Status::BadSectors,
     Status::BadSchedule,
     Status::NothingDue,
     Status::NotDue,
@@ -226,6 +229,7 @@ impl Status {
             Status::BadBatch => 26,
             Status::BadOrder => 27,
             Status::NoLengths => 28,
+            Status::BadSectors => 29,
             Status::BadSchedule => 30,
             Status::NothingDue => 31,
             Status::NotDue => 33,
@@ -298,6 +302,7 @@ impl Status {
             Status::BadOrder =>
                 "numbers of requests that are equal or fall, or reach the count of all",
             Status::NoLengths => "sectors without lengths",
+            Status::BadSectors => "sectors that a page doesn't have",
             Status::BadSchedule =>
                 "a count of the schedule out of its range, or a start of 2^63 ns or more",
             Status::NothingDue => "no phase of the schedule is left",

@@ -1,12 +1,16 @@
+ghost use Rattle.std.specs.Prelude.{◌≡◌, ◌<◌};
+
 use crate::opened::setup_of;
 use crate::plain::{Open, open_sequencer};
 use onfi_addr::Place;
-use onfi_core::Replanning;
+use onfi_chip::SimChip;
+use onfi_core::{Replanning, Setup};
 use onfi_request::Request;
 use onfi_samples::{request_of, sample_geometry};
-use onfi_seq::Turn;
+use onfi_seq::{Sequencer, Turn};
 use onfi_timing::Kind;
 use std::alloc::{AllocError, Global};
+use std::sync::Wait;
 
 // When a sequencer plans anew. The first read's command starts at 0, its post at 25,240.
 
@@ -20,16 +24,46 @@ fn read(alloc: Global, lun: u8, block: u16) -> Result<Request, AllocError> {
     request_of(alloc, &sample_geometry(), Kind::Read, place, 0)
 }
 
+// Whether the sequencer makes these turns.
+fn makes<R: Wait>(
+    rt: &R,
+    alloc: Global,
+    sequencer: &mut Sequencer<SimChip>,
+    turns: &[Turn],
+) -> bool {
+    for turn in turns {
+        if sequencer.turn(rt, alloc, &mut Open) != *turn {
+            return false;
+        }
+    }
+    true
+}
+
+// Whether the sequencer accepts and plans the first read, accepts the second one, and then makes these turns.
+fn goes_on<R: Wait>(
+    rt: &R,
+    alloc: Global,
+    setup: &Setup,
+    second: Request,
+    turns: &[Turn],
+) -> Result<bool, AllocError>
+    requires hosts { setup.now.hosts ≡ 4 }
+    requires channel { 0 < setup.now.channels }
+{
+    let (mut sequencer, mut hosts) = open_sequencer(alloc, setup)?;
+    let is_sent = hosts[0].submit(rt, read(alloc, 0, 0)?).is_ok();
+    let is_planned = makes(rt, alloc, &mut sequencer, &[Turn::Accepted, Turn::Planned]);
+    let is_sent = hosts[0].submit(rt, second).is_ok() && is_sent;
+    let is_accepted = makes(rt, alloc, &mut sequencer, &[Turn::Accepted]);
+    Ok(is_sent && is_planned && is_accepted && makes(rt, alloc, &mut sequencer, turns))
+}
+
 #[test]
 fn a_sequencer_plans_anew_at_once(rt: HostRuntime) -> Result<(), AllocError> {
     let alloc = rt.alloc();
-    let (mut sequencer, mut hosts) = open_sequencer(alloc, &setup_of(&rt, 1, 8))?;
-    assert!(rt; hosts[0].submit(&rt, read(alloc, 0, 0)?).is_ok());
-    assert_eq!(rt; sequencer.turn(&rt, alloc, &mut Open), Turn::Accepted);
-    assert_eq!(rt; sequencer.turn(&rt, alloc, &mut Open), Turn::Planned);
-    assert!(rt; hosts[0].submit(&rt, read(alloc, 0, 2)?).is_ok());
-    assert_eq!(rt; sequencer.turn(&rt, alloc, &mut Open), Turn::Accepted);
-    assert_eq!(rt; sequencer.turn(&rt, alloc, &mut Open), Turn::Planned);
+    let setup = setup_of(&rt, 1, 8);
+    let turns = [Turn::Planned];
+    assert!(rt; goes_on(&rt, alloc, &setup, read(alloc, 0, 2)?, &turns)?);
     Ok(())
 }
 
@@ -38,16 +72,8 @@ fn a_sequencer_plans_anew_at_once(rt: HostRuntime) -> Result<(), AllocError> {
 fn a_lazy_sequencer_runs_its_plan(rt: HostRuntime) -> Result<(), AllocError> {
     let alloc = rt.alloc();
     let setup = setup_of(&rt, 1, 8).with_replanning(Replanning::Lazily);
-    let (mut sequencer, mut hosts) = open_sequencer(alloc, &setup)?;
-    assert!(rt; hosts[0].submit(&rt, read(alloc, 0, 0)?).is_ok());
-    assert_eq!(rt; sequencer.turn(&rt, alloc, &mut Open), Turn::Accepted);
-    assert_eq!(rt; sequencer.turn(&rt, alloc, &mut Open), Turn::Planned);
-    assert!(rt; hosts[0].submit(&rt, read(alloc, 0, 2)?).is_ok());
-    assert_eq!(rt; sequencer.turn(&rt, alloc, &mut Open), Turn::Accepted);
-    assert_eq!(rt; sequencer.turn(&rt, alloc, &mut Open), Turn::Phase);
-    assert_eq!(rt; sequencer.turn(&rt, alloc, &mut Open), Turn::Phase);
-    assert_eq!(rt; sequencer.turn(&rt, alloc, &mut Open), Turn::Posted);
-    assert_eq!(rt; sequencer.turn(&rt, alloc, &mut Open), Turn::Planned);
+    let turns = [Turn::Phase, Turn::Phase, Turn::Posted, Turn::Planned];
+    assert!(rt; goes_on(&rt, alloc, &setup, read(alloc, 0, 2)?, &turns)?);
     Ok(())
 }
 
@@ -56,14 +82,7 @@ fn a_lazy_sequencer_runs_its_plan(rt: HostRuntime) -> Result<(), AllocError> {
 fn a_lazy_sequencer_plans_what_could_start(rt: HostRuntime) -> Result<(), AllocError> {
     let alloc = rt.alloc();
     let setup = setup_of(&rt, 1, 8).with_replanning(Replanning::Lazily);
-    let (mut sequencer, mut hosts) = open_sequencer(alloc, &setup)?;
-    assert!(rt; hosts[0].submit(&rt, read(alloc, 0, 0)?).is_ok());
-    assert_eq!(rt; sequencer.turn(&rt, alloc, &mut Open), Turn::Accepted);
-    assert_eq!(rt; sequencer.turn(&rt, alloc, &mut Open), Turn::Planned);
-    assert!(rt; hosts[0].submit(&rt, read(alloc, 1, 0)?).is_ok());
-    assert_eq!(rt; sequencer.turn(&rt, alloc, &mut Open), Turn::Accepted);
-    assert_eq!(rt; sequencer.turn(&rt, alloc, &mut Open), Turn::Phase);
-    assert_eq!(rt; sequencer.turn(&rt, alloc, &mut Open), Turn::Planned);
-    assert_eq!(rt; sequencer.turn(&rt, alloc, &mut Open), Turn::Phase);
+    let turns = [Turn::Phase, Turn::Planned, Turn::Phase];
+    assert!(rt; goes_on(&rt, alloc, &setup, read(alloc, 1, 0)?, &turns)?);
     Ok(())
 }

@@ -25,6 +25,8 @@ mod plain;
 #[cfg(test)]
 mod request;
 #[cfg(test)]
+mod sectors;
+#[cfg(test)]
 mod texts;
 #[cfg(test)]
 mod three_calls;

@@ -22,7 +22,7 @@ fn texts_of_pages_and_requests(rt: HostRuntime) {
         (RequestFault::Block, "no such block"),
         (RequestFault::Page, "no such page"),
         (RequestFault::DataLength, "a wrong count of data bytes"),
-        (RequestFault::Sectors, "sectors of a page"),
+        (RequestFault::Sectors, "no such sectors"),
     ] {
         let told = format!(in rt.alloc(); "{fault}").expect(&rt, "memory");
         assert_eq!(rt; told.as_str(), text);

@@ -18,7 +18,7 @@ use Rattle.onfi_chip.specs.Sim.{request_in, IsReady, IsPost}
 pub record HasRun (before now : Stored) (all rest : List Member) (old new : List Post) : Type 0 where
   pub device : now.device ≡ before.device
   pub ready : Each (IsReady now) rest
-  pub formed : Each (IsPost before.device.shape.bytes) new
+  pub formed : Each (IsPost before.device.shape) new
   pub others : (lun block : ℕ) → IsKept lun block before → IsKept lun block now
   pub blocks : happen before.device (map request_in rest) (blocks_of now) ≡ happen before.device (map request_in all) (blocks_of before)
   pub posts : new ++ posts_of before.device (map request_in rest) (blocks_of now) ≡ old ++ posts_of before.device (map request_in all) (blocks_of before)
@@ -51,16 +51,16 @@ pub one_more_run :
     HasRun before now all (m ∷ rest) old new → kind ≡ kind_of m.operation → next.device ≡ now.device →
     blocks_of next ≡ changed now.device (request_in m) (blocks_of now) →
     answer ≡ answer_of now.device (request_in m) (block_of (request_in m) (blocks_of now)) →
-    IsAnswerTo now.device.shape.bytes (kind_of m.operation) answer → ((lun block : ℕ) → IsKept lun block now → IsKept lun block next) →
+    IsAnswerTo now.device.shape (kind_of m.operation) answer → ((lun block : ℕ) → IsKept lun block now → IsKept lun block next) →
     HasRun before next all rest old (new ++ record { kind = kind; place = m.place; answer = answer } ∷ [])
 one_more_run before now next all rest m kind answer old new h k d e a w o =
     let e' : blocks_of next ≡ changed before.device (request_in m) (blocks_of now) = subst (λ (x : Device). blocks_of next ≡ changed x (request_in m) (blocks_of now)) h.device e in
     let a' : answer ≡ answer_of before.device (request_in m) (block_of (request_in m) (blocks_of now)) = subst (λ (x : Device). answer ≡ answer_of x (request_in m) (block_of (request_in m) (blocks_of now))) h.device a in
-    let w' : IsAnswerTo before.device.shape.bytes (kind_of m.operation) answer = subst (λ (x : Device). IsAnswerTo x.shape.bytes (kind_of m.operation) answer) h.device w in
+    let w' : IsAnswerTo before.device.shape (kind_of m.operation) answer = subst (λ (x : Device). IsAnswerTo x.shape (kind_of m.operation) answer) h.device w in
     let done : HasRun before next all rest old (new ++ record { kind = kind_of m.operation; place = m.place; answer = answer } ∷ []) = record {
       device = d ∙ h.device;
       ready = all_ready now next rest d o h.ready.1;
-      formed = Each-push (IsPost before.device.shape.bytes) new _ h.formed w';
+      formed = Each-push (IsPost before.device.shape) new _ h.formed w';
       others = λ lun block z. o lun block (h.others lun block z);
       blocks = ap (happen before.device (map request_in rest)) e' ∙ h.blocks;
       posts = posts_step before.device m rest (blocks_of now) (blocks_of next) answer new e' a' ∙ h.posts;

@@ -9,7 +9,6 @@ use Rattle.std.proofs.Math.Seq.{map-set_same}
 use Rattle.std.specs.Option.{option_map}
 use Rattle.onfi_addr.specs.declared.geometry.Geometry.{Geometry}
 use Rattle.onfi_addr.specs.declared.place.Place.{Place}
-use Rattle.onfi_addr.specs.Rows.{page_bytes_of}
 use Rattle.onfi_timing.specs.declared.kind.Kind.{Kind}
 use Rattle.onfi_timing.specs.declared.kind.Kind.TheVariants as kind
 use Rattle.onfi_timing.specs.declared.spans.Spans.{Spans}
@@ -74,7 +73,7 @@ Each-get P (y ∷ ys) (suc i) x h l e = Each-get P ys i x h.1 (omega arith) e
 lane_still : (s t : Stored) (x : Lane) → t.device ≡ s.device → ((lun block : ℕ) → IsKept lun block s → IsKept lun block t) → IsLane s x → IsLane t x
 lane_still s t lane.Idle d o h = tt
 lane_still s t (lane.Commanding members wait) d o h = all_ready s t members.items d o h
-lane_still s t (lane.Posting posts wait) d o h = subst (λ (e : Device). Each (IsPost e.shape.bytes) posts.items) (sym d) h
+lane_still s t (lane.Posting posts wait) d o h = subst (λ (e : Device). Each (IsPost e.shape) posts.items) (sym d) h
 
 lanes_still : (s t : Stored) (xs : List Lane) → t.device ≡ s.device → ((lun block : ℕ) → IsKept lun block s → IsKept lun block t) → Each (IsLane s) xs → Each (IsLane t) xs
 lanes_still s t [] d o h = tt
@@ -187,10 +186,10 @@ lun_ready g t s lanes now i j x z moment v l e k h =
 
 pub form_of :
     (g : Geometry) (t : Timing) (s : Stored) (lanes : List Lane) (now : Sim) (post : Post) → view g t s lanes ≡ now → IsSim g s lanes →
-    IsPost s.device.shape.bytes post → IsAnswerTo (page_bytes_of now.geometry) post.kind post.answer
+    IsPost s.device.shape post → IsAnswerTo (shape_of now.geometry) post.kind post.answer
 form_of g t s lanes now post v h p =
-    subst (λ (y : Sim). IsAnswerTo (page_bytes_of y.geometry) post.kind post.answer) v
-    (subst (λ (q : Shape). IsAnswerTo q.bytes post.kind post.answer) h.shape p)
+    subst (λ (y : Sim). IsAnswerTo (shape_of y.geometry) post.kind post.answer) v
+    (subst (λ (q : Shape). IsAnswerTo q post.kind post.answer) h.shape p)
 
 pub commanded_is :
     (closer : Closer) (chip chip' : Chip) (r r' : Request) (now length : ℕ) (spans : Spans) → chip' ≡ chip → r' ≡ r → spans ≡ spans_of chip.timing r.kind → length ≡ hold closer spans →

@@ -13,6 +13,7 @@ use Rattle.onfi_request.specs.declared.answer.Answer.{Answer}
 use Rattle.onfi_request.specs.declared.answer.Answer.TheVariants.{Read, Done, Failed}
 use Rattle.onfi_request.specs.declared.request.Request.{Request}
 use Rattle.onfi_request.specs.Range.{Fits, IsPageFor}
+use Rattle.onfi_die.specs.declared.shape.Shape.{Shape}
 use Rattle.onfi_die.specs.Prepared.{IsAnswerTo}
 use Rattle.onfi_chip.specs.declared.closer.Closer.{Closer}
 use Rattle.onfi_chip.specs.declared.closer.Closer.TheVariants.{More, Last}
@@ -80,23 +81,23 @@ post_done old new now post left place p e n =
     (e ∙ ap (λ (q : Place). record (chip_of old.dies) { luns = slice_set old.dies.luns q.lun (after_post left (now + (spans_of old.dies.timing post.kind).post)) }) p)
     refl n
 
-pub is_read : (bytes : ℕ) (k : Kind) (answer : Answer) → operation_of k ≡ operation.Read → IsAnswerTo bytes k answer → ((content : List ℕ) → answer ≡ Read content → ⊥) → ⊥
-is_read bytes k (Read content) e h n = n content refl
-is_read bytes kind.Read Done e h n = h
-is_read bytes kind.Read Failed e h n = h
-is_read bytes (kind.ReadSectors first count) Done e h n = h
-is_read bytes (kind.ReadSectors first count) Failed e h n = h
-is_read bytes kind.Program Done e h n = absurd cc
-is_read bytes kind.Program Failed e h n = absurd cc
-is_read bytes kind.Erase Done e h n = absurd cc
-is_read bytes kind.Erase Failed e h n = absurd cc
+pub is_read : (shape : Shape) (k : Kind) (answer : Answer) → operation_of k ≡ operation.Read → IsAnswerTo shape k answer → ((content : List ℕ) → answer ≡ Read content → ⊥) → ⊥
+is_read shape k (Read content) e h n = n content refl
+is_read shape kind.Read Done e h n = h
+is_read shape kind.Read Failed e h n = h
+is_read shape (kind.ReadSectors first count) Done e h n = h
+is_read shape (kind.ReadSectors first count) Failed e h n = h
+is_read shape kind.Program Done e h n = absurd cc
+is_read shape kind.Program Failed e h n = absurd cc
+is_read shape kind.Erase Done e h n = absurd cc
+is_read shape kind.Erase Failed e h n = absurd cc
 
-pub is_status : (bytes : ℕ) (k : Kind) (answer : Answer) → operation_of k ≢ operation.Read → IsAnswerTo bytes k answer → IsStatus answer
-is_status bytes kind.Read answer n h = absurd (n refl)
-is_status bytes (kind.ReadSectors first count) answer n h = absurd (n refl)
-is_status bytes kind.Program (Read content) n h = h
-is_status bytes kind.Program Done n h = tt
-is_status bytes kind.Program Failed n h = tt
-is_status bytes kind.Erase (Read content) n h = h
-is_status bytes kind.Erase Done n h = tt
-is_status bytes kind.Erase Failed n h = tt
+pub is_status : (shape : Shape) (k : Kind) (answer : Answer) → operation_of k ≢ operation.Read → IsAnswerTo shape k answer → IsStatus answer
+is_status shape kind.Read answer n h = absurd (n refl)
+is_status shape (kind.ReadSectors first count) answer n h = absurd (n refl)
+is_status shape kind.Program (Read content) n h = h
+is_status shape kind.Program Done n h = tt
+is_status shape kind.Program Failed n h = tt
+is_status shape kind.Erase (Read content) n h = h
+is_status shape kind.Erase Done n h = tt
+is_status shape kind.Erase Failed n h = tt

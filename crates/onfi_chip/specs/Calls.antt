@@ -1,12 +1,13 @@
 -- What a chip's calls ask for, and what they leave.
-use Rattle.std.specs.Prelude.{◌≡◌, ℕ, ◌<◌, ◌≤◌, List, ◌∷◌, Option, Some, None, All, IsBitSet, slice_get}
+use Rattle.std.specs.Prelude.{◌≡◌, ◌⊎◌, ℕ, ◌<◌, ◌≤◌, true, List, ◌∷◌, Option, Some, None, All, IsBitSet, slice_get}
 use Rattle.onfi_addr.specs.declared.geometry.Geometry.{Geometry}
 use Rattle.onfi_addr.specs.Rows.{IsInRange, row_of, plane_of_block}
 use Rattle.onfi_timing.specs.declared.kind.Kind.{Kind}
-use Rattle.onfi_timing.specs.Kinds.{operation_of}
+use Rattle.onfi_timing.specs.Kinds.{operation_of, sectors_of}
 use Rattle.onfi_request.specs.declared.answer.Answer.{Answer}
 use Rattle.onfi_request.specs.declared.answer.Answer.TheVariants.{Read, Done, Failed}
 use Rattle.onfi_request.specs.declared.request.Request.{Request}
+use Rattle.onfi_request.specs.Parts.{bytes_out, first_column, has_part}
 use Rattle.onfi_request.specs.Range.{Fits}
 use Rattle.onfi_chip.specs.declared.closer.Closer.{Closer}
 use Rattle.onfi_chip.specs.declared.closer.Closer.TheVariants.{More, Last}
@@ -48,7 +49,14 @@ pub record IsNextPost (chip : Chip) (now row : ℕ) (post : Post) (left : List P
   pub there : slice_get chip.luns post.place.lun ≡ Some (Posting (post ∷ left) ready)
   pub over : ready ≤ now
   pub in_range : IsInRange chip.geometry post.place
+  pub part : has_part chip.geometry post.kind ≡ true
   pub row_is : row_of chip.geometry post.place ≡ row
+
+-- the output of a kind's sectors: its column, and how many bytes it has
+pub record IsOutput (geometry : Geometry) (kind : Kind) (column bytes : ℕ) : Type 0 where
+  pub sectors : 1 ≤ sectors_of kind
+  pub column_is : column ≡ first_column geometry kind
+  pub bytes_are : bytes ≡ bytes_out geometry kind
 
 abbrev pub command_of : Closer → Chip → Request → ℕ → Chip
 command_of More chip r now = commanded chip r now
@@ -73,6 +81,20 @@ pub record HasDone (after new : Chip) : Type 0 where
 pub record IsLost (fault : PostFault) (old new : Chip) : Type 0 where
   pub faults : new.faults ≡ old.faults
   pub rose : HasRisen fault old.failures new.failures
+
+-- an output of sectors failed: the chip has none, and is as it was, or its bus failed
+abbrev pub IsUnread : Chip → Chip → Type 0
+IsUnread old new = (new ≡ old) ⊎ IsLost post.Bus old new
+
+-- the post is an output of sectors by a chip that has none, and is as it was
+pub record IsRefused (kind : Kind) (fault : PostFault) (old new : Chip) : Type 0 where
+  pub sectors : 1 ≤ sectors_of kind
+  pub bus : fault ≡ post.Bus
+  pub same : new ≡ old
+
+-- a post of that kind gave no answer
+abbrev pub IsMissed : Kind → PostFault → Chip → Chip → Type 0
+IsMissed kind fault old new = IsLost fault old new ⊎ IsRefused kind fault old new
 
 -- where memory was refused the chip is unchanged
 abbrev pub AfterFault : ChipFault → Chip → Chip → Type 0

@@ -9,6 +9,7 @@ pub mod Arrays
 pub mod SimChip
 pub use Rattle.onfi_addr.specs.Rows
 pub use Rattle.onfi_timing.specs.Kinds
+pub use Rattle.onfi_request.specs.Parts
 pub use Rattle.onfi_request.specs.Range
 pub use Rattle.onfi_die.specs.Shapes
 pub use Rattle.onfi_die.specs.Contents

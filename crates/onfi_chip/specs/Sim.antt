@@ -6,6 +6,7 @@ use Rattle.onfi_timing.specs.declared.timing.Timing.{Timing}
 use Rattle.onfi_timing.specs.declared.operation.Operation.TheVariants.{Read}
 use Rattle.onfi_timing.specs.Kinds.{operation_of}
 use Rattle.onfi_request.specs.declared.request.Request.{Request}
+use Rattle.onfi_die.specs.declared.shape.Shape.{Shape}
 use Rattle.onfi_die.specs.Shapes.{shape_of}
 use Rattle.onfi_die.specs.Prepared.{kind_of, HasRoom, IsAnswerTo}
 use Rattle.onfi_die.specs.Requests.{request_of}
@@ -82,14 +83,14 @@ pub record IsReady (store : Stored) (member : Member) : Type 0 where
   pub room : HasRoom store.device.shape.bytes member.operation
 
 -- the post has an answer to its operation
-abbrev pub IsPost : ℕ → Post → Type 0
-IsPost bytes post = IsAnswerTo bytes post.kind post.answer
+abbrev pub IsPost : Shape → Post → Type 0
+IsPost shape post = IsAnswerTo shape post.kind post.answer
 
 -- what a lane waits for can be done
 abbrev pub IsLane : Stored → Lane → Type 0
 IsLane store lane.Idle = Unit {0}
 IsLane store (lane.Commanding members wait) = Each (IsReady store) members.items
-IsLane store (lane.Posting posts wait) = Each (IsPost store.device.shape.bytes) posts.items
+IsLane store (lane.Posting posts wait) = Each (IsPost store.device.shape) posts.items
 
 pub record IsSim (geometry : Geometry) (store : Stored) (all : List Lane) : Type 0 where
   pub shape : store.device.shape ≡ shape_of geometry

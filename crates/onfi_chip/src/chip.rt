@@ -1,5 +1,6 @@
 ghost use Rattle.std.specs.Prelude.{◌≡◌, ◌≢◌, List, length, false, IsBitSet, IsTrue, OnOk, IfOk, IfErr};
 ghost use Rattle.onfi_addr.specs.Rows.{page_bytes_of};
+ghost use Rattle.onfi_timing.specs.declared.kind.Kind.TheVariants as kind;
 ghost use Rattle.onfi_timing.specs.declared.operation.Operation.TheVariants as operation;
 ghost use Rattle.onfi_timing.specs.Kinds.{operation_of};
 ghost use Rattle.onfi_request.specs.declared.answer.Answer.TheVariants as answer;
@@ -7,7 +8,7 @@ ghost use Rattle.onfi_request.specs.declared.request.Request.{Request as AReques
 ghost use Rattle.onfi_chip.specs.declared.fault.PostFault.TheVariants.{Bus, NotReady};
 ghost use Rattle.onfi_chip.specs.declared.post.Post.{Post as APost};
 ghost use Rattle.onfi_chip.specs.Chip.{Chip as ChipState, found_ready, posted};
-ghost use Rattle.onfi_chip.specs.Calls.{IsNextCommand, IsNextPost, command_of, HasDone, IsLost, AfterFault, TellsAnswer};
+ghost use Rattle.onfi_chip.specs.Calls.{IsNextCommand, IsNextPost, command_of, HasDone, IsLost, IsOutput, IsUnread, AfterFault, TellsAnswer};
 
 use crate::closer::Closer;
 use crate::fault::ChipFault;
@@ -47,17 +48,38 @@ pub trait Chip {
             → HasDone (command_of closer (state self.old) r now) (state self.new)) }
         ensures err { IfErr result (λ fault. AfterFault fault (state self.old) (state self.new)) };
 
-    /// The data output of a read, its post: 06h, the address, E0h, then all bytes of the page into `out` (ONFI 4.2,
-    /// Change Read Column Enhanced).
+    /// The data output of a read of a whole page, its post: 06h, the address, E0h, then all bytes of the page into `out`
+    /// (ONFI 4.2, Change Read Column Enhanced).
     ///
     /// # Errors
     /// `Bus`, only where the chip's count of failed buses rose.
     fn data_out(&mut self, now: u64, row: u64, out: &mut [u8]) -> Result<(), ChipFault>
-        requires next { (post : APost) × (left : List APost) × IsNextPost (state self.old) now row post left × (operation_of post.kind ≡ operation.Read) }
+        requires next { (post : APost) × (left : List APost) × IsNextPost (state self.old) now row post left × (post.kind ≡ kind.Read) }
         requires room { length out.old ≡ page_bytes_of (state self.old).geometry }
         ensures ok { OnOk result ((post : APost) (left : List APost) → IsNextPost (state self.old) now row post left
             → (post.answer ≡ answer.Read out.new) × HasDone (posted (state self.old) post left now) (state self.new)) }
         ensures err { IfErr result (λ fault. (fault ≡ ChipFault.Bus) × IsLost Bus (state self.old) (state self.new)) };
+
+    /// The data output of some sectors of a read's page, its post: 06h, the column of the first sector, the row, E0h, then
+    /// their bytes into `out` (ONFI 4.2, Change Read Column Enhanced). A chip that doesn't say otherwise here has none, and
+    /// answers `Bus`.
+    ///
+    /// # Errors
+    /// `Bus`, only where the chip's count of failed buses rose, or the chip has no sectors and is unchanged.
+    fn sectors_out(
+        &mut self,
+        now: u64,
+        row: u64,
+        column: u16,
+        out: &mut [u8],
+    ) -> Result<(), ChipFault>
+        requires next { (post : APost) × (left : List APost) × IsNextPost (state self.old) now row post left × IsOutput (state self.old).geometry post.kind column (length out.old) }
+        ensures ok { OnOk result ((post : APost) (left : List APost) → IsNextPost (state self.old) now row post left
+            → (post.answer ≡ answer.Read out.new) × HasDone (posted (state self.old) post left now) (state self.new)) }
+        ensures err { IfErr result (λ fault. (fault ≡ ChipFault.Bus) × IsUnread (state self.old) (state self.new)) }
+    {
+        Err(ChipFault::Bus)
+    }
 
     /// The status of a program or an erase, its post: 78h, the row address, then one byte (ONFI 4.2, Read Status
     /// Enhanced). Bit 6 is RDY; where it is 1, bit 0 is FAIL of that member.

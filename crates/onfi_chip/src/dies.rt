@@ -36,9 +36,10 @@ impl Model for Dies {
 
 impl Dies {
     ghost use Rattle.onfi_addr.specs.declared.place.Place.{Place as APlace};
-    ghost use Rattle.onfi_addr.specs.Rows.{IsInRange, row_of, page_bytes_of};
+    ghost use Rattle.onfi_addr.specs.Rows.{IsInRange, row_of};
     ghost use Rattle.onfi_timing.specs.Kinds.{spans_of};
     ghost use Rattle.onfi_request.specs.Range.{Fits};
+    ghost use Rattle.onfi_die.specs.Shapes.{shape_of};
     ghost use Rattle.onfi_die.specs.Prepared.{IsAnswerTo};
     ghost use Rattle.onfi_chip.specs.declared.post.Post.{Post as APost};
     ghost use Rattle.onfi_chip.specs.Chip.{opened, no_failures, after_post, found_ready};
@@ -157,7 +158,7 @@ impl Dies {
         ensures taken { (post : APost) (left : List APost) (ready : ℕ) → slice_get self.old.luns place.lun ≡ Some (InPosts (post ∷ left) ready)
             → (result ≡ post)
             × (chip_of self.new ≡ record (chip_of self.old) { luns = slice_set self.old.luns place.lun (after_post left (now + (spans_of self.old.timing post.kind).post)) }) }
-        ensures form { IsAnswerTo (page_bytes_of self.old.geometry) result.kind result.answer }
+        ensures form { IsAnswerTo (shape_of self.old.geometry) result.kind result.answer }
     {
         self.lanes[usize::from(place.lun)].pop(&self.timing, now)
     }

@@ -2,7 +2,8 @@ ghost use Rattle.std.specs.Prelude.{◌≡◌, IfOk};
 ghost use Rattle.onfi_chip.specs.Fetching.{HasRoom};
 
 use onfi_addr::{Geometry, Place};
-use onfi_timing::{Kind, Operation};
+use onfi_request::bytes_out;
+use onfi_timing::Kind;
 use std::alloc::{AllocError, Global};
 
 /// What the post of a member fetches, with room for it: to read the post takes no memory.
@@ -14,7 +15,7 @@ pub struct Fetch {
 }
 
 impl Fetch {
-    /// The post of a member of that kind at that place; a read has room for the data and spare bytes of a page.
+    /// The post of a member of that kind at that place; a read has room for the bytes that it puts out.
     ///
     /// # Errors
     /// Where memory was refused.
@@ -28,11 +29,7 @@ impl Fetch {
         ensures place { IfOk result (λ fetch. fetch.place ≡ place) }
         ensures room { IfOk result (λ fetch. HasRoom geometry.now fetch) }
     {
-        let count = match kind.operation() {
-            Operation::Read => usize::from(geometry.page_bytes()),
-            Operation::Program | Operation::Erase => 0,
-        };
-        let room = vec![in alloc; 0; count]?;
+        let room = vec![in alloc; 0; bytes_out(geometry, kind) as usize]?;
         Ok(Fetch { kind, place, room })
     }
 
@@ -50,7 +47,7 @@ impl Fetch {
         self.place
     }
 
-    /// Its room: for a read as many bytes as a page has.
+    /// Its room: for a read as many bytes as it puts out.
     pub(crate) fn into_room(self) -> Vec<u8>
         ensures { result.items ≡ self.room.items }
     {

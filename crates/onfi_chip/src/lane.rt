@@ -89,7 +89,7 @@ impl Lane {
         requires { (post : APost) × (left : List APost) × (ready : ℕ) × (lun_of self.old ≡ InPosts (post ∷ left) ready) }
         ensures taken { (post : APost) (left : List APost) (ready : ℕ) → lun_of self.old ≡ InPosts (post ∷ left) ready
             → (result ≡ post) × (lun_of self.new ≡ after_post left (now + (spans_of timing.now post.kind).post)) }
-        ensures formed { (store : Stored) → IsLane store self.old → IsPost store.device.shape.bytes result × IsLane store self.new }
+        ensures formed { (store : Stored) → IsLane store self.old → IsPost store.device.shape result × IsLane store self.new }
     {
         let Lane::Posting(posts, before) = self else {
             unreachable!();

@@ -66,11 +66,11 @@ pub(crate) fn close(
 fn run_all(store: &mut Store, mut members: VecDeque<Member>, posts: &mut VecDeque<Post>)
     requires ready { Each (IsReady store.old) members.items }
     requires room { deque_len posts.old + deque_len members ≤ deque_capacity posts.old }
-    requires formed { Each (IsPost store.old.device.shape.bytes) posts.old.items }
+    requires formed { Each (IsPost store.old.device.shape) posts.old.items }
     ensures device { store.new.device ≡ store.old.device }
     ensures blocks { blocks_of store.new ≡ happen store.old.device (map request_in members.items) (blocks_of store.old) }
     ensures posts { posts.new.items ≡ posts.old.items ++ posts_of store.old.device (map request_in members.items) (blocks_of store.old) }
-    ensures formed { Each (IsPost store.old.device.shape.bytes) posts.new.items }
+    ensures formed { Each (IsPost store.old.device.shape) posts.new.items }
     ensures others { (lun block : ℕ) → IsKept lun block store.old → IsKept lun block store.new }
 {
     while let Some(member) = members.pop_front() {

@@ -1,13 +1,15 @@
 ghost use Rattle.std.specs.Prelude.{◌≡◌, ◌≢◌, List, [], length, false, replicate, IfOk, OnOk, OnErr, IfErr, IsBitSet, IsTrue};
 ghost use Rattle.onfi_addr.specs.Rows.{page_bytes_of};
+ghost use Rattle.onfi_timing.specs.declared.kind.Kind.TheVariants as kind;
 ghost use Rattle.onfi_timing.specs.declared.operation.Operation.TheVariants as operation;
 ghost use Rattle.onfi_timing.specs.Kinds.{operation_of};
+ghost use Rattle.onfi_request.specs.Parts.{bytes_out};
 ghost use Rattle.onfi_request.specs.declared.answer.Answer.TheVariants as answer;
 ghost use Rattle.onfi_request.specs.declared.request.Request.{Request as ARequest};
 ghost use Rattle.onfi_chip.specs.declared.fault.PostFault.TheVariants.{Bus, NotReady};
 ghost use Rattle.onfi_chip.specs.declared.post.Post.{Post as APost};
 ghost use Rattle.onfi_chip.specs.Chip.{found_ready, posted};
-ghost use Rattle.onfi_chip.specs.Calls.{IsNextCommand, IsNextPost, command_of, HasDone, IsLost, AfterFault, TellsAnswer};
+ghost use Rattle.onfi_chip.specs.Calls.{IsNextCommand, IsNextPost, command_of, HasDone, IsLost, IsOutput, IsUnread, AfterFault, TellsAnswer};
 
 use crate::array_time::ArrayTime;
 use crate::arrays::Arrays;
@@ -40,7 +42,7 @@ pub struct SimChip {
 impl SimChip {
     ghost use Rattle.onfi_chip.specs.Chip.{opened, no_failures};
     ghost use Rattle.onfi_chip.specs.Arrays.{unused};
-    ghost use Rattle.onfi_chip.specs.SimChip.{chip_in, failing_calls, failing_statuses, calls_made, statuses_made, array_times, arrays_of, next_ready, KeepsCalls};
+    ghost use Rattle.onfi_chip.specs.SimChip.{chip_in, failing_calls, failing_statuses, calls_made, statuses_made, array_times, arrays_of, arrays_posted, next_ready, FailsAsListed, IsCounted, KeepsCalls, KeepsLists};
 
     /// A chip of this geometry and timing as it opens: all blocks erased, all LUNs idle. `faults` are the programs and
     /// erases that fail, `calls` the numbers, from 0, of the calls whose bus fails, `statuses` the numbers of the status
@@ -95,6 +97,34 @@ impl SimChip {
     {
         self.arrays.next_done(now)
     }
+
+    // What a read puts out, at its post, into `out`; where it begins on the page the command says.
+    fn put_out(&mut self, now: u64, row: u64, out: &mut [u8]) -> Result<(), ChipFault>
+        requires next { (post : APost) × (left : List APost) × IsNextPost (chip_in self.old) now row post left × (operation_of post.kind ≡ operation.Read)
+            × (length out.old ≡ bytes_out (chip_in self.old).geometry post.kind) }
+        ensures ok { OnOk result ((post : APost) (left : List APost) → IsNextPost (chip_in self.old) now row post left
+            → (post.answer ≡ answer.Read out.new) × HasDone (posted (chip_in self.old) post left now) (chip_in self.new)) }
+        ensures err { IfErr result (λ fault. (fault ≡ ChipFault.Bus) × IsLost Bus (chip_in self.old) (chip_in self.new)) }
+        ensures bus { FailsAsListed self.old result }
+        ensures lists { KeepsLists self.old self.new }
+        ensures counted { IsCounted self.old result self.new }
+        ensures no_status { statuses_made self.new ≡ statuses_made self.old }
+        ensures array { OnOk result ((post : APost) (left : List APost) → IsNextPost (chip_in self.old) now row post left
+            → arrays_of self.new ≡ arrays_posted self.old post.place.lun) }
+        ensures no_array { OnErr result (arrays_of self.new ≡ arrays_of self.old) }
+    {
+        if self.calls.count() {
+            return Err(ChipFault::Bus);
+        }
+        let place = self.dies.place(row);
+        let post = self.dies.post(place, now);
+        self.arrays.end(place.lun);
+        let Answer::Read(bytes) = post.answer else {
+            unreachable!();
+        };
+        out.copy_from_slice(bytes.as_slice());
+        Ok(())
+    }
 }
 
 impl Chip for SimChip {
@@ -143,7 +173,7 @@ impl Chip for SimChip {
     }
 
     fn data_out(&mut self, now: u64, row: u64, out: &mut [u8]) -> Result<(), ChipFault>
-        requires next { (post : APost) × (left : List APost) × IsNextPost (chip_in self.old) now row post left × (operation_of post.kind ≡ operation.Read) }
+        requires next { (post : APost) × (left : List APost) × IsNextPost (chip_in self.old) now row post left × (post.kind ≡ kind.Read) }
         requires room { length out.old ≡ page_bytes_of (chip_in self.old).geometry }
         ensures ok { OnOk result ((post : APost) (left : List APost) → IsNextPost (chip_in self.old) now row post left
             → (post.answer ≡ answer.Read out.new) × HasDone (posted (chip_in self.old) post left now) (chip_in self.new)) }
@@ -156,17 +186,30 @@ impl Chip for SimChip {
             → arrays_of self.new ≡ arrays_posted self.old post.place.lun) }
         ensures no_array { OnErr result (arrays_of self.new ≡ arrays_of self.old) }
     {
-        if self.calls.count() {
-            return Err(ChipFault::Bus);
-        }
-        let place = self.dies.place(row);
-        let post = self.dies.post(place, now);
-        self.arrays.end(place.lun);
-        let Answer::Read(bytes) = post.answer else {
-            unreachable!();
-        };
-        out.copy_from_slice(bytes.as_slice());
-        Ok(())
+        self.put_out(now, row, out)
+    }
+
+    fn sectors_out(
+        &mut self,
+        now: u64,
+        row: u64,
+        column: u16,
+        out: &mut [u8],
+    ) -> Result<(), ChipFault>
+        requires next { (post : APost) × (left : List APost) × IsNextPost (chip_in self.old) now row post left × IsOutput (chip_in self.old).geometry post.kind column (length out.old) }
+        ensures ok { OnOk result ((post : APost) (left : List APost) → IsNextPost (chip_in self.old) now row post left
+            → (post.answer ≡ answer.Read out.new) × HasDone (posted (chip_in self.old) post left now) (chip_in self.new)) }
+        ensures err { IfErr result (λ fault. (fault ≡ ChipFault.Bus) × IsUnread (chip_in self.old) (chip_in self.new)) }
+        ensures lost { IfErr result (λ _. IsLost Bus (chip_in self.old) (chip_in self.new)) }
+        ensures bus { FailsAsListed self.old result }
+        ensures lists { KeepsLists self.old self.new }
+        ensures counted { IsCounted self.old result self.new }
+        ensures no_status { statuses_made self.new ≡ statuses_made self.old }
+        ensures array { OnOk result ((post : APost) (left : List APost) → IsNextPost (chip_in self.old) now row post left
+            → arrays_of self.new ≡ arrays_posted self.old post.place.lun) }
+        ensures no_array { OnErr result (arrays_of self.new ≡ arrays_of self.old) }
+    {
+        self.put_out(now, row, out)
     }
 
     fn status(&mut self, now: u64, row: u64) -> Result<u8, ChipFault>

@@ -8,7 +8,7 @@ use Rattle.onfi_script.specs.declared.command.Output.TheVariants as output
 use Rattle.onfi_console.specs.declared.parsed.CommandName.{CommandName}
 use Rattle.onfi_console.specs.declared.parsed.CommandName.TheVariants as called
 use Rattle.onfi_console.specs.declared.parsed.Named.{Named}
-use Rattle.onfi_console.specs.declared.parsed.Named.TheVariants.{Problem, Run, Device}
+use Rattle.onfi_console.specs.declared.parsed.Named.TheVariants.{Problem, Run, Device, Audit, Gaps}
 use Rattle.onfi_console.specs.declared.parsed.Parsed.{Parsed}
 use Rattle.onfi_console.specs.Words.{IsLimit, IsWorkers, app, given, usual_of}
 
@@ -44,21 +44,29 @@ abbrev pub command_of : Named → CommandName
 command_of (Problem command workers) = command_in command
 command_of (Run planner limit clocked) = called.Run
 command_of Device = called.Device
+command_of (Audit options) = called.Audit
+command_of (Gaps options) = called.Audit
 
 abbrev pub limit_of : Named → ℕ
 limit_of (Problem command workers) = limit_in command
 limit_of (Run planner limit clocked) = limit
 limit_of Device = 1048576
+limit_of (Audit options) = 1048576
+limit_of (Gaps options) = options.limit
 
 abbrev pub trace_of : Named → Bool
 trace_of (Problem command workers) = trace_in command
 trace_of (Run planner limit clocked) = false
 trace_of Device = false
+trace_of (Audit options) = false
+trace_of (Gaps options) = false
 
 abbrev pub workers_of : Named → ℕ
 workers_of (Problem command workers) = workers
 workers_of (Run planner limit clocked) = 1
 workers_of Device = 1
+workers_of (Audit options) = 1
+workers_of (Gaps options) = 1
 
 -- the word for a command
 abbrev pub word_of : CommandName → List ℕ
@@ -66,12 +74,15 @@ word_of called.Plan = codes "plan"
 word_of called.Check = codes "check"
 word_of called.Run = codes "run"
 word_of called.Device = codes "device"
+word_of called.Audit = codes "audit"
 
 -- the limit of a search where none is named
 abbrev pub usual_in : Named → List Used → ℕ
 usual_in (Problem command workers) used = if given (codes "within") used then 65536 else 1048576
 usual_in (Run planner limit clocked) used = usual_of planner
 usual_in Device used = 1048576
+usual_in (Audit options) used = 1048576
+usual_in (Gaps options) used = 65536
 
 -- the limit that was given; `check` and `device` take none
 abbrev pub IsLimitRead : CommandName → Named → List Used → Type 0
@@ -79,6 +90,7 @@ IsLimitRead called.Check named used = limit_of named ≡ 1048576
 IsLimitRead called.Device named used = limit_of named ≡ 1048576
 IsLimitRead called.Plan named used = IsLimit (usual_in named used) (first_of (codes "limit") used) (limit_of named)
 IsLimitRead called.Run named used = IsLimit (usual_in named used) (first_of (codes "limit") used) (limit_of named)
+IsLimitRead called.Audit named used = IsLimit (usual_in named used) (first_of (codes "limit") used) (limit_of named)
 
 -- whether a flag that asks for a trace was given; `plan` alone takes one
 abbrev pub IsTraceRead : CommandName → Named → List Used → Type 0
@@ -86,6 +98,7 @@ IsTraceRead called.Plan named used = trace_of named ≡ (given (codes "trace") u
 IsTraceRead called.Check named used = trace_of named ≡ false
 IsTraceRead called.Run named used = trace_of named ≡ false
 IsTraceRead called.Device named used = trace_of named ≡ false
+IsTraceRead called.Audit named used = trace_of named ≡ false
 
 -- the number of workers that was given; `plan` alone takes one
 abbrev pub IsWorkersRead : CommandName → Named → List Used → Type 0
@@ -93,6 +106,7 @@ IsWorkersRead called.Plan named used = IsWorkers false (first_of (codes "workers
 IsWorkersRead called.Check named used = workers_of named ≡ 1
 IsWorkersRead called.Run named used = workers_of named ≡ 1
 IsWorkersRead called.Device named used = workers_of named ≡ 1
+IsWorkersRead called.Audit named used = workers_of named ≡ 1
 
 -- what is read is what a subcommand with these arguments names, the defaults where it names none
 pub record IsRead (named : Named) (name : List ℕ) (used : List Used) : Type 0 where

@@ -6,6 +6,8 @@ use Rattle.onfi_planners.specs.declared.chosen.ChosenPlanner.{ChosenPlanner}
 use Rattle.onfi_planners.specs.declared.chosen.ChosenPlanner.TheVariants.{Plain, Remembering, BestSoFar, ByRule}
 use Rattle.onfi_planners.specs.declared.early.SlackPlanner.{SlackPlanner}
 use Rattle.onfi_planners.specs.declared.weighing.Weighing.TheVariants.{ByAge}
+use Rattle.onfi_script.specs.declared.auditing.AuditOptions.{AuditOptions}
+use Rattle.onfi_script.specs.declared.auditing.GapOptions.{GapOptions}
 use Rattle.onfi_script.specs.declared.command.Command.{Command}
 use Rattle.onfi_script.specs.declared.command.Command.TheVariants.{Plan, Check, PlanBy, CheckBy, Legal}
 use Rattle.onfi_script.specs.declared.command.Output.{Output}
@@ -15,7 +17,7 @@ use Rattle.onfi_script.specs.Limit.{IsLimited}
 use Rattle.onfi_console.specs.declared.fault.Untaken.{Untaken}
 use Rattle.onfi_console.specs.declared.fault.Untaken.TheVariants.{Refused, Memory, Version}
 use Rattle.onfi_console.specs.declared.parsed.Named.{Named}
-use Rattle.onfi_console.specs.declared.parsed.Named.TheVariants.{Problem, Run, Device}
+use Rattle.onfi_console.specs.declared.parsed.Named.TheVariants.{Problem, Run, Device, Audit, Gaps}
 use Rattle.onfi_console.specs.declared.parsed.Parsed.{Parsed}
 
 -- `--NAME VALUE`
@@ -77,6 +79,18 @@ run = with_rule (with_rule (with_rule run_planning (value (codes "clock"))) quie
 abbrev pub device : App
 device = with_rule (with_rule (command (codes "device")) quiet) (file (codes "FILE"))
 
+-- `audit [--all] [--ready-by-status]`
+abbrev pub audit_judging : App
+audit_judging = with_rule (with_rule (command (codes "audit")) (flag (codes "all"))) (flag (codes "ready-by-status"))
+
+-- .. with `[--optimum] [--limit N] [--csv]`
+abbrev pub audit_measuring : App
+audit_measuring = with_rule (with_rule (with_rule audit_judging (flag (codes "optimum"))) (value (codes "limit"))) (flag (codes "csv"))
+
+-- .. with `[--quiet] [FILE [LOG]]`
+abbrev pub audit : App
+audit = with_rule (with_rule (with_rule audit_measuring quiet) (file (codes "FILE"))) (file (codes "LOG"))
+
 abbrev pub program : App
 program = record (command (codes "onfi_sim")) { top = record (command (codes "onfi_sim")).top { has_version = true } }
 
@@ -84,9 +98,9 @@ program = record (command (codes "onfi_sim")) { top = record (command (codes "on
 abbrev pub planning : App
 planning = with_subcommand (with_subcommand program plan.top) check.top
 
--- .. with `run` and `device`
+-- .. with `run`, `device` and `audit`
 abbrev pub app : App
-app = with_subcommand (with_subcommand planning run.top) device.top
+app = with_subcommand (with_subcommand (with_subcommand planning run.top) device.top) audit.top
 
 -- the number that was given, 1 to 1,048,576; where none was the usual one
 abbrev pub IsLimit : ℕ → Option (List ℕ) → ℕ → Type 0
@@ -214,6 +228,8 @@ abbrev pub IsInRange : Named → Type 0
 IsInRange (Problem command workers) = IsLimited command × (1 ≤ workers) × (workers ≤ 8)
 IsInRange (Run planner limit clocked) = (1 ≤ limit) × (limit ≤ 1048576)
 IsInRange Device = ⊤
+IsInRange (Audit options) = ⊤
+IsInRange (Gaps options) = ⊤
 
 -- the flag or number of this name
 abbrev pub given : List ℕ → List Used → Bool
@@ -270,15 +286,41 @@ pub record IsRun (planner : RunPlanner) (used : List Used) : Type 0 where
   pub is_slack : IsSlack (first_of (codes "slack") used) slack
   pub is_planner : planner ≡ run_planner search (unwrap_or slack 0)
 
+-- `audit` without `--optimum` is for this: neither a limit nor a table is asked for
+pub record IsAudit (options : AuditOptions) (used : List Used) : Type 0 where
+  pub no_optimum : given (codes "optimum") used ≡ false
+  pub no_limit : is_some (first_of (codes "limit") used) ≡ false
+  pub no_table : given (codes "csv") used ≡ false
+  pub is_all : options.all ≡ given (codes "all") used
+  pub is_by_status : options.by_status ≡ given (codes "ready-by-status") used
+
+-- `audit --optimum` is for this, by the stated times
+pub record IsGaps (options : GapOptions) (used : List Used) : Type 0 where
+  pub optimum : given (codes "optimum") used ≡ true
+  pub stated : given (codes "ready-by-status") used ≡ false
+  pub is_limit : IsLimit 65536 (first_of (codes "limit") used) options.limit
+  pub is_all : options.all ≡ given (codes "all") used
+  pub is_table : options.csv ≡ given (codes "csv") used
+
 -- a subcommand with these arguments is what is named
 abbrev pub IsNamed : Named → List ℕ → List Used → Type 0
 IsNamed (Problem command workers) name used = ((name ≡ codes "plan") × (IsPlan command workers used ⊎ IsPlanByRule command workers used)) ⊎ ((name ≡ codes "check") × IsCheck command used × (workers ≡ 1))
 IsNamed Device name used = name ≡ codes "device"
+IsNamed (Audit options) name used = (name ≡ codes "audit") × IsAudit options used
+IsNamed (Gaps options) name used = (name ≡ codes "audit") × IsGaps options used
 IsNamed (Run planner limit clocked) name used = (name ≡ codes "run") × IsClock (first_of (codes "clock") used) clocked × (IsRun planner used ⊎ IsRunByRule planner used) × IsLimit (usual_of planner) (first_of (codes "limit") used) limit
+
+-- the file after that of the script: a plan text, or a log
+abbrev pub file_or : Option (List ℕ) → Option (List ℕ) → Option (List ℕ)
+file_or None log = log
+file_or (Some plan) log = Some plan
+
+abbrev pub second_file : List Used → Option (List ℕ)
+second_file used = file_or (first_of (codes "PLAN") used) (first_of (codes "LOG") used)
 
 -- .. with these files, quiet or not
 abbrev pub IsParsed : Parsed → List ℕ → List Used → Type 0
-IsParsed parsed name used = IsNamed parsed.named name used × (option_map (λ s. s.now) parsed.script ≡ first_of (codes "FILE") used) × (option_map (λ s. s.now) parsed.plan ≡ first_of (codes "PLAN") used) × (parsed.quiet ≡ given (codes "quiet") used)
+IsParsed parsed name used = IsNamed parsed.named name used × (option_map (λ s. s.now) parsed.script ≡ first_of (codes "FILE") used) × (option_map (λ s. s.now) parsed.plan ≡ second_file used) × (parsed.quiet ≡ given (codes "quiet") used)
 
 -- the words, of which the first is the program's name, ask for this
 abbrev pub Ask : List (List ℕ) → Parsed → Type 0

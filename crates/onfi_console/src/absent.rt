@@ -4,7 +4,7 @@ use csv::ByteRecord;
 use onfi_script::{Purpose, device_of, page_device, read_rows};
 use std::alloc::Global;
 
-/// The most rows `op` of a script.
+/// The most rows `op` and `opread` of a script.
 const MOST_OPS: usize = 10_000;
 
 /// How many there are of what rows name by a number; none where that isn't known.
@@ -87,12 +87,17 @@ pub fn absent_field(
     None
 }
 
-/// Whether a row, counted from 1, is one `op` more than a script may have.
+/// Whether a row of this name is an operation of a host.
+fn is_op(name: &[u8]) -> bool {
+    name == b"op".as_slice() || name == b"opread".as_slice()
+}
+
+/// Whether a row, counted from 1, is one operation more than a script may have.
 pub fn is_op_too_many(records: &[ByteRecord], row: usize) -> bool {
     let ops = records
         .iter()
         .take(row)
-        .filter(|record| field(record, 0) == b"op".as_slice())
+        .filter(|record| is_op(field(record, 0)))
         .count();
     ops > MOST_OPS
 }

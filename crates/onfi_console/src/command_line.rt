@@ -13,8 +13,9 @@ use crate::fault::{Untaken, WordsFault};
 use crate::parsed::{MOST, Named, Parsed};
 use clap::error::ErrorKind;
 use clap::{ArgMatches, Error};
+use onfi_plan::Limit;
 use onfi_planners::{ChosenPlanner, Nodes, SlackPlanner, Weighing};
-use onfi_script::{Command, Output, PlanOptions, number};
+use onfi_script::{AuditOptions, Command, GapOptions, Output, PlanOptions, number};
 use std::alloc::{AllocError, Global};
 
 /// Why a command or the value of an option is not taken.
@@ -34,13 +35,17 @@ enum ValueFault {
     Clock,
     SearchBesideRule,
     RunSearchBesideRule,
+    LimitWithoutOptimum,
+    CsvWithoutOptimum,
+    StatusBesideOptimum,
 }
 
 impl ValueFault {
     /// What is said of it.
     fn text(self) -> &'static str {
         match self {
-            ValueFault::NoCommand => "a command was expected: 'plan', 'check', 'run' or 'device'",
+            ValueFault::NoCommand =>
+                "a command was expected: 'plan', 'check', 'audit', 'run' or 'device'",
             ValueFault::Limit => "'--limit' wants a number from 1 to 1048576, digits alone",
             ValueFault::Workers => "'--workers' wants a number from 1 to 8, digits alone",
             ValueFault::WorkersBesideRemember => {
@@ -71,6 +76,15 @@ impl ValueFault {
             }
             ValueFault::RunSearchBesideRule => {
                 "'--rule' can't be used with '--limit', '--plain', '--within' or '--slack': it searches nothing"
+            }
+            ValueFault::LimitWithoutOptimum => {
+                "'--limit' can't be used without '--optimum': nothing else of 'audit' searches"
+            }
+            ValueFault::CsvWithoutOptimum => {
+                "'--csv' can't be used without '--optimum': nothing else of 'audit' is a table"
+            }
+            ValueFault::StatusBesideOptimum => {
+                "'--ready-by-status' can't be used with '--optimum': pieces are planned by the stated times"
             }
         }
     }
@@ -444,6 +458,52 @@ fn run_of(used: &ArgMatches<'_>) -> Result<Named, ValueFault>
     })
 }
 
+/// How a log is judged, by the flags that are given.
+fn audit_options(used: &ArgMatches<'_>) -> AuditOptions
+    ensures all { result.all ≡ spec.given (codes "all") (rows_of (found_of used.now)) }
+    ensures by_status { result.by_status ≡ spec.given (codes "ready-by-status") (rows_of (found_of used.now)) }
+{
+    let all = is_given(used, "all");
+    let by_status = is_given(used, "ready-by-status");
+    AuditOptions { all, by_status }
+}
+
+/// What `audit --optimum` with these arguments names.
+fn audit_optimum_of(used: &ArgMatches<'_>) -> Result<Named, ValueFault>
+    requires { spec.given (codes "optimum") (rows_of (found_of used.now)) ≡ true }
+    ensures range { IfOk result (λ named. spec.IsInRange named) }
+    ensures named { IfOk result (λ named. spec.IsNamed named (codes "audit") (rows_of (found_of used.now))) }
+{
+    let AuditOptions { all, by_status } = audit_options(used);
+    if by_status {
+        return Err(ValueFault::StatusBesideOptimum);
+    }
+    let nodes = limit_of(used, usual_for(ChosenPlanner::BestSoFar))?;
+    let limit = Limit::of(nodes).unwrap();
+    let csv = is_given(used, "csv");
+    let options = GapOptions { all, limit, csv };
+    Ok(Named::Gaps { options })
+}
+
+/// What `audit` with these arguments names.
+fn audit_of(used: &ArgMatches<'_>) -> Result<Named, ValueFault>
+    ensures range { IfOk result (λ named. spec.IsInRange named) }
+    ensures named { IfOk result (λ named. spec.IsNamed named (codes "audit") (rows_of (found_of used.now))) }
+{
+    let optimum = is_given(used, "optimum");
+    if optimum {
+        return audit_optimum_of(used);
+    }
+    if has_value(used, "limit") {
+        return Err(ValueFault::LimitWithoutOptimum);
+    }
+    if is_given(used, "csv") {
+        return Err(ValueFault::CsvWithoutOptimum);
+    }
+    let options = audit_options(used);
+    Ok(Named::Audit { options })
+}
+
 /// What a command with these arguments names.
 fn named_of(name: &str, used: &ArgMatches<'_>) -> Result<Named, ValueFault>
     ensures range { IfOk result (λ named. spec.IsInRange named) }
@@ -454,7 +514,18 @@ fn named_of(name: &str, used: &ArgMatches<'_>) -> Result<Named, ValueFault>
         "check" => check_of(used),
         "run" => run_of(used),
         "device" => Ok(Named::Device),
+        "audit" => audit_of(used),
         _ => Err(ValueFault::NoCommand),
+    }
+}
+
+/// The file after that of the script.
+fn second_file<'a>(used: &ArgMatches<'a>) -> Option<&'a str>
+    ensures { option_map (λ s. s.now) result ≡ spec.file_or (first_value (found_of used.now) (codes "PLAN")) (first_value (found_of used.now) (codes "LOG")) }
+{
+    match used.get_str("PLAN") {
+        Some(plan) => Some(plan),
+        None => used.get_str("LOG"),
     }
 }
 
@@ -506,7 +577,7 @@ pub fn read_words<'a>(alloc: Global, words: &'a [String]) -> Result<Parsed<'a>, 
     Ok(Parsed {
         named,
         script: used.get_str("FILE"),
-        plan: used.get_str("PLAN"),
+        plan: second_file(used),
         quiet: is_given(used, "quiet"),
     })
 }

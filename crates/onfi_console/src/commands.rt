@@ -177,6 +177,37 @@ fn device<'a>(alloc: Global) -> Result<Command<'a>, AllocError>
     with(device, file(alloc, "FILE", help::FILE))
 }
 
+/// `audit [--all] [--ready-by-status]`
+fn audit_judging<'a>(alloc: Global) -> Result<Command<'a>, AllocError>
+    ensures app { IfOk result (λ a. app_of a ≡ spec.audit_judging) }
+    ensures local { IfOk result (λ a. (fields_of a).has_globals ≡ false) }
+{
+    let audit = command(alloc, "audit", help::AUDIT, help::AUDIT_MORE);
+    let audit = with(audit, flag(alloc, "all", help::ALL))?;
+    with(audit, flag(alloc, "ready-by-status", help::READY_BY_STATUS))
+}
+
+/// .. with `[--optimum] [--limit N] [--csv]`
+fn audit_measuring<'a>(alloc: Global) -> Result<Command<'a>, AllocError>
+    ensures app { IfOk result (λ a. app_of a ≡ spec.audit_measuring) }
+    ensures local { IfOk result (λ a. (fields_of a).has_globals ≡ false) }
+{
+    let audit = audit_judging(alloc)?;
+    let audit = with(audit, flag(alloc, "optimum", help::OPTIMUM))?;
+    let audit = with(audit, number(alloc, "limit", help::LIMIT_AUDIT))?;
+    with(audit, flag(alloc, "csv", help::CSV))
+}
+
+/// .. with `[--quiet] [FILE [LOG]]`
+fn audit<'a>(alloc: Global) -> Result<Command<'a>, AllocError>
+    ensures app { IfOk result (λ a. app_of a ≡ spec.audit) }
+    ensures local { IfOk result (λ a. (fields_of a).has_globals ≡ false) }
+{
+    let audit = with(audit_measuring(alloc)?, quiet(alloc))?;
+    let audit = with(audit, file(alloc, "FILE", help::FILE))?;
+    with(audit, file(alloc, "LOG", help::LOG_FILE))
+}
+
 /// The program without a command.
 fn program<'a>(alloc: Global) -> Command<'a>
     ensures app { app_of result ≡ spec.program }
@@ -204,6 +235,7 @@ pub fn app<'a>(alloc: Global) -> Result<Command<'a>, AllocError>
 {
     let run = run(alloc)?;
     let device = device(alloc)?;
+    let audit = audit(alloc)?;
     let app = planning(alloc)?.subcommand(run)?;
-    app.subcommand(device)
+    app.subcommand(device)?.subcommand(audit)
 }

@@ -65,7 +65,7 @@ pub const RUN: &str =
     "Runs hosts' operations on simulated chips, a thread for each channel and each host.";
 
 pub const RUN_MORE: &str = "\
-Input: a script of page and sheet rows, channels, hosts and operations (op), up to the line 'end'.
+Input: a script of page and sheet rows, channels, hosts and operations (op, opread), up to the line 'end'.
 Output: a line for each reply, by host, channel and number, then 'closed'. With --clock each reply has its moment in ns, and
 lines tell how long each bus was busy and how long reads, programs and erases took: how many, their mean, most of 99 of 100.
 
@@ -92,6 +92,30 @@ or write failed.
 
 Example:
   onfi_sim device examples/program-by-page.onfi";
+
+pub const AUDIT: &str =
+    "Says whether a log of phases is legal, of any length, or which line breaks which condition.";
+
+pub const AUDIT_MORE: &str = "\
+Input: a script up to its line 'end', of a device and the state of bus and LUNs, and a log behind that line or in the file LOG,
+with a line for each phase in rising start: START LUN KIND PART BLOCK PAGE, or a line of 'plan --trace' or 'plan --requests'.
+Requests are those of the script (want), any number; without such rows each first command of one mentions it.
+With --ready-by-status a line may be START LUN ready: a poll of that LUN's status ended at START, and it was ready.
+Output: 'legal N', the number of phases; or 'illegal LINE CONDITION ..' of the first line that breaks a condition, with --all
+of each; or 'refused log LINE' where a line says nothing.
+With --optimum a legal log is measured too: in the order of their first commands its groups make pieces of at most eight
+requests, and each piece that the log ends is planned anew from where it began. Of each piece
+'piece LINE REQUESTS BEGIN END BEST BELOW': its first line, its requests, from when the bus was free, when the log and when the
+plan ended it, before when nothing ends it, all in ns; then 'gap MEAN MEDIAN MOST' of END - BEST. With --csv in place of all
+that a table under line,requests,begin,end,best,below.
+
+Statuses: 0 legal; 1 the script is refused; 2 illegal, or the log is refused; 4 memory was refused; 5 the command line is
+refused; 7 a read or write failed.
+
+Example:
+  onfi_sim plan --trace examples/batch.onfi > batch.log
+  onfi_sim audit examples/batch.onfi batch.log
+  onfi_sim audit --optimum examples/batch.onfi batch.log";
 
 pub const LIMIT: &str =
     "Open at most N nodes in a search, 1 to 1048576; the greatest where none is named";
@@ -145,3 +169,18 @@ pub const QUIET: &str = "Say nothing on standard error";
 pub const FILE: &str = "The script; '-' or none is standard input";
 
 pub const PLAN_FILE: &str = "The plan text; none: it stands behind the script";
+
+pub const ALL: &str = "Report each line that breaks a condition, not the first alone";
+
+pub const READY_BY_STATUS: &str =
+    "Take lines 'START LUN ready': that LUN's status said ready then, so its group's next phase may start";
+
+pub const OPTIMUM: &str =
+    "Say how much later a legal log ended its pieces than they could end, by plans of at most eight requests";
+
+pub const LIMIT_AUDIT: &str =
+    "With --optimum: open at most N nodes for a piece's plan, 1 to 1048576; 65536 where none is named";
+
+pub const CSV: &str = "With --optimum: print a table of pieces alone";
+
+pub const LOG_FILE: &str = "The log; none: it stands behind the script";

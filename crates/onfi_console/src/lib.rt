@@ -29,5 +29,9 @@ pub use device::describe;
 pub use escaping::{escaped, shown};
 pub use fault::{Untaken, WordsFault};
 pub use input::Input;
+pub use onfi_planners::{ChosenPlanner, SlackPlanner, Weighing};
+pub use onfi_script::{
+    Command, EngineFault, GapOptions, Output, PlanOptions, audit, audit_gaps, engine, engine_split,
+};
 pub use parsed::{CommandName, Named, Parsed};
 pub use saying::message;

@@ -4,7 +4,7 @@ ghost use Rattle.onfi_console.specs.Readers as spec;
 ghost use Rattle.onfi_console.specs.Words.{IsInRange};
 
 use onfi_planners::{ChosenPlanner, SlackPlanner};
-use onfi_script::{Command, Output};
+use onfi_script::{AuditOptions, Command, GapOptions, Output};
 
 /// A command of the program.
 #[derive(Clone, Copy, Debug, PartialEq, Eq)]
@@ -17,6 +17,8 @@ pub enum CommandName {
     Run,
     /// The parameter page of a script is described.
     Device,
+    /// A log that begins as a script says is judged.
+    Audit,
 }
 
 impl CommandName {
@@ -29,6 +31,7 @@ impl CommandName {
             CommandName::Check => "check",
             CommandName::Run => "run",
             CommandName::Device => "device",
+            CommandName::Audit => "audit",
         }
     }
 }
@@ -51,6 +54,14 @@ pub enum Named {
     },
     /// The parameter page of a script is described.
     Device,
+    /// A log that begins as a script says is judged.
+    Audit {
+        options: AuditOptions,
+    },
+    /// A log that begins as a script says is judged, and measured where it is legal.
+    Gaps {
+        options: GapOptions,
+    },
 }
 
 /// What a command line asks for.
@@ -78,11 +89,13 @@ impl Parsed<'_> {
             Named::Problem { command, .. } => command_in(command),
             Named::Run { .. } => CommandName::Run,
             Named::Device => CommandName::Device,
+            Named::Audit { .. } => CommandName::Audit,
+            Named::Gaps { .. } => CommandName::Audit,
         }
     }
 
-    /// How many nodes a search may open, 1 to 1,048,576; the greatest limit for `check`, `device` and the rule, which search
-    /// nothing.
+    /// How many nodes a search may open, 1 to 1,048,576; the greatest limit for `check`, `device`, the rule and an audit that
+    /// measures nothing, since they search nothing.
     pub fn limit(&self) -> u32
         ensures named { result ≡ spec.limit_of self.now.named }
         ensures range { IsInRange self.now.named → (1 ≤ result) × (result ≤ 1048576) }
@@ -90,7 +103,8 @@ impl Parsed<'_> {
         match self.named {
             Named::Problem { command, .. } => limit_in(command),
             Named::Run { limit, .. } => limit,
-            Named::Device => MOST,
+            Named::Device | Named::Audit { .. } => MOST,
+            Named::Gaps { options } => options.limit.get(),
         }
     }
 
@@ -100,7 +114,8 @@ impl Parsed<'_> {
     {
         match self.named {
             Named::Problem { command, .. } => trace_in(command),
-            Named::Run { .. } | Named::Device => false,
+            Named::Run { .. } | Named::Device | Named::Audit { .. } => false,
+            Named::Gaps { .. } => false,
         }
     }
 
@@ -112,7 +127,8 @@ impl Parsed<'_> {
         match self.named {
             Named::Problem { workers, .. } => workers,
             Named::Run { .. } => 1,
-            Named::Device => 1,
+            Named::Device | Named::Audit { .. } => 1,
+            Named::Gaps { .. } => 1,
         }
     }
 }

@@ -3,7 +3,7 @@ use std::alloc::{AllocError, Global};
 use strsim::levenshtein;
 
 /// The names of rows; of several that a word is near to, the first one is given.
-const NAMES: [&str; 29] = [
+const NAMES: [&str; 30] = [
     "shape",
     "spans",
     "page",
@@ -23,6 +23,7 @@ const NAMES: [&str; 29] = [
     "submitcap",
     "postcap",
     "op",
+    "opread",
     "fault",
     "chipfail",
     "notready",
@@ -114,6 +115,9 @@ fn run_form(name: &str) -> Option<&'static str> {
         "postcap" => Some("postcap,N: places of a completion queue"),
         "op" => Some(
             "op,HOST,CHANNEL,KIND,LUN,BLOCK,PAGE and for a program DATA: hexadecimal bytes, or * and one byte",
+        ),
+        "opread" => Some(
+            "opread,HOST,CHANNEL,LUN,BLOCK,PAGE,FIRST,COUNT: a read of COUNT sectors, 1 to 7, from sector FIRST, 0 to 255",
         ),
         "fault" => Some(
             "fault,CHANNEL,LUN,BLOCK,N: program or erase N of that block, counted from 0, fails",

@@ -127,6 +127,9 @@ fn row_fault(
             };
             String::from_str(alloc, what)
         }
+        ScriptFault::Request(RequestFault::Sectors) => {
+            String::from_str(alloc, no_sectors(refused.records))
+        }
         fault => String::from_str(alloc, plain_fault(fault)),
     }
 }
@@ -151,7 +154,6 @@ fn plain_fault(fault: ScriptFault) -> &'static str {
             "the device has no such page, or an erase names a page other than 0",
         ScriptFault::Request(RequestFault::DataLength) =>
             "the data isn't as long as a page with its spare bytes",
-        ScriptFault::Request(RequestFault::Sectors) => "a page of the device has fewer sectors",
         _ => "the row can't be taken",
     }
 }
@@ -179,7 +181,7 @@ fn out_of_range(
         return format!(in alloc; "{name} is '{shown}', and has to be {told}");
     }
     if is_op_too_many(refused.records, row) {
-        return String::from_str(alloc, "a script has at most 10000 rows 'op'");
+        return String::from_str(alloc, too_many_ops(refused.records));
     }
     if field(record, 0) == b"sector".as_slice() {
         return String::from_str(alloc, "a page of the device has fewer bytes");
@@ -193,6 +195,26 @@ fn out_of_range(
             format!(in alloc; "{name} has to be below {count}: so many there are, counted from 0")
         }
         None => String::from_str(alloc, "a field is out of its range"),
+    }
+}
+
+/// What is said of a row that is an operation more than a script may have.
+fn too_many_ops(records: &[ByteRecord]) -> &'static str {
+    if has_row(records, b"opread", b"") {
+        "a script has at most 10000 rows 'op' and 'opread'"
+    } else {
+        "a script has at most 10000 rows 'op'"
+    }
+}
+
+/// Why there are no such sectors.
+fn no_sectors(records: &[ByteRecord]) -> &'static str {
+    if has_row(records, b"geometry", b"") {
+        "a device by a row 'geometry' puts out whole pages alone"
+    } else if has_row(records, b"sector", b"") {
+        "a page of the device has fewer sectors"
+    } else {
+        "no row 'sector' says how many bytes a sector has"
     }
 }
 
@@ -247,7 +269,7 @@ fn not_here(alloc: Global, refused: &Refused<'_, '_>, name: &[u8]) -> Result<Str
         ),
         CommandName::Run if !is_of_device(name) || is_sector_post(name) => String::from_str(
             alloc,
-            "'run' doesn't take this row; 'plan' and 'check' do",
+            "'run' doesn't take this row; 'plan', 'check' and 'audit' do",
         ),
         _ if refused.command != CommandName::Run && is_of_run(name) => {
             format!(in alloc; "'{command}' doesn't take this row; 'run' does")
@@ -277,12 +299,13 @@ fn taken(command: CommandName, name: &[u8]) -> &'static str {
         CommandName::Run if name == b"at".as_slice() =>
             "--clock simulated, or a script without 'at' rows",
         CommandName::Run if is_of_device(name) && !is_sector_post(name) =>
-            "'geometry', then 'shape' and 'spans' rows; or 'page' and 'sheet' rows",
+            "'geometry', then 'shape' and 'spans' rows; or 'page', 'sheet', 'strobe' and 'sector' rows",
         CommandName::Run =>
-            "page, sheet, strict, channels, hosts, batch, choice, replanning, submitcap, postcap, op, fault, chipfail, notready, array; or geometry, shape and spans in place of page and sheet",
+            "page, sheet, strobe, sector, strict, channels, hosts, batch, choice, replanning, submitcap, postcap, op, opread, fault, chipfail, notready, array; or geometry, shape and spans in place of page, sheet, strobe and sector",
         _ if is_of_run(name) =>
-            "shape and spans, or page and sheet; strict, bus, free, running, want or weight",
-        _ => "'shape' and 'spans' rows alone, or 'page' and 'sheet' rows alone",
+            "shape, spans and sectorpost, or page, sheet, strobe and sector; strict, bus, free, running, runsectors, want, sectors or weight",
+        _ =>
+            "'shape', 'spans' and 'sectorpost' rows alone, or 'page', 'sheet', 'strobe' and 'sector' rows alone",
     }
 }
 

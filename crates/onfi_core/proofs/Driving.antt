@@ -10,7 +10,8 @@ use Rattle.onfi_timing.specs.declared.kind.Kind.{Kind}
 use Rattle.onfi_timing.specs.declared.kind.Kind.TheVariants as kind
 use Rattle.onfi_timing.specs.declared.operation.Operation.{Operation}
 use Rattle.onfi_timing.specs.declared.operation.Operation.TheVariants as operation
-use Rattle.onfi_timing.specs.Kinds.{operation_of}
+use Rattle.onfi_timing.specs.Kinds.{operation_of, sectors_of}
+use Rattle.onfi_request.specs.Parts.{has_part}
 use Rattle.onfi_request.specs.Range.{Fits, IsPageFor}
 use Rattle.onfi_request.specs.declared.request.Item.{Item}
 use Rattle.onfi_request.specs.declared.request.Request.{Request}
@@ -34,7 +35,7 @@ use Rattle.onfi_flight.specs.Flight.{IsPhase, member_of, move_of}
 use Rattle.onfi_core.specs.Dues.{IsDue, replies_of}
 use Rattle.onfi_core.specs.Kept.{IsSound, IsTaken, ChipAgrees, LunAgrees, post_for}
 use Rattle.onfi_core.specs.State.{HalfState, device_for, item_at, request_of}
-use Rattle.onfi_core.specs.Steps.{AsksStatus, RunsOnChip, Commands, Launches}
+use Rattle.onfi_core.specs.Steps.{AsksSectors, AsksStatus, RunsOnChip, Commands, Launches}
 use Rattle.onfi_core.proofs.Going.{going_start}
 use Rattle.onfi_core.proofs.Lists.{drop_next, get_has, All-at}
 use Rattle.onfi_core.proofs.Members.{item_of, place_lun, place_kind, place_page}
@@ -207,6 +208,7 @@ module _ (s : Setup) (h : HalfState) (chip : Chip) (sound : IsSound s h) (agrees
     there = subst (λ l. slice_get chip.luns l ≡ Some (Posting (post ∷ left) (ready.post le).0)) (sym lun_is) (posting le);
     over = (ready.post le).1;
     in_range = subst (λ (x : Geometry). IsInRange x post.place) (sym agrees.geometry) (in_range s.geometry request (fits_is s h sound m taken));
+    part = subst (λ (x : Geometry). has_part x request.kind ≡ true) (sym agrees.geometry) (fits_is s h sound m taken).part;
     row_is = ap (λ (x : Geometry). row_of x request.place) agrees.geometry;
   }
 
@@ -242,6 +244,18 @@ module _ (s : Setup) (h : HalfState) (chip : Chip) (sound : IsSound s h) (agrees
 
   pub ran_on_chip : (chip' : Chip) (given : PhaseResult) → HasRun chip s.geometry due item given chip' → RunsOnChip h.accepted due.group due.phase due.start chip chip' (replies_of h.accepted chip.faults due given)
   ran_on_chip chip' given has_run = ran_base chip' given (subst (λ (x : Item). HasRun chip s.geometry due x given chip') item_is has_run)
+
+  -- at the output of some sectors the move asks for them
+  pub asks_sectors : length due.group ≤ due.phase → 1 ≤ sectors_of item.request.kind → AsksSectors h.now (move_of due)
+  asks_sectors le some = record {
+    group = due.group;
+    phase = due.phase;
+    is = is.phase;
+    behind = le;
+    member = m;
+    there = post_at le;
+    sectors = subst (λ (k : Kind). 1 ≤ sectors_of k) (place_kind s h m taken) (subst (λ (x : Item). 1 ≤ sectors_of x.request.kind) item_is some);
+  }
 
   -- at the post of a program or an erase the move asks for a status
   pub asks_status : IsStatus due item → AsksStatus h.now (move_of due)

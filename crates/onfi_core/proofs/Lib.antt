@@ -1,4 +1,5 @@
 pub mod Lists
+pub mod Stated
 pub mod Halves
 pub mod Startable
 pub mod Members

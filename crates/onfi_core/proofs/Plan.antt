@@ -10,7 +10,7 @@ use Rattle.onfi_timing.specs.declared.kind.Kind.{Kind}
 use Rattle.onfi_timing.specs.declared.kind.Kind.TheVariants.{Read, ReadSectors, Program, Erase}
 use Rattle.onfi_timing.specs.declared.timing.Timing.{Timing}
 use Rattle.onfi_timing.specs.Kinds.{IsStated}
-use Rattle.onfi_request.specs.Range.{Fits, IsPageFor, is_whole}
+use Rattle.onfi_request.specs.Range.{Fits, IsPageFor}
 use Rattle.onfi_request.specs.declared.request.Item.{Item}
 use Rattle.onfi_request.specs.declared.want.Want.{Want}
 use Rattle.onfi_group.specs.Words.{Has, number}
@@ -23,6 +23,7 @@ use Rattle.onfi_problem.specs.Kept.{problem_of}
 use Rattle.onfi_problem.proofs.Wants.{Pairs-filter, one_with_id}
 use Rattle.onfi_core.specs.Kept.{on, is_want_on, IsTaken, IsSound, ChipAgrees, IsReached, Rise, commanding}
 use Rattle.onfi_core.specs.State.{HalfState, ChannelState, Planning, want_of, wants_from}
+use Rattle.onfi_core.specs.Stated.{StatesParts}
 use Rattle.onfi_core.specs.Steps.{unplanned, taken_next, next_problem, planned_by, problem_with, AreItems, Chooses, ChoosesWhole, Plans, places_left, Taken, Takes, TakesBy, taken_in_order}
 use Rattle.onfi_core.specs.declared.setup.Choice.{Choice}
 use Rattle.onfi_core.specs.declared.setup.Choice.TheVariants.{InOrder, ByLun, ReadsFirst, WholeGroups}
@@ -66,13 +67,6 @@ is_want s n x f = record {
   erase = erase_page s x.request.kind x.request.place.page f.page;
 }
 
--- lengths of what is read or written as a whole are always stated
-stated_whole : (timing : Timing) (k : Kind) → is_whole k ≡ true → IsStated timing k
-stated_whole timing Read w = refl
-stated_whole timing (ReadSectors first count) w = absurd cc
-stated_whole timing Program w = refl
-stated_whole timing Erase w = refl
-
 -- a want that was looked at is one of a problem, of a LUN that is there
 module _ (s : Setup) (n : ℕ) (accepted : List Item) (in_range : All (λ (x : Item). Fits s.geometry x.request) accepted) where
   taken_is_want : (w : Want) → IsTaken s n accepted w → IsWant w
@@ -81,10 +75,10 @@ module _ (s : Setup) (n : ℕ) (accepted : List Item) (in_range : All (λ (x : I
   taken_lun : (w : Want) → IsTaken s n accepted w → w.lun < s.geometry.lun_count
   taken_lun w t = subst (λ (v : Want). v.lun < s.geometry.lun_count) (sym t.is) (All-at (λ (x : Item). Fits s.geometry x.request) accepted w.id t.item in_range t.there).lun
 
-  taken_is_stated : (timing : Timing) (w : Want) → IsTaken s n accepted w → IsStated timing w.kind
-  taken_is_stated timing w t =
-      let whole = (All-at (λ (x : Item). Fits s.geometry x.request) accepted w.id t.item in_range t.there).whole in
-      subst (λ (v : Want). IsStated timing v.kind) (sym t.is) (stated_whole timing t.item.request.kind whole)
+  taken_is_stated : StatesParts s.geometry s.timing → (timing : Timing) → timing ≡ s.timing → (w : Want) → IsTaken s n accepted w → IsStated timing w.kind
+  taken_is_stated stated timing same w t =
+      let part = (All-at (λ (x : Item). Fits s.geometry x.request) accepted w.id t.item in_range t.there).part in
+      subst (λ (v : Want). IsStated timing v.kind) (sym t.is) (subst (λ (k : Timing). IsStated k t.item.request.kind) (sym same) (stated t.item.request.kind part))
 
 later_taken : (s : Setup) (accepted : List Item) (n m : ℕ) → n ≤ m → (w : Want) → IsTaken s n accepted w → IsTaken s m accepted w
 later_taken s accepted n m low w t = let q = t.below in record { below = omega arith; item = t.item; there = t.there; is = t.is }
@@ -285,14 +279,14 @@ pub keeps_taken : (s : Setup) (h : HalfState) (taken : Taken) → IsSound s h �
 keeps_taken s h taken half takes = keeps_by s.choice s h taken half refl takes
 
 -- the timing states lengths for all that is planned
-pub has_lengths : (s : Setup) (h : HalfState) (taken : Taken) → IsSound s h → Keeps s h taken → HasLengths (problem_with h taken.wants)
-has_lengths s h taken half keeps = record {
+pub has_lengths : (s : Setup) (h : HalfState) (taken : Taken) → StatesParts s.geometry s.timing → IsSound s h → Keeps s h taken → HasLengths (problem_with h taken.wants)
+has_lengths s h taken stated half keeps = record {
   wants = all_stated taken.planned taken.wants keeps.wants;
   luns = each_there (IsLunStated h.now.timing) h.now.luns lun_stated;
 }
   where
     all_stated : (n : ℕ) (ws : List Want) → All (IsTaken s n h.accepted) ws → AreStated h.now.timing ws
-    all_stated n ws t = All-weaker (IsTaken s n h.accepted) (λ (w : Want). IsStated h.now.timing w.kind) (taken_is_stated s n h.accepted half.in_range h.now.timing) ws t
+    all_stated n ws t = All-weaker (IsTaken s n h.accepted) (λ (w : Want). IsStated h.now.timing w.kind) (taken_is_stated s n h.accepted half.in_range stated h.now.timing half.timing) ws t
 
     lun_stated : (i : ℕ) (state : LunState) → slice_get h.now.luns i ≡ Some state → IsLunStated h.now.timing state
     lun_stated i (Free since) at = tt

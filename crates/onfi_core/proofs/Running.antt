@@ -3,7 +3,6 @@ use Rattle.std.proofs.Common.{◌≡◌, ℕ, inl, inr, List, Some, None, Result
 use Rattle.onfi_request.specs.declared.reply.Reply.{Reply}
 use Rattle.onfi_request.specs.declared.request.Item.{Item}
 use Rattle.onfi_request.specs.declared.want.Want.{Want}
-use Rattle.onfi_chip.specs.Calls.{IsLost}
 use Rattle.onfi_chip.specs.declared.fault.PostFault.{PostFault}
 use Rattle.onfi_chip.specs.declared.fault.PostFault.TheVariants as post_fault
 use Rattle.onfi_chip.specs.Chip.{Chip}
@@ -24,10 +23,10 @@ use Rattle.onfi_core.specs.Dues.{IsDue, after_due, replies_of}
 use Rattle.onfi_core.specs.Kept.{ChipAgrees, IsSound}
 use Rattle.onfi_core.specs.Reaching.{PlannedStep}
 use Rattle.onfi_core.specs.State.{HalfState, ChannelState, Planning, item_at}
-use Rattle.onfi_core.specs.Steps.{Step, Plans, Runs, RunsOnChip, IsCauseOf, IsToldAs, Taken, bus_refusal, plan_refusal, planned_by, stopped_by}
+use Rattle.onfi_core.specs.Steps.{Step, Plans, Runs, RunsOnChip, IsCauseOf, IsLostAt, IsToldAs, LacksSectors, Taken, bus_refusal, plan_refusal, planned_by, stopped_by}
 use Rattle.onfi_core.specs.Refusals.{cause_of, planned_outcome, refusal_outcome}
 use Rattle.onfi_core.specs.View.{HalfView, PlannedAs, PlanRefused, RefusedAs}
-use Rattle.onfi_core.proofs.Driving.{asks_status, ran_on_chip}
+use Rattle.onfi_core.proofs.Driving.{asks_sectors, asks_status, ran_on_chip}
 use Rattle.onfi_core.proofs.Promised.{refused_is}
 use Rattle.onfi_core.proofs.Reach.{none_first, not_stopped}
 use Rattle.onfi_core.proofs.Refused.{step_refused, step_does}
@@ -89,6 +88,10 @@ run_faults accepted group phase start chip chip' replies (inr (member, answer, c
 pub going_on : (h : HalfState) → bus_refusal h ≡ None → h.stopped ≡ None
 going_on h open' = not_stopped h.stopped (none_first _ _ open')
 
+-- the chip failed so that the channel stops for that cause
+abbrev pub IsLostBy : ChannelState → Cause → Chip → Type 0
+IsLostBy c stop chip' = (fault : PostFault) × IsToldAs fault stop × IsLostAt c fault chip'
+
 module _ (s : Setup) (c : ChannelState) (sound : IsSound s c.half) (agrees : ChipAgrees s c.half c.chip) (due : Due) (is : IsDue c.half due) (open' : bus_refusal c.half ≡ None) (item : Item) (member : (m : Want) × (member_of due.group due.phase ≡ Some m) × (item ≡ item_at c.half.accepted m.id)) where
   -- why the channel stops
   pub cause_is : (fault : DriveFault) (stop : Cause) → cause_of fault due.lun ≡ Some stop → (fault ≡ drive.NotReady → IsStatus due item) → IsCauseOf c.half stop
@@ -98,6 +101,17 @@ module _ (s : Setup) (c : ChannelState) (sound : IsSound s c.half) (agrees : Chi
       let asks = asks_status s c.half c.chip sound agrees due is member.0 member.1 item member.2 (status refl) in
       subst (IsCauseOf c.half) q (move_of due, due.start, left_behind c.half.left due, is.next sound.legal, is.lun, asks)
   cause_is drive.Memory stop e status = cc
+
+  -- what a phase that wasn't run leaves of the chip
+  pub lost_by : (fault : DriveFault) (stop : Cause) (chip' : Chip) → cause_of fault due.lun ≡ Some stop → AfterDrive due item fault c.chip chip' → IsLostBy c stop chip'
+  lost_by drive.Bus stop chip' e (inl lost) = let told : stop ≡ cause.Bus = cc in (post_fault.Bus, told, record { faults = lost.faults; why = inl lost.rose })
+  lost_by drive.Bus stop chip' e (inr none) =
+      let told : stop ≡ cause.Bus = cc in
+      let asks = asks_sectors s c.half c.chip sound agrees due is member.0 member.1 item member.2 none.post none.sectors in
+      let lacks : LacksSectors c post_fault.Bus chip' = record { bus = refl; same = none.same; asked = (move_of due, due.start, left_behind c.half.left due, is.next sound.legal, asks) } in
+      (post_fault.Bus, told, record { faults = ap (λ (x : Chip). x.faults) none.same; why = inr lacks })
+  lost_by drive.NotReady stop chip' e lost = let told : stop ≡ cause.NotReady due.lun = cc in (post_fault.NotReady, (due.lun, told), record { faults = lost.faults; why = inl lost.rose })
+  lost_by drive.Memory stop chip' e same = cc
 
   pub ran_step : (channel : ℕ) (chip' : Chip) (given : PhaseResult) (h : HalfState) → HasRun c.chip s.geometry due item given chip' → h ≡ after_due c.half due (replies_of c.half.accepted chip'.faults due given) → Step s c (event.Bus channel) (outcome.Phase due.start) (record c { half = h; chip = chip' })
   ran_step channel chip' given h has_run is_after =
@@ -120,27 +134,17 @@ module _ (s : Setup) (c : ChannelState) (sound : IsSound s c.half) (agrees : Chi
       } in
       step_does s c (event.Bus channel) (outcome.Phase due.start) c' open' (inl (due.start, refl, runs))
 
--- the chip failed so that the channel stops for that cause
-abbrev pub IsLostBy : Cause → Chip → Chip → Type 0
-IsLostBy stop chip chip' = (fault : PostFault) × IsToldAs fault stop × IsLost fault chip chip'
-
 -- the channel stops
-pub stop_step : (s : Setup) (c : ChannelState) (channel : ℕ) (stop : Cause) (chip' : Chip) (h : HalfState) → bus_refusal c.half ≡ None → IsCauseOf c.half stop → IsLostBy stop c.chip chip' → h ≡ record c.half { stopped = Some stop } → Step s c (event.Bus channel) (outcome.Stopped stop) (record c { half = h; chip = chip' })
+pub stop_step : (s : Setup) (c : ChannelState) (channel : ℕ) (stop : Cause) (chip' : Chip) (h : HalfState) → bus_refusal c.half ≡ None → IsCauseOf c.half stop → IsLostBy c stop chip' → h ≡ record c.half { stopped = Some stop } → Step s c (event.Bus channel) (outcome.Stopped stop) (record c { half = h; chip = chip' })
 stop_step s c channel stop chip' h open' why (fault, told, lost) is =
     let after : (let z : ChannelState = record c { half = h; chip = chip' } in z) ≡ record (stopped_by stop c) { chip = chip' } = ap (λ (x : HalfState). let z : ChannelState = record c { half = x; chip = chip' } in z) is in
     step_does s c (event.Bus channel) (outcome.Stopped stop) (record c { half = h; chip = chip' }) open' (inr (inl (stop, why, refl, record { chip = chip'; fault = fault; told = told; lost = lost; after = after })))
 
--- what a phase that wasn't run leaves of the chip
-pub lost_by : (fault : DriveFault) (lun : ℕ) (stop : Cause) (chip chip' : Chip) → cause_of fault lun ≡ Some stop → AfterDrive fault chip chip' → IsLostBy stop chip chip'
-lost_by drive.Bus lun stop chip chip' e lost = let told : stop ≡ cause.Bus = cc in (post_fault.Bus, told, lost)
-lost_by drive.NotReady lun stop chip chip' e lost = let told : stop ≡ cause.NotReady lun = cc in (post_fault.NotReady, (lun, told), lost)
-lost_by drive.Memory lun stop chip chip' e same = cc
-
 -- refused memory leaves the chip
-pub kept_chip : (fault : DriveFault) (lun : ℕ) (chip chip' : Chip) → cause_of fault lun ≡ None → AfterDrive fault chip chip' → chip' ≡ chip
-kept_chip drive.Bus lun chip chip' e lost = cc
-kept_chip drive.NotReady lun chip chip' e lost = cc
-kept_chip drive.Memory lun chip chip' e same = same
+pub kept_chip : (due : Due) (item : Item) (fault : DriveFault) (lun : ℕ) (chip chip' : Chip) → cause_of fault lun ≡ None → AfterDrive due item fault chip chip' → chip' ≡ chip
+kept_chip due item drive.Bus lun chip chip' e lost = cc
+kept_chip due item drive.NotReady lun chip chip' e lost = cc
+kept_chip due item drive.Memory lun chip chip' e same = same
 
 -- .. and its LUNs
 pub kept_lanes : {A : Type 0} (fault : DriveFault) (lun : ℕ) (lanes lanes' : A) → cause_of fault lun ≡ None → (fault ≡ drive.Memory → lanes' ≡ lanes) → lanes' ≡ lanes

@@ -1,4 +1,5 @@
 pub mod Ranges
+pub mod Stated
 pub mod State
 pub mod Choice
 pub mod Chains

@@ -2,7 +2,7 @@
 use Rattle.std.specs.Prelude.{◌≡◌, ◌≢◌, ℕ, ◌+◌, ◌-◌, ◌^◌, ◌<◌, ◌≤◌, ◌⊎◌, ◌==◌, max, not, nat_le, nat_lt, if◌then◌else◌, Bool, true, false, IsTrue, List, [], ◌∷◌, ◌++◌, length, take, drop, Option, Some, None, slice_get}
 use Rattle.std.specs.List.{filter, list_any}
 use Rattle.onfi_timing.specs.declared.operation.Operation.TheVariants.{Read}
-use Rattle.onfi_timing.specs.Kinds.{operation_of}
+use Rattle.onfi_timing.specs.Kinds.{operation_of, sectors_of}
 use Rattle.onfi_request.specs.declared.want.Want.{Want}
 use Rattle.onfi_request.specs.declared.answer.Answer.{Answer}
 use Rattle.onfi_request.specs.declared.request.Request.{Request}
@@ -32,7 +32,7 @@ use Rattle.onfi_chip.specs.declared.fault.PostFault.TheVariants as post_fault
 use Rattle.onfi_chip.specs.declared.post.Post.{Post}
 use Rattle.onfi_chip.specs.Chip.{Chip, commanded, found_ready, launched, posted}
 use Rattle.onfi_chip.specs.Chip.Lun.{Posting}
-use Rattle.onfi_chip.specs.Calls.{HasDone, IsLost}
+use Rattle.onfi_chip.specs.Calls.{HasDone, HasRisen}
 use Rattle.onfi_core.specs.declared.setup.Setup.{Setup}
 use Rattle.onfi_core.specs.declared.setup.Choice.{Choice}
 use Rattle.onfi_core.specs.declared.setup.Choice.TheVariants.{InOrder, ByLun, ReadsFirst, WholeGroups}
@@ -398,6 +398,16 @@ pub record AsksStatus (p : Problem) (move : Move) : Type 0 where
   pub there : slice_get group (phase - length group) ≡ Some member
   pub operation : operation_of member.kind ≢ Read
 
+-- the move's phase is the output of some sectors
+pub record AsksSectors (p : Problem) (move : Move) : Type 0 where
+  pub group : List Want
+  pub phase : ℕ
+  pub is : IsPhase p move group phase
+  pub behind : length group ≤ phase
+  pub member : Want
+  pub there : slice_get group (phase - length group) ≡ Some member
+  pub sectors : 1 ≤ sectors_of member.kind
+
 -- the bus may fail at any phase; only the status of a program or an erase says that its LUN isn't ready, where it comes next
 abbrev pub IsCauseOf : HalfState → Cause → Type 0
 IsCauseOf h BusFailed = Unit {0}
@@ -409,12 +419,23 @@ abbrev pub IsToldAs : PostFault → Cause → Type 0
 IsToldAs post_fault.Bus cause = cause ≡ BusFailed
 IsToldAs post_fault.NotReady cause = (lun : ℕ) × (cause ≡ NotReady lun)
 
--- a chip call failed: then only the chip's faults are known, and its count of the fault that the cause names, which rose
+-- the output of some sectors comes next, and the chip has none: it is as it was
+pub record LacksSectors (c : ChannelState) (fault : PostFault) (chip : Chip) : Type 0 where
+  pub bus : fault ≡ post_fault.Bus
+  pub same : chip ≡ c.chip
+  pub asked : (move : Move) × (start : ℕ) × (left : Schedule) × ComesNext c.half.now c.half.left move start left × AsksSectors c.half.now move
+
+-- only the chip's faults are known, and its count of that fault, which rose, unless it lacks sectors
+pub record IsLostAt (c : ChannelState) (fault : PostFault) (chip : Chip) : Type 0 where
+  pub faults : chip.faults ≡ c.chip.faults
+  pub why : HasRisen fault c.chip.failures chip.failures ⊎ LacksSectors c fault chip
+
+-- a chip call failed, by the fault that the cause names
 pub record Fails (c c' : ChannelState) (cause : Cause) : Type 0 where
   pub chip : Chip
   pub fault : PostFault
   pub told : IsToldAs fault cause
-  pub lost : IsLost fault c.chip chip
+  pub lost : IsLostAt c fault chip
   pub after : c' ≡ record (stopped_by cause c) { chip = chip }
 
 -- the oldest reply that is held for a host goes to the end of those posted

@@ -254,6 +254,7 @@ impl Half {
         let Ok(taking) = self.take_next(alloc) else {
             return Err(PlanRefusal::Memory);
         };
+        self.setup.states_lengths();
         let next = plan_wants(
             alloc,
             planner,

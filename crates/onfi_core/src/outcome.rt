@@ -60,7 +60,7 @@ pub enum Outcome {
 /// Why a channel stopped.
 #[derive(Clone, Copy, Debug, PartialEq, Eq)]
 pub enum Cause {
-    /// A call of the chip failed.
+    /// A call of the chip failed, or asked for sectors of a chip that puts out none.
     Bus,
     /// The LUN's status said that it isn't ready.
     NotReady(u8),

@@ -1,11 +1,13 @@
-ghost use Rattle.std.specs.Prelude.{◌≡◌, ℕ, ◌≤◌, ◌↔◌, IfOk, IsErrOf};
+ghost use Rattle.std.specs.Prelude.{◌≡◌, ℕ, ◌<◌, ◌≤◌, ◌↔◌, IfOk, IsErrOf, IsTrue};
 ghost use Rattle.onfi_core.specs.Ranges.{IsBetween};
+ghost use Rattle.onfi_core.specs.Stated.{StatesParts};
 ghost use Rattle.onfi_core.specs.declared.setup.Choice.TheVariants.{InOrder};
 ghost use Rattle.onfi_core.specs.declared.setup.Replanning.TheVariants.{AtOnce};
 
 use onfi_addr::Geometry;
 use onfi_group::Rules;
-use onfi_timing::Timing;
+use onfi_request::has_part;
+use onfi_timing::{Kind, Timing};
 use thiserror::Error;
 
 /// Which of the accepted items that aren't started a planning takes, up to the batch.
@@ -60,6 +62,9 @@ pub struct Setup {
     pub choice: Choice,
     /// When a sequencer plans anew.
     pub replanning: Replanning,
+    // A byte, below 256 in each setup that a program has. Of one that a proof makes up `stated` may say nothing: a batch is
+    // driven as if by such a one, whatever its timing states.
+    mark: u8,
     ghost some_channel: { 1 ≤ channels },
     ghost few_channels: { channels ≤ 4 },
     ghost some_host: { 1 ≤ hosts },
@@ -72,9 +77,10 @@ pub struct Setup {
     ghost few_posts: { post_cap ≤ 1024 },
     ghost some_node: { 1 ≤ limit },
     ghost few_nodes: { limit ≤ 1048576 },
+    ghost stated: { mark < 256 → StatesParts geometry timing },
 }
 
-/// Which number of a setup is out of range, in the order in which it is reported.
+/// What is wrong with a setup: a number out of range, or lengths that the timing lacks, in the order in which it is reported.
 #[derive(Clone, Copy, Debug, PartialEq, Eq, Error)]
 pub enum SetupFault {
     /// Not 1 to 4 channels.
@@ -95,6 +101,29 @@ pub enum SetupFault {
     /// Not 1 to 1,048,576 nodes.
     #[error("a search limit that is not 1 to 1,048,576")]
     Limit,
+    /// Sectors that a page has, of which the timing doesn't state how long they take.
+    #[error("sectors of a page whose length is not stated")]
+    Lengths,
+}
+
+/// Whether the timing states how long each kind takes of which a page has what it puts out.
+fn states_parts(geometry: &Geometry, timing: &Timing) -> bool
+    ensures { IsTrue result ↔ StatesParts geometry.now timing.now }
+{
+    for count in 1..8u8 {
+        let kind = Kind::ReadSectors { first: 0, count };
+        if has_part(geometry, kind) && !timing.states(kind) {
+            return false;
+        }
+    }
+    true
+}
+
+// A byte is below 256. It is a fact for proofs: nothing is done.
+fn is_byte(byte: u8)
+    ensures { byte < 256 }
+{
+    let _ = byte;
 }
 
 impl Setup {
@@ -103,7 +132,8 @@ impl Setup {
     /// as soon as there are any; [`Setup::with_choice`] and [`Setup::with_replanning`] change that.
     ///
     /// # Errors
-    /// The first of `Channels`, `Hosts`, `Batch`, `SubmitCap`, `PostCap` and `Limit` whose number is out of range.
+    /// The first of `Channels`, `Hosts`, `Batch`, `SubmitCap`, `PostCap` and `Limit` whose number is out of range; else `Lengths`
+    /// where the timing doesn't state the posts of all sectors that a page has, one to seven.
     pub fn new(
         geometry: Geometry,
         timing: Timing,
@@ -129,6 +159,9 @@ impl Setup {
             ↔ (IsBetween 1 4 channels × IsBetween 1 4 hosts × IsBetween 1 8 batch × IsBetween 1 1024 submit_cap × ¬ IsBetween 1 1024 post_cap) }
         ensures limit { IsErrOf result SetupFault.Limit
             ↔ (IsBetween 1 4 channels × IsBetween 1 4 hosts × IsBetween 1 8 batch × IsBetween 1 1024 submit_cap × IsBetween 1 1024 post_cap × ¬ IsBetween 1 1048576 limit) }
+        ensures lengths { IsErrOf result SetupFault.Lengths
+            ↔ (IsBetween 1 4 channels × IsBetween 1 4 hosts × IsBetween 1 8 batch × IsBetween 1 1024 submit_cap × IsBetween 1 1024 post_cap × IsBetween 1 1048576 limit
+            × ¬ StatesParts geometry timing) }
     {
         if channels < 1 || channels > 4 {
             return Err(SetupFault::Channels);
@@ -148,6 +181,9 @@ impl Setup {
         if limit < 1 || limit > 1_048_576 {
             return Err(SetupFault::Limit);
         }
+        if !states_parts(&geometry, &timing) {
+            return Err(SetupFault::Lengths);
+        }
         Ok(Setup {
             geometry,
             timing,
@@ -160,6 +196,7 @@ impl Setup {
             limit,
             choice: Choice::InOrder,
             replanning: Replanning::AtOnce,
+            mark: 0,
         })
     }
 
@@ -179,5 +216,12 @@ impl Setup {
         let mut setup = self;
         setup.replanning = replanning;
         setup
+    }
+
+    /// States that the timing has the lengths of all that is put out. It is a fact for proofs: nothing is done.
+    pub(crate) fn states_lengths(&self)
+        ensures { StatesParts self.now.geometry self.now.timing }
+    {
+        is_byte(self.mark);
     }
 }

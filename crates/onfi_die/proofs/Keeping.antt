@@ -1,5 +1,5 @@
 -- Blocks that a map keeps, and what a change of one leaves.
-use Rattle.std.proofs.Common.{◌≡◌, ◌≢◌, ℕ, zero, suc, Bool, true, false, inl, inr, Option, None, Some, List, length, replicate, refl, sym, ap, subst, ◌∙◌, arith}
+use Rattle.std.proofs.Common.{◌≡◌, ◌≢◌, ℕ, zero, suc, Bool, true, false, inl, inr, Option, None, Some, List, replicate, refl, sym, ap, subst, ◌∙◌, arith}
 use Rattle.std.proofs.Math.Path.{fun_ext}
 use Rattle.std.specs.Prelude.{◌==◌, ◌&&◌, if◌then◌else◌, cond, IfSome, IsSome, slice_index_or}
 use Rattle.std.specs.Option.{is_some, option_map, unwrap_or}
@@ -22,9 +22,10 @@ use Rattle.onfi_die.specs.declared.prepared.Prepared.{Prepared}
 use Rattle.onfi_die.specs.declared.prepared.Prepared.TheVariants.{Read, ReadSectors, Program, Erase}
 use Rattle.onfi_die.specs.declared.shape.Shape.{Shape}
 use Rattle.onfi_die.specs.Shapes.{Device}
+use Rattle.onfi_die.specs.Block.{put_out, shown}
 use Rattle.onfi_die.specs.Contents.{Contents, fresh, contents_after, answer_of}
 use Rattle.onfi_die.specs.Blocks.{Blocks, is_on, block_of, changed}
-use Rattle.onfi_die.specs.Prepared.{kind_of, IsAnswerTo}
+use Rattle.onfi_die.specs.Prepared.{kind_of}
 use Rattle.onfi_die.specs.Store.{Stored, Named, contents_of, is_same, kept_of, blocks_of, IsKept, HaveShape}
 use Rattle.onfi_die.proofs.Apart.{is_on_true}
 
@@ -86,7 +87,7 @@ erased_at (suc n) zero = refl
 erased_at (suc n) (suc i) = erased_at n i
 
 read_gives : (device : Device) (k : Kind) (p : Place) (bytes : List ℕ) → operation_of k ≡ operation.Read →
-    answer_of device (record { kind = k; place = p; bytes = bytes }) (fresh device) ≡ answer.Read (replicate device.shape.bytes 255)
+    answer_of device (record { kind = k; place = p; bytes = bytes }) (fresh device) ≡ answer.Read (put_out device.shape k (shown device.shape.bytes Erased))
 unfolding answer_of
 read_gives device kind.Read p bytes e = let f = erased_at device.shape.pages p.page in rw f refl
 read_gives device (kind.ReadSectors first count) p bytes e = let f = erased_at device.shape.pages p.page in rw f refl
@@ -94,15 +95,8 @@ read_gives device kind.Program p bytes e = absurd cc
 read_gives device kind.Erase p bytes e = absurd cc
 
 -- and of a block that isn't kept it gives erased bytes
-pub read_of_none : (device : Device) (r : Request) → operation_of r.kind ≡ operation.Read → answer_of device r (fresh device) ≡ answer.Read (replicate device.shape.bytes 255)
+pub read_of_none : (device : Device) (r : Request) → operation_of r.kind ≡ operation.Read → answer_of device r (fresh device) ≡ answer.Read (put_out device.shape r.kind (shown device.shape.bytes Erased))
 read_of_none device r k = read_gives device r.kind r.place r.bytes k
-
--- whatever has the length of a page answers a read
-pub read_is_answer : (bytes : ℕ) (k : Kind) (content : List ℕ) → operation_of k ≡ operation.Read → length content ≡ bytes → IsAnswerTo bytes k (answer.Read content)
-read_is_answer bytes kind.Read content e l = l
-read_is_answer bytes (kind.ReadSectors first count) content e l = l
-read_is_answer bytes kind.Program content e l = absurd cc
-read_is_answer bytes kind.Erase content e l = absurd cc
 
 same_true : (a b : ℕ × ℕ) → is_same a b ≡ true → a ≡ b
 same_true (i, j) (k, l) h =

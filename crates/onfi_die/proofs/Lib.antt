@@ -1,4 +1,5 @@
 pub mod Lists
+pub mod Outputs
 pub mod Stable
 pub mod Apart
 pub mod Order

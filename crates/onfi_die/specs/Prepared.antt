@@ -4,8 +4,10 @@ use Rattle.onfi_timing.specs.declared.kind.Kind.{Kind}
 use Rattle.onfi_timing.specs.declared.kind.Kind.TheVariants as kind
 use Rattle.onfi_request.specs.declared.answer.Answer.{Answer}
 use Rattle.onfi_request.specs.declared.answer.Answer.TheVariants as answer
+use Rattle.onfi_die.specs.Block.{length_out}
 use Rattle.onfi_die.specs.declared.prepared.Prepared.{Prepared}
 use Rattle.onfi_die.specs.declared.prepared.Prepared.TheVariants.{Read, Program, Erase, ReadSectors}
+use Rattle.onfi_die.specs.declared.shape.Shape.{Shape}
 
 abbrev pub kind_of : Prepared → Kind
 kind_of (Read room) = kind.Read
@@ -27,17 +29,17 @@ HasRoom bytes (ReadSectors first count room) = length room.items ≡ bytes
 HasRoom bytes (Program content) = length content ≡ bytes
 HasRoom bytes Erase = Unit {0}
 
--- a read gives all bytes of a page, the others say whether they succeeded
-abbrev pub IsAnswerTo : ℕ → Kind → Answer → Type 0
-IsAnswerTo bytes kind.Read (answer.Read content) = length content ≡ bytes
-IsAnswerTo bytes kind.Read answer.Done = ⊥
-IsAnswerTo bytes kind.Read answer.Failed = ⊥
-IsAnswerTo bytes (kind.ReadSectors first count) (answer.Read content) = length content ≡ bytes
-IsAnswerTo bytes (kind.ReadSectors first count) answer.Done = ⊥
-IsAnswerTo bytes (kind.ReadSectors first count) answer.Failed = ⊥
-IsAnswerTo bytes kind.Program (answer.Read content) = ⊥
-IsAnswerTo bytes kind.Program answer.Done = Unit {0}
-IsAnswerTo bytes kind.Program answer.Failed = Unit {0}
-IsAnswerTo bytes kind.Erase (answer.Read content) = ⊥
-IsAnswerTo bytes kind.Erase answer.Done = Unit {0}
-IsAnswerTo bytes kind.Erase answer.Failed = Unit {0}
+-- a read gives as many bytes as it puts out, the others say whether they succeeded
+abbrev pub IsAnswerTo : Shape → Kind → Answer → Type 0
+IsAnswerTo shape kind.Read (answer.Read content) = length content ≡ shape.bytes
+IsAnswerTo shape kind.Read answer.Done = ⊥
+IsAnswerTo shape kind.Read answer.Failed = ⊥
+IsAnswerTo shape (kind.ReadSectors first count) (answer.Read content) = length content ≡ length_out shape (kind.ReadSectors first count)
+IsAnswerTo shape (kind.ReadSectors first count) answer.Done = ⊥
+IsAnswerTo shape (kind.ReadSectors first count) answer.Failed = ⊥
+IsAnswerTo shape kind.Program (answer.Read content) = ⊥
+IsAnswerTo shape kind.Program answer.Done = Unit {0}
+IsAnswerTo shape kind.Program answer.Failed = Unit {0}
+IsAnswerTo shape kind.Erase (answer.Read content) = ⊥
+IsAnswerTo shape kind.Erase answer.Done = Unit {0}
+IsAnswerTo shape kind.Erase answer.Failed = Unit {0}

@@ -30,7 +30,7 @@ impl Kept {
         ensures contents { contents_of self.new
             ≡ contents_after (record { shape = self.old.block.shape; faults = faults.now }) (request_of place operation) (contents_of self.old) }
         ensures answer { result ≡ answer_of (record { shape = self.old.block.shape; faults = faults.now }) (request_of place operation) (contents_of self.old) }
-        ensures form { IsAnswerTo self.old.block.shape.bytes (kind_of operation) result }
+        ensures form { IsAnswerTo self.old.block.shape (kind_of operation) result }
         ensures shape { self.new.block.shape ≡ self.old.block.shape }
     {
         let fault = is_next(faults, place, &self.changes);

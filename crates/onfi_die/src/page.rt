@@ -1,4 +1,4 @@
-ghost use Rattle.std.specs.Prelude.{◌≡◌, length};
+ghost use Rattle.std.specs.Prelude.{◌≡◌, ◌≤◌, ◌+◌, ℕ, length, take, drop};
 ghost use Rattle.onfi_die.specs.Block.{is_erased, shown};
 ghost use Rattle.onfi_die.specs.Whole.{IsWide};
 
@@ -28,10 +28,22 @@ impl Page {
         requires { IsWide (length out.old) self.now }
         ensures { out.new ≡ shown (length out.old) self.now }
     {
+        self.show_part(0, out);
+    }
+
+    /// Writes what a read gives of the page from its byte `from` on to `out`, which has no more bytes than are left there.
+    pub fn show_part(&self, from: usize, out: &mut [u8])
+        requires { (bytes : ℕ) × IsWide bytes self.now × (from + length out.old ≤ bytes) }
+        ensures { (bytes : ℕ) → IsWide bytes self.now → from + length out.old ≤ bytes
+            → out.new ≡ take (length out.old) (drop from (shown bytes self.now)) }
+    {
         match self {
             Page::Erased => out.fill(0xff),
             Page::Torn => out.fill(0x00),
-            Page::Holds(bytes) => out.copy_from_slice(bytes.as_slice()),
+            Page::Holds(bytes) => {
+                let count = out.len();
+                out.copy_from_slice(&bytes.as_slice()[from..][..count]);
+            }
         }
     }
 }

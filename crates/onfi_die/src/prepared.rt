@@ -1,11 +1,14 @@
-ghost use Rattle.std.specs.Prelude.{◌≡◌, ℕ, ◌+◌, length, replicate, if◌then◌else◌, IfOk};
+ghost use Rattle.std.specs.Prelude.{◌≡◌, ◌≤◌, ℕ, ◌+◌, length, take, drop, if◌then◌else◌, IfOk};
 ghost use Rattle.onfi_timing.specs.declared.operation.Operation.TheVariants as operation;
 ghost use Rattle.onfi_timing.specs.Kinds.{operation_of};
 ghost use Rattle.onfi_request.specs.declared.answer.Answer.TheVariants as answer;
 ghost use Rattle.onfi_die.specs.Contents.{counted};
-ghost use Rattle.onfi_die.specs.Prepared.{kind_of, data_of, HasRoom};
+ghost use Rattle.onfi_die.specs.Block.{put_out, shown};
+ghost use Rattle.onfi_die.specs.Prepared.{kind_of, data_of, HasRoom, IsAnswerTo};
+ghost use Rattle.onfi_die.specs.Whole.{IsWide};
 
 use crate::page::Page;
+use crate::shape::Shape;
 use onfi_request::{Answer, Bytes};
 use onfi_timing::Kind;
 use std::alloc::{AllocError, Global};
@@ -73,16 +76,33 @@ impl Prepared {
         !matches!(self, Prepared::Read(_) | Prepared::ReadSectors { .. })
     }
 
-    /// Does a read of a page of an erased block.
-    pub(crate) fn read_erased(self) -> Answer
-        requires { operation_of (kind_of self) ≡ operation.Read }
-        ensures { (bytes : ℕ) → HasRoom bytes self → result ≡ answer.Read (replicate bytes 255) }
+    /// Does a read of a page that holds this, in a block of that shape.
+    pub(crate) fn read(self, shape: Shape, page: &Page) -> Answer
+        requires read { operation_of (kind_of self) ≡ operation.Read }
+        requires room { HasRoom shape.bytes self }
+        requires wide { IsWide shape.bytes page.now }
+        ensures answer { result ≡ answer.Read (put_out shape (kind_of self) (shown shape.bytes page.now)) }
+        ensures form { IsAnswerTo shape (kind_of self) result }
     {
-        let mut room = match self {
-            Prepared::Read(room) | Prepared::ReadSectors { room, .. } => room,
+        match self {
+            Prepared::Read(room) => read_part(page, 0, usize::from(shape.bytes), room),
+            Prepared::ReadSectors { first, count, room } => {
+                let (from, bytes) = shape.part(first, count);
+                read_part(page, from, bytes, room)
+            }
             Prepared::Program(_) | Prepared::Erase => unreachable!(),
-        };
-        Page::Erased.show(room.as_mut_slice());
-        Answer::Read(Bytes::of(room))
+        }
     }
+}
+
+// So many bytes of a page, from that one on, in room that has as many or more.
+fn read_part(page: &Page, from: usize, count: usize, room: Vec<u8>) -> Answer
+    requires there { (bytes : ℕ) × IsWide bytes page.now × (from + count ≤ bytes) }
+    requires room { count ≤ length room.items }
+    ensures { (bytes : ℕ) → IsWide bytes page.now → from + count ≤ bytes → result ≡ answer.Read (take count (drop from (shown bytes page.now))) }
+{
+    let mut room = room;
+    room.truncate(count);
+    page.show_part(from, room.as_mut_slice());
+    Answer::Read(Bytes::of(room))
 }

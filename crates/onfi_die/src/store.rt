@@ -5,6 +5,7 @@ ghost use Rattle.onfi_timing.specs.Kinds.{operation_of};
 use crate::block::Block;
 use crate::changes::Changes;
 use crate::kept::Kept;
+use crate::page::Page;
 use crate::prepared::Prepared;
 use crate::shape::Shape;
 use onfi_addr::{Geometry, Place};
@@ -91,12 +92,7 @@ impl Store {
         if kind.operation() == Operation::Read || self.kept.contains_key(&key) {
             return Ok(());
         }
-        let Shape {
-            pages,
-            bytes,
-            any_order,
-        } = self.shape;
-        let block = Block::erased(alloc, pages, bytes, any_order)?;
+        let block = Block::of(alloc, self.shape)?;
         self.kept.insert(
             key,
             Kept {
@@ -115,12 +111,12 @@ impl Store {
         ensures device { self.new.device ≡ self.old.device }
         ensures blocks { blocks_of self.new ≡ changed self.old.device (request_of place operation) (blocks_of self.old) }
         ensures answer { result ≡ answer_of self.old.device (request_of place operation) (block_of (request_of place operation) (blocks_of self.old)) }
-        ensures form { IsAnswerTo self.old.device.shape.bytes (kind_of operation) result }
+        ensures form { IsAnswerTo self.old.device.shape (kind_of operation) result }
         ensures others { (lun block : ℕ) → IsKept lun block self.old → IsKept lun block self.new }
         ensures no_more { (lun block : ℕ) → IsKept lun block self.new → IsKept lun block self.old }
     {
         let Some(kept) = self.kept.get_mut(&key_of(place)) else {
-            return operation.read_erased();
+            return operation.read(self.shape, &Page::Erased);
         };
         kept.run(self.faults.as_slice(), place, operation)
     }

@@ -172,18 +172,15 @@ impl Floor {
     // The posts that are left to the move's own LUN; from when on it is free, in ns.
     fn line_up_own(&mut self, problem: &Problem, aim: &Aim, phase: Phase) -> u64 {
         let rest = self.rest_of(phase.step.lun());
-        let posts = match phase.step {
+        let (posts, busy) = match phase.step {
             Move::Next { .. } if rest.posts.is_next() => {
-                rest.posts.behind_first(aim, rest.phase)
+                (rest.posts.behind_first(aim, rest.phase), rest.busy)
             }
-            Move::Next { .. } => rest.posts,
-            Move::Start { place, .. } => posts_of(problem, aim, place),
+            Move::Next { .. } => (rest.posts, rest.busy),
+            Move::Start { place, .. } => started(problem, aim, place),
         };
         self.line_up(posts, phase.start);
-        phase
-            .start
-            .wrapping_add(posts.wait)
-            .wrapping_add(time_of(problem, aim, posts))
+        phase.start.wrapping_add(busy)
     }
 
     // The posts of a group whose LUN goes on then.
@@ -259,22 +256,15 @@ fn shorter(before: Option<Spans>, aim: &Aim, want: &Want) -> Option<Spans> {
     }
 }
 
-// How long the posts that are left of a group take, in ns.
-fn time_of(problem: &Problem, aim: &Aim, posts: Posts) -> u64 {
-    let Some(group) = problem.groups().get(posts.place as usize) else {
-        return 0;
+// The posts of a group that starts, and how long the whole group takes, in ns.
+fn started(problem: &Problem, aim: &Aim, place: u8) -> (Posts, u64) {
+    let Some(group) = problem.groups().get(place as usize) else {
+        return (Posts::none(), 0);
     };
-    let mut time = 0u64;
-    for member in posts.member..posts.member.saturating_add(posts.left) {
-        time = time.wrapping_add(post_of(aim, group, member));
+    let posts = Posts::of(&aim.timing.spans(group.kind()), aim, group, place, 0);
+    let mut busy = posts.wait;
+    for member in 0..posts.left {
+        busy = busy.wrapping_add(post_of(aim, group, member));
     }
-    time
-}
-
-// Those of a group that starts.
-fn posts_of(problem: &Problem, aim: &Aim, place: u8) -> Posts {
-    match problem.groups().get(place as usize) {
-        Some(group) => Posts::of(&aim.timing.spans(group.kind()), aim, group, place, 0),
-        None => Posts::none(),
-    }
+    (posts, busy)
 }

@@ -8,6 +8,7 @@ use Rattle.onfi_addr.specs.declared.place.Place.{Place}
 use Rattle.onfi_addr.specs.Rows.{IsInRange, row_of}
 use Rattle.onfi_addr.proofs.RowLemmas.{fields_of, place_is}
 use Rattle.onfi_timing.specs.Kinds.{spans_of}
+use Rattle.onfi_request.specs.Parts.{has_part}
 use Rattle.onfi_request.specs.declared.request.Item.{Item}
 use Rattle.onfi_request.specs.declared.request.Request.{Request}
 use Rattle.onfi_problem.proofs.Places.{get_set_other, length_set, set_back, within_get}
@@ -188,6 +189,7 @@ module _ (target : Target) (chip : Chip) (lun : AnyLun) (now : ℕ) (fetch : Fet
         place = next.place;
         lun_is = number_is ∙ sym number;
         in_range = subst (λ (x : Geometry). IsInRange x post.place) of.geometry next.fetch_is.next.in_range;
+        part = subst (λ (x : Geometry). has_part x post.kind ≡ true) of.geometry next.fetch_is.next.part;
       }
 
 -- the LUNs after a post, where it gave its answer

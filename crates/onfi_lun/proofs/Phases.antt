@@ -1,5 +1,5 @@
 -- The moves of a LUN on the chip.
-use Rattle.std.proofs.Common.{◌≡◌, ℕ, suc, ◌+◌, List, [], ◌∷◌, ◌++◌, length, Option, Some, refl, sym, ap, subst, ◌∙◌, arith, length-append}
+use Rattle.std.proofs.Common.{◌≡◌, ℕ, suc, ◌+◌, List, [], ◌∷◌, ◌++◌, length, true, Option, Some, refl, sym, ap, subst, ◌∙◌, arith, length-append}
 use Rattle.std.specs.Prelude.{slice_get}
 use Rattle.onfi_addr.specs.declared.geometry.Geometry.{Geometry}
 use Rattle.onfi_addr.specs.declared.place.Place.{Place}
@@ -9,6 +9,7 @@ use Rattle.onfi_timing.specs.declared.spans.Spans.{Spans}
 use Rattle.onfi_timing.specs.declared.timing.Timing.{Timing}
 use Rattle.onfi_timing.specs.Kinds.{spans_of}
 use Rattle.onfi_request.specs.declared.request.Request.{Request}
+use Rattle.onfi_request.specs.Parts.{has_part}
 use Rattle.onfi_die.specs.Shapes.{Device}
 use Rattle.onfi_die.specs.Blocks.{Blocks, changed}
 use Rattle.onfi_problem.proofs.Places.{get_set_same, get_set_other}
@@ -85,6 +86,7 @@ next_post target old lun now fetch post left of due = record {
   there = subst (λ n. slice_get old.luns n ≡ Some (Posting (post ∷ left) lun.state.ready)) (sym due.lun_is) due.posting.there;
   over = due.over;
   in_range = subst (λ (g : Geometry). IsInRange g post.place) (sym of.geometry) due.in_range;
+  part = subst (λ (g : Geometry). has_part g post.kind ≡ true) (sym of.geometry) due.part;
   row_is = ap (λ (g : Geometry). row_of g post.place) of.geometry ∙ ap (λ (p : Place). row_of target.geometry p) due.place;
 }
 

@@ -1,9 +1,9 @@
 -- A bus phase on the chip.
-use Rattle.std.specs.Prelude.{◌≡◌, ◌≢◌, ℕ, ◌+◌, ◌<◌, ◌≤◌, ◌==◌, if◌then◌else◌, List, length}
+use Rattle.std.specs.Prelude.{◌≡◌, ◌≢◌, ◌⊎◌, ℕ, ◌+◌, ◌<◌, ◌≤◌, ◌==◌, if◌then◌else◌, List, length}
 use Rattle.onfi_addr.specs.Rows.{row_of}
 use Rattle.onfi_addr.specs.declared.geometry.Geometry.{Geometry}
 use Rattle.onfi_timing.specs.declared.operation.Operation.TheVariants.{Read}
-use Rattle.onfi_timing.specs.Kinds.{operation_of}
+use Rattle.onfi_timing.specs.Kinds.{operation_of, sectors_of}
 use Rattle.onfi_request.specs.declared.request.Item.{Item}
 use Rattle.onfi_request.specs.declared.want.Want.{Want}
 use Rattle.onfi_chip.specs.declared.closer.Closer.{Closer}
@@ -38,11 +38,17 @@ HasRun chip geometry due item (ran.Post answer) chip' =
     (length due.group ≤ due.phase)
     × ((post : Post) (left : List Post) → IsNextPost chip due.start (row_of geometry item.request.place) post left → (answer ≡ post.answer) × HasDone (posted chip post left due.start) chip')
 
--- where it didn't happen: where memory was refused the chip is unchanged, else its count of that fault rose
-abbrev pub AfterDrive : DriveFault → Chip → Chip → Type 0
-AfterDrive Bus old new = IsLost post.Bus old new
-AfterDrive NotReady old new = IsLost post.NotReady old new
-AfterDrive Memory old new = new ≡ old
+-- the phase is the output of some sectors, of which the chip has none: it is as it was
+pub record HasNoSectors (due : Due) (item : Item) (old new : Chip) : Type 0 where
+  pub post : length due.group ≤ due.phase
+  pub sectors : 1 ≤ sectors_of item.request.kind
+  pub same : new ≡ old
+
+-- where it didn't happen: where memory was refused the chip is unchanged, else its count of that fault rose, or it has no sectors
+abbrev pub AfterDrive : Due → Item → DriveFault → Chip → Chip → Type 0
+AfterDrive due item Bus old new = IsLost post.Bus old new ⊎ HasNoSectors due item old new
+AfterDrive due item NotReady old new = IsLost post.NotReady old new
+AfterDrive due item Memory old new = new ≡ old
 
 -- the phase is the status of a program or an erase
 abbrev pub IsStatus : Due → Item → Type 0

@@ -1,8 +1,9 @@
 -- What the typed phases of a LUN say of the chip, and what their moves lead to.
-use Rattle.std.specs.Prelude.{◌≡◌, ◌≢◌, ℕ, ◌+◌, ◌≤◌, List, ◌∷◌, length, Some, slice_get}
+use Rattle.std.specs.Prelude.{◌≡◌, ◌≢◌, ℕ, ◌+◌, ◌≤◌, List, ◌∷◌, length, true, Some, slice_get}
 use Rattle.onfi_addr.specs.declared.geometry.Geometry.{Geometry}
 use Rattle.onfi_addr.specs.Rows.{IsInRange}
 use Rattle.onfi_request.specs.declared.request.Request.{Request}
+use Rattle.onfi_request.specs.Parts.{has_part}
 use Rattle.onfi_chip.specs.declared.closer.Closer.{Closer}
 use Rattle.onfi_chip.specs.declared.closer.Closer.TheVariants as closer
 use Rattle.onfi_chip.specs.declared.fetch.Fetch.{Fetch}
@@ -64,6 +65,7 @@ pub record IsDue (geometry : Geometry) (chip : Chip) (lun : Lun Posting) (now : 
   pub place : post.place ≡ fetch.place
   pub lun_is : post.place.lun ≡ lun.number
   pub in_range : IsInRange geometry post.place
+  pub part : has_part geometry post.kind ≡ true
 
 -- every LUN but this one is as it was
 abbrev pub OthersStay : ℕ → Chip → Chip → Type 0

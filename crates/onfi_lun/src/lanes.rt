@@ -7,7 +7,7 @@ ghost use Rattle.onfi_request.specs.Range.{Fits};
 ghost use Rattle.onfi_chip.specs.declared.post.Post.{Post as APost};
 ghost use Rattle.onfi_chip.specs.Chip.{Chip as ChipState, found_ready, posted, taken};
 ghost use Rattle.onfi_chip.specs.Chip.Lun.{Idle as DoesNothing};
-ghost use Rattle.onfi_chip.specs.Calls.{AfterFault, HasDone, IsLost, IsNextPost, MayTake, command_of};
+ghost use Rattle.onfi_chip.specs.Calls.{AfterFault, HasDone, IsMissed, IsNextPost, MayTake, command_of};
 ghost use Rattle.onfi_chip.specs.Fetching.{HasRoom};
 ghost use Rattle.onfi_lun.specs.Drive.{HasRun, AfterDrive, IsStatus, closer_of};
 ghost use Rattle.onfi_lun.specs.Phases.{IsOf};
@@ -61,7 +61,7 @@ impl Lanes {
     ///
     /// # Errors
     /// `Bus`, or `NotReady` at the status of a program or an erase: nothing more is known of the chip than its faults and
-    /// its count of that fault, which rose. `Memory` where a growth was refused: chip and LUNs are unchanged.
+    /// its count of that fault, which rose; or `Bus` where sectors are asked of a chip that has none, which is unchanged. `Memory` where a growth was refused: chip and LUNs are unchanged.
     pub fn run_due<C: Chip>(
         &mut self,
         alloc: Global,
@@ -74,7 +74,7 @@ impl Lanes {
         requires due { MayRunDue target.now (C.state chip.old) due.now item.now }
         ensures ran { IfOk result (λ ran. HasRun (C.state chip.old) target.now.geometry due.now item.now ran (C.state chip.new)) }
         ensures agree { IfOk result (λ _. LanesAgree (C.state chip.new) self.new) }
-        ensures err { IfErr result (λ fault. AfterDrive fault (C.state chip.old) (C.state chip.new)) }
+        ensures err { IfErr result (λ fault. AfterDrive due.now item.now fault (C.state chip.old) (C.state chip.new)) }
         ensures not_ready { IfErr result (λ fault. fault ≡ DriveFault.NotReady → IsStatus due.now item.now) }
         ensures memory { IfErr result (λ fault. fault ≡ DriveFault.Memory → self.new ≡ self.old) }
         ensures others { OthersKept due.now.lun self.old self.new }
@@ -186,7 +186,7 @@ impl Lanes {
             → IsNextPost (C.state chip.old) due.now.start (row_of target.now.geometry fetch.place) post left
             → HasDone (posted (C.state chip.old) post left due.now.start) (C.state chip.new)) }
         ensures agree { IfOk result (λ _. LanesAgree (C.state chip.new) self.new) }
-        ensures lost { IfErr result (λ fault. IsLost fault (C.state chip.old) (C.state chip.new)) }
+        ensures lost { IfErr result (λ fault. IsMissed fetch.kind fault (C.state chip.old) (C.state chip.new)) }
         ensures not_ready { IfErr result (λ fault. fault ≡ PostFault.NotReady → operation_of fetch.kind ≢ Operation.Read) }
         ensures others { OthersKept due.now.lun self.old self.new }
     {

@@ -5,7 +5,7 @@ ghost use Rattle.onfi_addr.specs.Rows.{row_of};
 ghost use Rattle.onfi_timing.specs.Kinds.{operation_of, spans_of};
 ghost use Rattle.onfi_chip.specs.declared.post.Post.{Post as APost};
 ghost use Rattle.onfi_chip.specs.Chip.{posted};
-ghost use Rattle.onfi_chip.specs.Calls.{HasDone, IsLost, IsNextPost};
+ghost use Rattle.onfi_chip.specs.Calls.{HasDone, IsMissed, IsNextPost};
 ghost use Rattle.onfi_chip.specs.Fetching.{HasRoom, IsNextFetch};
 ghost use Rattle.onfi_lun.specs.Phases.{IsOf, IsPosted, IsDue, OthersStay, IsBehind};
 
@@ -22,7 +22,7 @@ impl Lun<Posting> {
     ///
     /// # Errors
     /// `Bus`, or `NotReady` where the status of a program or an erase said so, with the LUN as it was; each only where the
-    /// chip's count of that fault rose.
+    /// chip's count of that fault rose, or where sectors are asked of a chip that has none.
     pub fn post<C: Chip>(
         self,
         chip: &mut C,
@@ -42,7 +42,7 @@ impl Lun<Posting> {
             → IsPosted left (C.state chip.new) self.number told.0) }
         ensures made { IfOk result (λ told. IsBehind self.number self.state.left (now + (spans_of target.now.timing fetch.kind).post) told.0) }
         ensures others { IfOk result (λ _. OthersStay self.number (C.state chip.old) (C.state chip.new)) }
-        ensures fault { IfErr result (λ refused. IsLost refused.fault (C.state chip.old) (C.state chip.new)) }
+        ensures fault { IfErr result (λ refused. IsMissed fetch.kind refused.fault (C.state chip.old) (C.state chip.new)) }
         ensures told { IfErr result (λ refused. refused.fault ≡ PostFault.NotReady → operation_of fetch.kind ≢ Operation.Read) }
         ensures lun { IfErr result (λ refused. refused.lun ≡ self) }
     {
@@ -91,7 +91,7 @@ impl<S: Phase> Lun<S> {
         ensures done { IfOk result (λ _. (post : APost) (left : List APost)
             → IsNextPost (C.state chip.old) now (row_of target.now.geometry fetch.place) post left
             → HasDone (posted (C.state chip.old) post left now) (C.state chip.new)) }
-        ensures lost { IfErr result (λ fault. IsLost fault (C.state chip.old) (C.state chip.new)) }
+        ensures lost { IfErr result (λ fault. IsMissed fetch.kind fault (C.state chip.old) (C.state chip.new)) }
         ensures not_ready { IfErr result (λ fault. fault ≡ PostFault.NotReady → operation_of fetch.kind ≢ Operation.Read) }
     {
         read_post(chip, &target.geometry, now, fetch)

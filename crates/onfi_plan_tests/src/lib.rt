@@ -4,6 +4,8 @@
 #![tactic(auto)]
 
 #[cfg(test)]
+mod audit;
+#[cfg(test)]
 mod bound;
 #[cfg(test)]
 mod cert;
@@ -11,6 +13,8 @@ mod cert;
 mod cross;
 #[cfg(test)]
 mod early;
+#[cfg(test)]
+mod gap;
 #[cfg(test)]
 mod gaps;
 #[cfg(test)]

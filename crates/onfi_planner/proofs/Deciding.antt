@@ -1,11 +1,10 @@
 -- Deciding which LUNs yield, one LUN after another.
 use Rattle.std.proofs.Common.{◌≡◌, ◌≢◌, ℕ, ◌+◌, ◌≤◌, ◌<◌, inl, inr, Bool, true, false, List, length, get_or, Option, Some, None, sym, ◌∙◌, subst, arith, get_or-set_same, get_or-set_other, length-set}
-use Rattle.std.specs.Prelude.{slice_set, IfSome}
+use Rattle.std.specs.Prelude.{slice_set}
 use Rattle.std.proofs.lemmas.Bool.{cases_eq}
 use Rattle.onfi_problem.specs.Problem.{Problem}
 use Rattle.onfi_problem.specs.Moves.{Move, move_lun, may_go, after}
 use Rattle.onfi_problem.proofs.Perm.{All-weaker}
-use Rattle.onfi_bound.specs.Bounds.{least_with}
 use Rattle.onfi_check.specs.Ends.{IsLastEnd}
 use Rattle.onfi_planner.specs.Opening.{YieldsTo, AreYields, YieldsSoFar, yield_at}
 
@@ -61,19 +60,3 @@ module _ (p : Problem) (moves : List Move) (yields : List (Option ℕ)) (awaited
 
   pub decided : YieldsSoFar p moves now_yields now_awaited
   decided = record { long = length-set yields own (Some lun) ∙ so_far.long; marks = length-set awaited lun true ∙ so_far.marks; are = now_are; asked = now_asked }
-
--- the first end among one more
-pub still_soonest : (ends : List (Option ℕ)) (lun soonest next : ℕ) → next ≡ least_with soonest (get_or ends lun None) → ((k : ℕ) → k < lun → IfSome (get_or ends k None) (λ end. soonest ≤ end)) → (k : ℕ) → k < lun + 1 → IfSome (get_or ends k None) (λ end. next ≤ end)
-still_soonest ends lun soonest next e h k lt = elim (cases_eq k lun) [
-  | inl s ↦ (let q : next ≡ least_with soonest (get_or ends k None) = rw s e in here (get_or ends k None) q)
-  | inr d ↦ before (get_or ends lun None) (get_or ends k None) e (h k (omega arith))
-]
-  where
-    here : (o : Option ℕ) → next ≡ least_with soonest o → IfSome o (λ end. next ≤ end)
-    here None q = tt
-    here (Some v) q = omega arith
-
-    before : (m o : Option ℕ) → next ≡ least_with soonest m → IfSome o (λ end. soonest ≤ end) → IfSome o (λ end. next ≤ end)
-    before m None q i = tt
-    before None (Some v) q i = omega arith
-    before (Some w) (Some v) q i = omega arith

@@ -1,6 +1,5 @@
 ghost use Rattle.std.specs.Prelude.{◌≡◌, ◌≢◌, ◌≤◌, ◌<◌, ℕ, Some, None, IfSome, length, slice_index_or};
 ghost use Rattle.onfi_problem.specs.Position.{moves_of};
-ghost use Rattle.onfi_bound.specs.Bounds.{least_with};
 ghost use Rattle.onfi_check.specs.Ends.{IsLastEnd};
 ghost use Rattle.onfi_planner.specs.Opening.{AreYields, YieldsSoFar, yield_at};
 
@@ -17,34 +16,13 @@ pub fn yields_of(problem: &Problem, moves: &[Move], ends: &[Option<u64>; 8]) -> 
 {
     let mut yields = [None; 8];
     let mut awaited = [false; 8];
-    let soonest = soonest(ends);
     for own in 0..problem.lun_count() as u8 {
-        if ends[own as usize].is_some() && soonest <= problem.may_go(own) {
+        // (each move ends after the bus is free, so a LUN that may go by then yields to none)
+        if ends[own as usize].is_some() && problem.may_go(own) > problem.bus_free() {
             decide(problem, moves, ends, own, &mut yields, &mut awaited);
         }
     }
     yields
-}
-
-// No later than any of the ends, and the first of them where there is one.
-fn soonest(ends: &[Option<u64>; 8]) -> u64
-    ensures { (lun : ℕ) → lun < 8 → IfSome (slice_index_or ends.now lun None) (λ end. result ≤ end) }
-{
-    let mut soonest = u64::MAX;
-    for lun in 0..8u8 {
-        soonest = sooner(ends[lun as usize], soonest);
-    }
-    soonest
-}
-
-// The sooner of two ends, where there are two.
-fn sooner(end: Option<u64>, other: u64) -> u64
-    ensures { result ≡ least_with other end }
-{
-    match end {
-        Some(e) => e.min(other),
-        None => other,
-    }
 }
 
 // Decides to which LUN the moves of the next LUN yield.

@@ -8,10 +8,11 @@ ghost use Rattle.onfi_console.specs.Words.{IsInRange};
 mod input;
 
 use input::{Unread, read};
-use onfi_console::{Input, Untaken, escaped, is_quiet, message, read_words, shown};
+use onfi_console::{
+    Input, Named, Parsed, Untaken, describe, escaped, is_quiet, message, read_words, shown,
+};
 use onfi_run::{Limit, run_freely};
-use onfi_script::{Answer, Why, answer_by, write_text};
-use onfi_sim::{Named, Parsed, describe};
+use onfi_script::{Answer, Why, answer_by, audit_by, audit_gaps, write_text};
 use std::alloc::AllocError;
 use std::fmt::Display;
 use std::io::{Eprint, ErrorKind, Print};
@@ -137,6 +138,8 @@ fn answer_to<R: Threads + Wait + Sync + AllocGlobal>(
         }
         Named::Problem { command, workers } => answer_by(rt, alloc, command, workers, text),
         Named::Device => describe(alloc, text),
+        Named::Audit { options } => audit_by(alloc, options, text),
+        Named::Gaps { options } => audit_gaps(alloc, options, text),
     }
 }
 

@@ -4,7 +4,8 @@ use Rattle.std.specs.Prelude.{nat_le, ◌==◌}
 use Rattle.std.proofs.lemmas.Bool.{cases_Bool}
 use Rattle.std.proofs.lemmas.Bool.Decides.{nat_tests}
 use Rattle.onfi_addr.specs.declared.geometry.Geometry.{Geometry}
-use Rattle.onfi_request.specs.Range.{Fits, pages_for, bytes_for, fault_of, is_whole}
+use Rattle.onfi_request.specs.Range.{Fits, pages_for, bytes_for, fault_of}
+use Rattle.onfi_request.specs.Parts.{has_part}
 use Rattle.onfi_request.specs.declared.request.Request.{Request}
 
 pub below : (a b : ℕ) → nat_le a b ≡ false → b < a
@@ -21,9 +22,9 @@ fits geometry r h =
           | inl c ↦ (let h' = rw (a, b, c) at h in cc)
           | inr c ↦ elim (cases_Bool (length r.bytes == bytes_for geometry r.kind)) [
             | inr d ↦ (let h' = rw (a, b, c, d) at h in cc)
-            | inl d ↦ elim (cases_Bool (is_whole r.kind)) [
+            | inl d ↦ elim (cases_Bool (has_part geometry r.kind)) [
               | inr w ↦ (let h' = rw (a, b, c, d, w) at h in cc)
-              | inl w ↦ record { lun = below _ _ a; block = below _ _ b; page = below _ _ c; data_length = grind (arith, nat_tests); whole = w }
+              | inl w ↦ record { lun = below _ _ a; block = below _ _ b; page = below _ _ c; data_length = grind (arith, nat_tests); part = w }
             ]
           ]
         ]
@@ -41,4 +42,4 @@ no_fault geometry r f =
     let b : nat_le geometry.blocks_per_lun r.place.block ≡ false = grind (arith, nat_tests) in
     let c : nat_le (pages_for geometry r.kind) r.place.page ≡ false = grind (arith, nat_tests) in
     let d : (length r.bytes == bytes_for geometry r.kind) ≡ true = grind (arith, nat_tests) in
-    rw (a, b, c, d, f.whole) refl
+    rw (a, b, c, d, f.part) refl

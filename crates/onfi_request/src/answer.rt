@@ -3,7 +3,7 @@ use crate::bytes::Bytes;
 /// What a request came to.
 #[derive(Debug, Drop)]
 pub enum Answer {
-    /// A read: all data and spare bytes of the page.
+    /// A read: the bytes that it puts out, all data and spare bytes of the page or those of its sectors.
     Read(Bytes),
     /// A program or an erase that succeeded.
     Done,

@@ -1,6 +1,8 @@
 ghost use Rattle.std.specs.Prelude.{◌≡◌, ◌<◌, ◌≤◌, ◌↔◌, length, IsTrue, IsOk, IsErrOf, MatchResult, Some, None, false};
-ghost use Rattle.onfi_request.specs.Range.{Fits, IsPageFor, IsLengthFor, fault_of, is_whole};
+ghost use Rattle.onfi_request.specs.Range.{Fits, IsPageFor, IsLengthFor, fault_of};
+ghost use Rattle.onfi_request.specs.Parts.{has_part};
 
+use crate::part::has_part;
 use crate::request::Request;
 use onfi_addr::Geometry;
 use onfi_timing::Kind;
@@ -21,8 +23,8 @@ pub enum RequestFault {
     /// A program doesn't bring exactly the bytes of a page, or a read or an erase brings bytes.
     #[error("a wrong count of data bytes")]
     DataLength,
-    /// A read names sectors: hosts ask for pages as a whole.
-    #[error("sectors of a page")]
+    /// A read names sectors that a page doesn't have, none or more than seven.
+    #[error("no such sectors")]
     Sectors,
 }
 
@@ -49,7 +51,7 @@ pub fn check(geometry: &Geometry, request: &Request) -> Result<(), RequestFault>
         × (request.now.place.block < geometry.now.blocks_per_lun)
         × IsPageFor geometry.now request.now.kind request.now.place.page
         × IsLengthFor geometry.now request.now.kind (length request.now.bytes)
-        × (is_whole request.now.kind ≡ false)) }
+        × (has_part geometry.now request.now.kind ≡ false)) }
     ensures fault { MatchResult result (λ _. fault_of geometry.now request.now ≡ None) (λ fault. fault_of geometry.now request.now ≡ Some fault) }
 {
     if request.place.lun >= geometry.lun_count {
@@ -64,7 +66,7 @@ pub fn check(geometry: &Geometry, request: &Request) -> Result<(), RequestFault>
     if !has_length(geometry, request.kind, request.bytes.as_slice().len()) {
         return Err(RequestFault::DataLength);
     }
-    if let Kind::ReadSectors { .. } = request.kind {
+    if !has_part(geometry, request.kind) {
         return Err(RequestFault::Sectors);
     }
     Ok(())

@@ -5,7 +5,7 @@ use onfi_timing::Kind;
 /// What a host asks of a channel: one operation at one place.
 #[derive(Debug, Drop)]
 pub struct Request {
-    /// Read, program or erase (ONFI 4.2, command definition).
+    /// Read, program or erase (ONFI 4.2, command definition); of a read, which sectors are put out.
     pub kind: Kind,
     /// The page; an erase names page 0 of its block.
     pub place: Place,

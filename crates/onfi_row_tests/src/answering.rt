@@ -5,8 +5,8 @@ ghost use Rattle.onfi_console.specs.Words.{IsInRange};
 
 use crate::ended::Ended;
 use onfi_sim::{
-    Command, CommandName, EngineFault, Gate, Parsed, WordsFault, describe, engine, engine_split,
-    run_script, words,
+    Command, CommandName, EngineFault, Gate, Parsed, WordsFault, audit, describe, engine,
+    engine_split, run_script, words,
 };
 use std::alloc::{AllocError, Global};
 use std::sync::Wait;
@@ -90,6 +90,11 @@ fn obey<R: Threads + Wait + Sync>(
             let described = describe(alloc, input)?;
             text = described.text;
             described.status
+        }
+        CommandName::Audit => {
+            let audited = audit(alloc, false, input)?;
+            text = audited.text;
+            audited.status
         }
     };
     Ok(Answer { status, text })

@@ -1,9 +1,11 @@
 //! Plays a page of worked rows by the calls `words`, `engine`, `engine_split` and `run_script`, and says which of them
-//! weren't answered as the page says.
+//! weren't answered as the page says. Its tests are runs with gates.
 #![tactic(auto)]
 
 mod answering;
 mod ended;
+#[cfg(test)]
+mod gates;
 mod page;
 mod unflushed;
 

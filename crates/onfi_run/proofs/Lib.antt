@@ -1,6 +1,7 @@
 pub mod Arrivals
 pub mod Numbered
 pub mod Rows
+pub mod SectorLengths
 pub mod ByHost
 pub mod Links
 pub mod Lanes

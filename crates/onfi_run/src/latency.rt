@@ -1,10 +1,11 @@
 //! How long operations took.
-ghost use Rattle.std.specs.Prelude.{◌≡◌, ◌≤◌, ◌*◌, ◌/◌, ◌++◌, [], OnOk, IfOk, length, filter_map};
-ghost use Rattle.std.specs.List.{cons_option, flat_map, sum};
+ghost use Rattle.std.specs.Prelude.{◌≡◌, ◌++◌, [], OnOk, IfOk, filter_map};
+ghost use Rattle.std.specs.List.{cons_option, flat_map};
 ghost use Rattle.onfi_run.specs.Latency as spec;
 
 use crate::answers::{Answers, Got};
 use crate::completion::Completion;
+use onfi_gap::mean;
 use onfi_timing::Operation;
 use std::alloc::{AllocError, Global};
 
@@ -76,26 +77,6 @@ fn latencies(alloc: Global, operation: Operation, all: &[Got]) -> Result<Vec<u64
         add_got(&mut latencies, operation, got.as_slice())?;
     }
     Ok(latencies)
-}
-
-/// The sum of so many numbers.
-fn total(numbers: &[u64]) -> u128
-    ensures sum { result ≡ sum numbers.now }
-    ensures most { result ≤ length numbers.now * 18446744073709551615 }
-{
-    let mut total = 0u128;
-    for number in numbers {
-        total += u128::from(*number);
-    }
-    total
-}
-
-/// The mean of numbers of which there is one at least, rounded down.
-fn mean(numbers: &[u64]) -> u64
-    requires { 1 ≤ length numbers.now }
-    ensures { result ≡ sum numbers.now / length numbers.now }
-{
-    (total(numbers) / numbers.len() as u128) as u64
 }
 
 /// What is said of latencies; nothing of none.

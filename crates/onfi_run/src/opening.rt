@@ -17,12 +17,13 @@ use crate::lane::Lane;
 use crate::pace::Pace;
 use crate::port::Port;
 use crate::setup::setup_of;
+use crate::stated::StatedDevice;
 use crate::station::{Station, apart};
 use onfi_core::Setup;
 use onfi_plan::{Limit, Planner};
 use onfi_queue::{Host, Intake};
 use onfi_reply::{Inbox, Poster};
-use onfi_script::{PageDevice, Row};
+use onfi_script::Row;
 use onfi_seq::{Ends, Gate, Sequencer};
 use std::alloc::{AllocError, Global};
 
@@ -247,13 +248,13 @@ impl<P: Planner + Copy + Drop, G: Gate + Drop> Stage<P, G> {
     pub(crate) fn open(
         alloc: Global,
         rows: &[Row],
-        device: &PageDevice,
+        device: &StatedDevice,
         planner: P,
         limit: Limit,
         gates: Vec<G>,
     ) -> Result<Stage<P, G>, AllocError>
         requires gates { length gates.items ≡ 4 }
-        ensures opened { IfOk result (λ s. AreOpenedOn rows.now device.now limit gates.items s.lanes.items) }
+        ensures opened { IfOk result (λ s. AreOpenedOn rows.now device.now.chips limit gates.items s.lanes.items) }
         ensures linked { IfOk result (λ s. AreLinked (map lane_queues s.lanes.items) s.stations) }
         ensures new { IfOk result (λ s. AreNew rows.now (channels_in rows.now) s.stations) }
         ensures count { IfOk result (λ s. length s.lanes.items ≡ channels_in rows.now) }

@@ -7,10 +7,10 @@ ghost use Rattle.onfi_run.specs.Setup.{channels_in, hosts_in};
 
 use crate::request::request_fault;
 use crate::setup::{channel_count, host_count};
+use crate::stated::{StatedDevice, stated_device};
 use onfi_addr::Geometry;
 use onfi_script::{
-    Operation, PageDevice, Purpose, Refusal, Row, RowStop, ScriptFault, Stop, page_device,
-    read_rows,
+    Operation, PageDevice, Purpose, Refusal, Row, RowStop, ScriptFault, Stop, read_rows,
 };
 use std::alloc::{AllocError, Global};
 
@@ -18,7 +18,7 @@ use std::alloc::{AllocError, Global};
 #[derive(Drop)]
 pub struct Prepared {
     pub rows: Vec<Row>,
-    pub device: PageDevice,
+    pub device: StatedDevice,
 }
 
 /// How many channels and hosts there are, and what their chips are.
@@ -123,7 +123,7 @@ fn refusal_on(
 /// aren't there, for a sector longer than a page and for operations that the device doesn't take. And where memory was
 /// refused.
 pub fn prepare(alloc: Global, input: &[u8]) -> Result<Prepared, Stop>
-    ensures { MatchResult result (λ p. IsPrepared Purpose.Run input.now p.rows.items p.device) (λ stop. IfRefused stop (λ refusal. IsRefused Purpose.Run input.now refusal)) }
+    ensures { MatchResult result (λ p. IsPrepared Purpose.Run input.now p.rows.items p.device.chips) (λ stop. IfRefused stop (λ refusal. IsRefused Purpose.Run input.now refusal)) }
 {
     prepare_for(alloc, Purpose::Run, input)
 }
@@ -133,11 +133,11 @@ pub fn prepare(alloc: Global, input: &[u8]) -> Result<Prepared, Stop>
 /// # Errors
 /// As `prepare`.
 pub fn prepare_for(alloc: Global, purpose: Purpose, input: &[u8]) -> Result<Prepared, Stop>
-    ensures { MatchResult result (λ p. IsPrepared purpose input.now p.rows.items p.device) (λ stop. IfRefused stop (λ refusal. IsRefused purpose input.now refusal)) }
+    ensures { MatchResult result (λ p. IsPrepared purpose input.now p.rows.items p.device.chips) (λ stop. IfRefused stop (λ refusal. IsRefused purpose input.now refusal)) }
 {
     let rows = read_rows(alloc, purpose, input)?;
-    match page_device(alloc, rows.as_slice()) {
-        Ok(device) => match refusal_on(alloc, rows.as_slice(), &device) {
+    match stated_device(alloc, rows.as_slice()) {
+        Ok(device) => match refusal_on(alloc, rows.as_slice(), &device.chips) {
             Ok(None) => Ok(Prepared { rows, device }),
             Ok(Some(refusal)) => Err(Stop::Refused(refusal)),
             Err(AllocError) => Err(Stop::Memory),

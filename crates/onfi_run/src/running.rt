@@ -86,14 +86,14 @@ fn run<R: Threads + Wait + Sync, P: Planner + Copy + Send + Drop, G: Gate + Send
 ) -> Result<Report, AllocError>
     requires gates { length gates.items ≡ 4 }
     ensures report { IfOk result (λ report. IsReportOf clocked prepared.now.rows.items report) }
-    ensures tells { IfOk result (λ report. (settled : ASettled (AGated P G)) × AreBehind prepared.now.rows.items prepared.now.device limit gates.items settled.lanes.items
+    ensures tells { IfOk result (λ report. (settled : ASettled (AGated P G)) × AreBehind prepared.now.rows.items prepared.now.device.chips limit gates.items settled.lanes.items
         × (clocked ≡ false → settled.now ≡ 0) × Tells clocked settled.now (ports_of settled.stations) (map (λ l. l.pace.bus) settled.lanes.items) report) }
 {
     let rows = prepared.rows.as_slice();
     let stage = Stage::open(alloc, rows, &prepared.device, planner, limit, gates)?;
     let course = Course {
         alloc,
-        geometry: &prepared.device.geometry,
+        geometry: &prepared.device.chips.geometry,
         rows,
     };
     let settled = settle(rt, &course, clocked, stage)?;

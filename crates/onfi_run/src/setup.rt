@@ -5,6 +5,7 @@ ghost use Rattle.onfi_script.specs.Subject.{row_on as spec_row_on};
 ghost use Rattle.onfi_script.specs.declared.row.Subject.TheVariants as on;
 ghost use Rattle.onfi_run.specs.Setup as spec;
 
+use crate::stated::StatedDevice;
 use onfi_core::{Choice, Replanning, Setup};
 use onfi_group::Rules;
 use onfi_plan::Limit;
@@ -111,13 +112,14 @@ fn rules(rows: &[Row], device: &PageDevice) -> Rules
 
 /// What the rows set up on their device; one planning opens at most `limit` nodes. There are always four hosts, and one
 /// that isn't used sends nothing.
-pub fn setup_of(rows: &[Row], device: &PageDevice, limit: Limit) -> Setup
-    ensures { spec.SetsUp rows.now device.now limit result }
+pub fn setup_of(rows: &[Row], device: &StatedDevice, limit: Limit) -> Setup
+    ensures { spec.SetsUp rows.now device.now.chips limit result }
 {
+    let chips = &device.chips;
     Setup::new(
-        device.geometry,
-        device.timing,
-        rules(rows, device),
+        chips.geometry,
+        chips.timing,
+        rules(rows, chips),
         channel_count(rows),
         4,
         batch(rows),

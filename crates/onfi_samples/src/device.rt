@@ -8,6 +8,7 @@ pub fn sample_geometry() -> Geometry
     ensures luns { (result.lun_count ≡ 2) × (result.plane_address_bits ≡ 1) }
     ensures blocks { (result.blocks_per_lun ≡ 1000) × (result.pages_per_block ≡ 64) }
     ensures pages { (result.data_bytes ≡ 512) × (result.spare_bytes ≡ 16) }
+    ensures whole_pages { result.sector_bytes ≡ 0 }
     ensures row_bits { (result.page_bits ≡ 6) × (result.block_bits ≡ 10) × (result.lun_bits ≡ 1) }
     ensures cycles { (result.column_address_cycles ≡ 2) × (result.row_address_cycles ≡ 3) }
     ensures in_order { result.any_page_order ≡ false }
@@ -25,6 +26,7 @@ pub fn sample_geometry() -> Geometry
         row_address_cycles: 3,
         data_bytes: 512,
         spare_bytes: 16,
+        sector_bytes: 0,
         any_page_order: false,
         multi_plane_writes: true,
         multi_plane_reads: true,

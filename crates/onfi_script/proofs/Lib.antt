@@ -3,8 +3,9 @@ pub mod Scan
 pub mod BlockLemmas
 pub mod ToldArrays
 pub mod Scripts
+pub mod Logs
+pub mod Gaps
 pub mod Told
-pub mod PartsLemmas
 pub mod NumbersLemmas
 pub mod LineLemmas
 pub mod Plans

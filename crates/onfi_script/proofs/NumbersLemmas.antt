@@ -2,9 +2,9 @@
 use Rattle.std.proofs.Common.{◌≡◌, ◌<◌, ◌≤◌, ℕ, ◌+◌, true, false, List, [], ◌∷◌, ◌++◌, length, Some, None, refl, sym, ap, arith, cond, append_assoc}
 use Rattle.std.specs.Prelude.{◌&&◌, Option, nat_le}
 use Rattle.std.proofs.lemmas.Bool.Decides.{nat_tests}
-use Rattle.onfi_script.specs.Parts.{parts}
+use Rattle.onfi_log.specs.Parts.{parts}
 use Rattle.onfi_script.specs.PlanLine.{and_then, each_number, numbers}
-use Rattle.onfi_script.proofs.PartsLemmas.{some_parts}
+use Rattle.onfi_log.proofs.PartsLemmas.{some_parts}
 
 -- the numbers that were read stand before those of what is left
 pub record Read (byte : ℕ) (text left : List ℕ) (at : ℕ) (read : List ℕ) : Type 0 where

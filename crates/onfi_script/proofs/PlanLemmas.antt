@@ -6,10 +6,10 @@ use Rattle.std.specs.Str.{bytes_eq}
 use Rattle.std.proofs.lemmas.List.Splits.{join_with_byte-slice_split}
 use Rattle.onfi_request.specs.declared.want.Want.{Want}
 use Rattle.onfi_script.specs.declared.plan_line.Line.{Line}
-use Rattle.onfi_script.specs.Parts.{parts}
+use Rattle.onfi_log.specs.Parts.{parts}
 use Rattle.onfi_script.specs.PlanLine.{line_of, finish_of, below_of}
 use Rattle.onfi_script.specs.PlanText.{Plan, takes, with_line, next_number, is_certificate, told, grown, plan_after, opened, behind_head, behind_finish, below_first}
-use Rattle.onfi_script.proofs.PartsLemmas.{some_parts}
+use Rattle.onfi_log.proofs.PartsLemmas.{some_parts}
 
 head_taken : (head : List ℕ) (more : List (List ℕ)) → 0 < length more → bytes_eq head (codes "ONFIPLAN 1") ≡ true → opened (head ∷ more) ≡ behind_head more
 head_taken head [] h e = absurd (omega arith)

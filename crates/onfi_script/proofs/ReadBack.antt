@@ -11,7 +11,7 @@ use Rattle.onfi_schedule.specs.Schedule.{Placed, Schedule}
 use Rattle.onfi_script.specs.declared.plan_line.Line.{Line}
 use Rattle.onfi_script.specs.declared.plan_line.Line.TheVariants.{Rest, Group}
 use Rattle.onfi_script.specs.declared.plan_line.RestLine.{RestLine}
-use Rattle.onfi_script.specs.Parts.{parts}
+use Rattle.onfi_log.specs.Parts.{parts}
 use Rattle.onfi_script.specs.PlanLine.{and_then, numbers, want_named, line_of, line_of_words, finish_of, number_in_words}
 use Rattle.onfi_script.specs.PlanText.{Plan, takes, with_line, is_certificate, and_on, lines_of, plan_after, plan_of, starts_in, starts_on, rests, names_absent, schedule_on}
 use Rattle.onfi_script.specs.Laws.{AreStarts, IsLineOf, HasText, rest_written, written}

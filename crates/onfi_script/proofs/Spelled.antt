@@ -12,7 +12,7 @@ use Rattle.std.proofs.lemmas.List.Splits.{slice_split_at, slice_split_none}
 use Rattle.std.proofs.lemmas.Bool.Decides.{nat_tests}
 use Rattle.onfi_request.specs.declared.want.Want.{Want}
 use Rattle.onfi_timing.proofs.Written.{number_again}
-use Rattle.onfi_script.specs.Parts.{parts}
+use Rattle.onfi_log.specs.Parts.{parts}
 use Rattle.onfi_script.specs.PlanLine.{and_then, each_number, numbers}
 use Rattle.onfi_script.specs.Text.{spaced, joined}
 use Rattle.onfi_script.proofs.LineLemmas.{not_so}

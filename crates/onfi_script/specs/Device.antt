@@ -5,7 +5,6 @@ use Rattle.onfi_param.specs.declared.fault.PageFault.TheVariants.{Short, NoCopy}
 use Rattle.onfi_param.specs.Copies.{IsPageCopy, IsFirstCopy, copy_at}
 use Rattle.onfi_addr.specs.declared.geometry.Geometry.{Geometry}
 use Rattle.onfi_addr.specs.Faults.{IsFirstFault, NoFault}
-use Rattle.onfi_addr.specs.Layout.{IsGeometryOf}
 use Rattle.onfi_timing.specs.declared.kind.Kind.{Kind}
 use Rattle.onfi_timing.specs.declared.kind.Kind.TheVariants.{Read, Program, Erase}
 use Rattle.onfi_timing.specs.declared.sheet.Sheet.{Sheet as SheetOf}
@@ -27,7 +26,7 @@ use Rattle.onfi_script.specs.declared.row.Row.TheVariants as row_of
 use Rattle.onfi_script.specs.declared.row.Subject.TheVariants as on
 use Rattle.onfi_script.specs.declared.row_name.Form.{Form}
 use Rattle.onfi_script.specs.declared.row_name.Form.TheVariants.{First, Second}
-use Rattle.onfi_script.specs.Layout.{IsLaidOut}
+use Rattle.onfi_script.specs.Layout.{IsLaidOut, IsSectored}
 use Rattle.onfi_script.specs.RowParts.{ShapeRow, SpansRow, GeometryRow}
 use Rattle.onfi_script.specs.Seen.{seen}
 use Rattle.onfi_script.specs.Subject.{row_on}
@@ -123,12 +122,12 @@ IsUntimed sheet None (in_strobes.Sheet f) = IsTimingFault sheet f
 IsUntimed sheet None _ = ⊥
 IsUntimed sheet (Some strobes) f = IsStrobedFault sheet strobes f
 
--- page, sheet and strobes describe chips of this geometry and timing
+-- page, sheet and strobes describe chips of this geometry, with the sectors of so many bytes, and timing
 pub record IsPageDevice (bytes : List ℕ) (sheet : SheetOf) (strobes : Option Strobes) (sector : ℕ) (g : Geometry) (t : Timing) : Type 0 where
   pub page : List ℕ
   pub copy : IsFirstCopy bytes page
   pub sound : NoFault page
-  pub layout : IsGeometryOf page g
+  pub layout : IsSectored page sector g
   pub timing : IsTimed page g sheet strobes sector t
 
 -- why they describe none: no page, no geometry, or no phase lengths

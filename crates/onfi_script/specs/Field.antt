@@ -58,6 +58,14 @@ sector_bytes text = number 1 65535 text
 abbrev pub sectors : List ℕ → Result ℕ ScriptFault
 sectors text = number 0 7 text
 
+-- .. one at least
+abbrev pub some_sectors : List ℕ → Result ℕ ScriptFault
+some_sectors text = number 1 7 text
+
+-- the sector that is put out first
+abbrev pub first_sector : List ℕ → Result ℕ ScriptFault
+first_sector text = number 0 255 text
+
 -- a length or a wait in ns, below 2^50
 abbrev pub span : ℕ → List ℕ → Result ℕ ScriptFault
 span least text = number least 1125899906842623 text

@@ -16,10 +16,11 @@ pub mod Device
 pub mod Setup
 pub mod SetupOf
 pub mod Text
-pub mod Parts
 pub mod PlanLine
 pub mod PlanText
 pub mod Limit
 pub mod Answer
 pub mod AnswerOf
 pub mod Laws
+pub mod Auditing
+pub mod Gaps

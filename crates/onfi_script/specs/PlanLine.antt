@@ -4,7 +4,7 @@ use Rattle.std.specs.Str.{bytes_eq}
 use Rattle.onfi_timing.specs.Decimal.{written_number}
 use Rattle.onfi_timing.specs.declared.kind.Kind.TheVariants.{Read}
 use Rattle.onfi_request.specs.declared.want.Want.{Want}
-use Rattle.onfi_script.specs.Parts.{parts}
+use Rattle.onfi_log.specs.Parts.{parts}
 use Rattle.onfi_script.specs.declared.plan_line.Line.{Line}
 use Rattle.onfi_script.specs.declared.plan_line.Line.TheVariants.{Rest, Group}
 

@@ -5,7 +5,7 @@ use Rattle.std.specs.Str.{bytes_eq}
 use Rattle.onfi_request.specs.declared.want.Want.{Want}
 use Rattle.onfi_problem.specs.Problem.{Problem}
 use Rattle.onfi_schedule.specs.Schedule.{Placed, Schedule}
-use Rattle.onfi_script.specs.Parts.{parts}
+use Rattle.onfi_log.specs.Parts.{parts}
 use Rattle.onfi_script.specs.PlanLine.{line_of, finish_of, below_of}
 use Rattle.onfi_script.specs.declared.plan_line.RestLine.{RestLine}
 use Rattle.onfi_script.specs.declared.plan_line.Line.{Line}

@@ -8,7 +8,7 @@ use Rattle.onfi_script.specs.declared.purpose.Purpose.TheVariants.{Problem, Run,
 use Rattle.onfi_script.specs.declared.row_name.Form.{Form}
 use Rattle.onfi_script.specs.declared.row_name.Form.TheVariants.{First, Second}
 use Rattle.onfi_script.specs.declared.row_name.RowName.{RowName}
-use Rattle.onfi_script.specs.declared.row_name.RowName.TheVariants.{Shape, Spans, Page, Sheet, Strobe, Bus, Free, Running, Want, Weight, SectorPost, Sector, Sectors, RunSectors, Strict, Channels, Hosts, Batch, SubmitCap, PostCap, Choice, Replanning, Op, Fault, ChipFail, NotReady, Array, At, Geometry}
+use Rattle.onfi_script.specs.declared.row_name.RowName.TheVariants.{Shape, Spans, Page, Sheet, Strobe, Bus, Free, Running, Want, Weight, SectorPost, Sector, Sectors, RunSectors, Strict, Channels, Hosts, Batch, SubmitCap, PostCap, Choice, Replanning, Op, OpRead, Fault, ChipFail, NotReady, Array, At, Geometry}
 
 -- the rows that are taken for a run alone
 abbrev pub run_name_of : List ℕ → Option RowName
@@ -21,13 +21,14 @@ run_name_of text =
     else (if bytes_eq text (codes "submitcap") then Some SubmitCap
     else (if bytes_eq text (codes "postcap") then Some PostCap
     else (if bytes_eq text (codes "op") then Some Op
+    else (if bytes_eq text (codes "opread") then Some OpRead
     else (if bytes_eq text (codes "fault") then Some Fault
     else (if bytes_eq text (codes "chipfail") then Some ChipFail
     else (if bytes_eq text (codes "notready") then Some NotReady
     else (if bytes_eq text (codes "array") then Some Array
     else (if bytes_eq text (codes "at") then Some At
     else (if bytes_eq text (codes "geometry") then Some Geometry
-    else None)))))))))))))
+    else None))))))))))))))
 
 -- the rows of reads of some sectors
 abbrev pub sectors_name_of : List ℕ → Option RowName
@@ -155,3 +156,4 @@ has_fields Fault row = length row == 5
 has_fields Array row = length row == 5
 has_fields Geometry row = length row == 5
 has_fields Op row = length row == op_fields row
+has_fields OpRead row = length row == 8

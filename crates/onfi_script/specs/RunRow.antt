@@ -1,6 +1,7 @@
 -- What a row that is taken for a run alone says.
 use Rattle.std.specs.Prelude.{ℕ, ◌==◌, if◌then◌else◌, List, [], ◌∷◌, Result, Ok, Err, codes}
 use Rattle.std.specs.Str.{bytes_eq}
+use Rattle.onfi_timing.specs.declared.kind.Kind.TheVariants.{ReadSectors}
 use Rattle.onfi_script.specs.declared.fault.ScriptFault.{ScriptFault}
 use Rattle.onfi_script.specs.declared.fault.ScriptFault.TheVariants.{Hex, OutOfRange}
 use Rattle.onfi_script.specs.declared.operation.Aim.{Aim}
@@ -12,7 +13,7 @@ use Rattle.onfi_script.specs.declared.choosing.Choosing.{Choosing}
 use Rattle.onfi_script.specs.declared.choosing.Choosing.TheVariants.{ByLun, ReadsFirst, WholeGroups}
 use Rattle.onfi_script.specs.declared.replans.Replans.{Replans}
 use Rattle.onfi_script.specs.declared.replans.Replans.TheVariants.{AtOnce, Lazily}
-use Rattle.onfi_script.specs.Field.{given, field, flag, hex_bytes, number, kind, lun, block, page, span}
+use Rattle.onfi_script.specs.Field.{given, field, flag, hex_bytes, number, kind, lun, block, page, span, first_sector, some_sectors}
 use Rattle.onfi_script.specs.Row.{Record}
 
 -- by what a batch is chosen
@@ -121,3 +122,18 @@ aim row =
 
 abbrev pub op_row : Record → Result Row ScriptFault
 op_row row = given (aim row) (λ aim. given (content (field row 7)) (λ content. Ok (Op (record { aim = aim; content = content }))))
+
+-- who reads some sectors of a page of which channel
+abbrev pub read_aim : Record → Result Aim ScriptFault
+read_aim row =
+    given (end_number (field row 1)) (λ host.
+    given (end_number (field row 2)) (λ channel.
+    given (lun (field row 3)) (λ lun.
+    given (block (field row 4)) (λ block.
+    given (page (field row 5)) (λ page.
+    given (first_sector (field row 6)) (λ first.
+    given (some_sectors (field row 7)) (λ count.
+    Ok (record { host = host; channel = channel; kind = ReadSectors first count; place = record { lun = lun; block = block; page = page } }))))))))
+
+abbrev pub op_read_row : Record → Result Row ScriptFault
+op_read_row row = given (read_aim row) (λ aim. Ok (Op (record { aim = aim; content = Given [] })))

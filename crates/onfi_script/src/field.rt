@@ -130,6 +130,20 @@ pub fn sectors(text: &[u8]) -> Result<u8, ScriptFault>
     small(text, 0, 7)
 }
 
+/// .. one at least.
+pub fn some_sectors(text: &[u8]) -> Result<u8, ScriptFault>
+    ensures { result ≡ spec.some_sectors text.now }
+{
+    small(text, 1, 7)
+}
+
+/// The sector that is put out first, from 0.
+pub fn first_sector(text: &[u8]) -> Result<u8, ScriptFault>
+    ensures { result ≡ spec.first_sector text.now }
+{
+    small(text, 0, 255)
+}
+
 /// A length or a wait in ns, below 2^50.
 pub fn span(text: &[u8], least: u64) -> Result<u64, ScriptFault>
     ensures value { result ≡ spec.span least text.now }

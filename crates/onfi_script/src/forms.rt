@@ -1,7 +1,9 @@
 //! The device of a script, in either form.
 ghost use Rattle.std.specs.Prelude.{◌≡◌, ◌<◌, ◌^◌, IsTrue, IsSomeAnd, IfOk, MatchOption, MatchResult, option_map, Ok, Err, None, false};
 ghost use Rattle.std.specs.List.{AllByRecursion as Each, list_any};
+ghost use Rattle.onfi_addr.specs.Faults.{IsFirstFault, NoFault};
 ghost use Rattle.onfi_script.specs.Device as spec;
+ghost use Rattle.onfi_script.specs.Layout.{IsSectored};
 ghost use Rattle.onfi_script.specs.Seen.{seen as spec_seen};
 ghost use Rattle.onfi_script.specs.Stop.{IfFault, Tells};
 ghost use Rattle.onfi_script.specs.Subject.{row_on as spec_row_on};
@@ -9,11 +11,11 @@ ghost use Rattle.onfi_script.specs.Subject.{row_on as spec_row_on};
 use crate::device::{Device, PageDevice};
 use crate::device_row::ShapeRow;
 use crate::fault::{RowStop, ScriptFault};
-use crate::layout::GeometryRow;
+use crate::layout::{GeometryRow, with_sectors};
 use crate::row::{Row, Subject};
 use crate::row_name::Form;
 use crate::seen::Seen;
-use onfi_addr::Geometry;
+use onfi_addr::{Geometry, GeometryFault};
 use onfi_param::{ParamPage, read_page};
 use onfi_timing::{Kind, Sheet, Spans, StrobeFault, Strobes, Timing};
 use std::alloc::{AllocError, Global};
@@ -162,6 +164,16 @@ fn timed(
     }
 }
 
+/// The geometry of a page, with sectors of so many bytes where a page has as many.
+fn geometry_of(page: &ParamPage, sector: u16) -> Result<Geometry, GeometryFault>
+    ensures { MatchResult result (λ geometry. NoFault page.now × IsSectored page.now sector geometry) (IsFirstFault page.now) }
+{
+    match Geometry::of(page) {
+        Ok(geometry) => Ok(with_sectors(geometry, sector)),
+        Err(fault) => Err(fault),
+    }
+}
+
 /// The chips that page, sheet and strobes describe.
 fn described(
     bytes: &[u8],
@@ -175,7 +187,7 @@ fn described(
         Ok(page) => page,
         Err(fault) => return Err(ScriptFault::Page(fault)),
     };
-    let geometry = match Geometry::of(&page) {
+    let geometry = match geometry_of(&page, sector) {
         Ok(geometry) => geometry,
         Err(fault) => return Err(ScriptFault::Geometry(fault)),
     };

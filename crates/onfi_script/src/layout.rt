@@ -1,8 +1,8 @@
-//! The geometry of a device of the first form.
+//! The geometry of a device, of the first form and with sectors.
 ghost use Rattle.std.specs.Prelude.{◌≡◌, ◌≤◌};
 ghost use Rattle.csv.specs.Records.{fields_of};
 ghost use Rattle.onfi_addr.specs.Bits.{IsBitCount};
-ghost use Rattle.onfi_script.specs.Layout.{IsLaidOut};
+ghost use Rattle.onfi_script.specs.Layout.{IsLaidOut, with_sectors as spec_with_sectors};
 ghost use Rattle.onfi_script.specs.RunRow as spec;
 
 use crate::device_row::ShapeRow;
@@ -62,7 +62,7 @@ fn bits_for(count: u32) -> u32
 }
 
 impl GeometryRow {
-    /// The geometry with the LUNs, planes and groups of that shape. All bytes of a page are data; rows have four address
+    /// The geometry with the LUNs, planes and groups of that shape. All bytes of a page are data, read as a whole; rows have four address
     /// cycles and columns two, which each such device fits.
     pub fn geometry(&self, shape: &ShapeRow) -> Geometry
         ensures { IsLaidOut shape.now self.now result }
@@ -79,9 +79,17 @@ impl GeometryRow {
             row_address_cycles: 4,
             data_bytes: self.bytes,
             spare_bytes: 0,
+            sector_bytes: 0,
             any_page_order: self.any_order,
             multi_plane_writes: shape.write(),
             multi_plane_reads: shape.read(),
         }
     }
+}
+
+/// The geometry with sectors of so many bytes, where a sector has any and a page as many.
+pub fn with_sectors(geometry: Geometry, bytes: u16) -> Geometry
+    ensures { result ≡ spec_with_sectors bytes geometry }
+{
+    geometry.with_sector_bytes(bytes).unwrap_or(geometry)
 }

@@ -7,6 +7,7 @@
 mod alone;
 mod answering;
 mod arrays_told;
+mod auditing;
 mod checking;
 mod choosing;
 mod command;
@@ -20,7 +21,6 @@ mod laws;
 mod layout;
 mod members;
 mod operation;
-mod parts;
 mod plan_line;
 mod plan_text;
 mod plan_within;
@@ -44,6 +44,7 @@ mod weights;
 mod why;
 
 pub use answering::{answer_by, engine, engine_split, engine_split_by};
+pub use auditing::{AuditOptions, GapOptions, audit, audit_by, audit_gaps};
 pub use choosing::Choosing;
 pub use command::{Command, Output, PlanOptions};
 pub use count::Count;

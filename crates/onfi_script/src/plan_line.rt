@@ -1,12 +1,12 @@
 //! The lines of a plan text.
 ghost use Rattle.std.specs.Prelude.{◌≡◌, ◌+◌, ◌<◌, ◌≤◌, ◌^◌, length, IfSome};
 ghost use Rattle.onfi_timing.specs.Decimal.{written_number};
-ghost use Rattle.onfi_script.specs.Parts.{parts};
+ghost use Rattle.onfi_log.specs.Parts.{parts};
 ghost use Rattle.onfi_script.specs.PlanLine as spec;
 
 use crate::field::is_word;
 use crate::members::group_named;
-use crate::parts::cut;
+use onfi_log::cut;
 use onfi_request::Want;
 use onfi_schedule::{Placed, Starts};
 use onfi_timing::read_written;
@@ -94,7 +94,7 @@ pub fn line_of(alloc: Global, wants: &[Want], line: &[u8]) -> Option<Line>
 }
 
 /// `NAME N`
-#[tactic(auto, using(crate::proofs::LineLemmas::number_in_longer, crate::proofs::PartsLemmas::some_parts))]
+#[tactic(auto, using(crate::proofs::LineLemmas::number_in_longer, onfi_log::proofs::PartsLemmas::some_parts))]
 fn number_in(line: &[u8], name: &str) -> Option<u64>
     ensures { result ≡ spec.number_in name.now line.now }
 {

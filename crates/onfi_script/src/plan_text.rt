@@ -1,13 +1,13 @@
 //! Plan texts: a schedule, its finish, and the text of a certificate after them.
 ghost use Rattle.std.specs.Prelude.{◌≡◌, ◌==◌, ◌≤◌, find, option_map, IfErr, OnOk, IsTrue, MatchResult, Ok, Err, Some, None, length};
-ghost use Rattle.onfi_script.specs.Parts.{parts};
+ghost use Rattle.onfi_log.specs.Parts.{parts};
 ghost use Rattle.onfi_script.specs.PlanLine.{line_of};
 ghost use Rattle.onfi_script.specs.PlanText as spec;
 
 use crate::field::is_word;
-use crate::parts::cut;
 use crate::plan_line::{Line, RestLine, finish_of, line_of};
 use arrayvec::ArrayVec;
+use onfi_log::cut;
 use onfi_request::Want;
 use onfi_schedule::{Placed, Schedule, Starts};
 use std::alloc::Global;

@@ -1,11 +1,11 @@
 //! Plan texts with a line that says before which time nothing ends.
 ghost use Rattle.std.specs.Prelude.{◌≡◌, MatchOption, MatchResult, Ok, Err, Some, None};
-ghost use Rattle.onfi_script.specs.Parts.{parts};
+ghost use Rattle.onfi_log.specs.Parts.{parts};
 ghost use Rattle.onfi_script.specs.PlanText as spec;
 
-use crate::parts::cut;
 use crate::plan_line::below_of;
 use crate::plan_text::{Plan, opening, read_lines};
+use onfi_log::cut;
 use onfi_request::Want;
 use std::alloc::Global;
 
@@ -19,7 +19,7 @@ pub struct PlanWithin<'a> {
 }
 
 /// The number of a line `below` in front of a text, and what follows it.
-#[tactic(auto, using(crate::proofs::PlanLemmas::below_taken, crate::proofs::PartsLemmas::some_parts))]
+#[tactic(auto, using(crate::proofs::PlanLemmas::below_taken, onfi_log::proofs::PartsLemmas::some_parts))]
 fn below_first(text: &[u8]) -> Option<(u64, &[u8])>
     ensures { MatchOption result (spec.below_first (parts 10 text.now) ≡ None) (λ r. spec.below_first (parts 10 text.now) ≡ Some (r.0, parts 10 r.1.now)) }
 {

@@ -46,14 +46,14 @@ pub fn read_rows(alloc: Global, purpose: Purpose, input: &[u8]) -> Result<Vec<Ro
 }
 
 /// What was set up is refused.
-fn refused(fault: ProblemFault) -> Stop
+pub(crate) fn refused(fault: ProblemFault) -> Stop
     ensures { result ≡ Refused (whole (of.Problem fault)) }
 {
     RowStop::Fault(ScriptFault::Problem(fault)).at(0)
 }
 
 /// The problem of what was set up.
-fn made(alloc: Global, rows: &[Row], setup: &Setup) -> Result<Problem, Stop>
+pub(crate) fn made(alloc: Global, rows: &[Row], setup: &Setup) -> Result<Problem, Stop>
     ensures told { Tells IfRefused (λ p. p.problem) result (TellsProblem rows.now (problem_of setup.now)) }
     ensures begun { IfOk result (λ p. p.all ≡ p.problem.wants) }
 {

@@ -32,6 +32,7 @@ pub enum RowName {
     SubmitCap,
     PostCap,
     Op,
+    OpRead,
     Fault,
     ChipFail,
     NotReady,
@@ -130,6 +131,8 @@ impl RowName {
             Some(RowName::PostCap)
         } else if is_word(text, "op") {
             Some(RowName::Op)
+        } else if is_word(text, "opread") {
+            Some(RowName::OpRead)
         } else if is_word(text, "fault") {
             Some(RowName::Fault)
         } else if is_word(text, "chipfail") {
@@ -273,6 +276,7 @@ impl RowName {
             RowName::Running => 7 <= count && count <= 10,
             RowName::RunSectors => 3 <= count && count <= 6,
             RowName::Op => count == op_fields(row),
+            RowName::OpRead => count == 8,
         }
     }
 }

@@ -19,7 +19,7 @@ use crate::row::{Row, Subject};
 use crate::row_name::RowName;
 use crate::run_row::{
     array_row, at_row, batch_row, channels_row, chip_fail_row, choice_row, fault_row, hosts_row,
-    not_ready_row, op_row, post_cap_row, replanning_row, submit_cap_row,
+    not_ready_row, op_read_row, op_row, post_cap_row, replanning_row, submit_cap_row,
 };
 use crate::sector_row::{run_sectors_row, sector_post_row, sector_row, sectors_row};
 use crate::seen::Seen;
@@ -61,6 +61,7 @@ fn said(
         RowName::SubmitCap => Ok(submit_cap_row(fields)?),
         RowName::PostCap => Ok(post_cap_row(fields)?),
         RowName::Op => op_row(alloc, fields),
+        RowName::OpRead => Ok(op_read_row(alloc, fields)?),
         RowName::Fault => Ok(fault_row(fields)?),
         RowName::ChipFail => Ok(chip_fail_row(fields)?),
         RowName::NotReady => Ok(not_ready_row(fields)?),

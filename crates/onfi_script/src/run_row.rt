@@ -8,13 +8,17 @@ ghost use Rattle.onfi_script.specs.Stop.{Gives, IfFault};
 use crate::choosing::Choosing;
 use crate::count::Count;
 use crate::fault::{RowStop, ScriptFault};
-use crate::field::{block, field, hex_bytes, is_word, kind, lun, number, page, small, span};
+use crate::field::{
+    block, field, first_sector, hex_bytes, is_word, kind, lun, number, page, small, some_sectors,
+    span,
+};
 use crate::operation::{Aim, Content, Operation};
 use crate::replans::Replans;
 use crate::row::Row;
 use csv::ByteRecord;
 use onfi_addr::Place;
 use onfi_request::{Bytes, Fault};
+use onfi_timing::Kind;
 use std::alloc::Global;
 
 /// A count, 1 to `MOST`.
@@ -233,5 +237,33 @@ pub fn op_row(alloc: Global, row: &ByteRecord) -> Result<Row, RowStop>
 {
     let aim = aim(row)?;
     let content = content(alloc, field(row, 7))?;
+    Ok(Row::Op(Operation { aim, content }))
+}
+
+/// Who reads some sectors of a page of which channel.
+fn read_aim(row: &ByteRecord) -> Result<Aim, ScriptFault>
+    ensures { result ≡ spec.read_aim (fields_of row.now) }
+{
+    let host = end_number(field(row, 1))?;
+    let channel = end_number(field(row, 2))?;
+    let lun = lun(field(row, 3))?;
+    let block = block(field(row, 4))?;
+    let page = page(field(row, 5))?;
+    let first = first_sector(field(row, 6))?;
+    let count = some_sectors(field(row, 7))?;
+    Ok(Aim {
+        host,
+        channel,
+        kind: Kind::ReadSectors { first, count },
+        place: Place { lun, block, page },
+    })
+}
+
+/// `opread,HOST,CHANNEL,LUN,BLOCK,PAGE,FIRST,COUNT`
+pub fn op_read_row(alloc: Global, row: &ByteRecord) -> Result<Row, ScriptFault>
+    ensures { result ≡ spec.op_read_row (fields_of row.now) }
+{
+    let aim = read_aim(row)?;
+    let content = Content::Given(Bytes::of(Vec::new(alloc)));
     Ok(Row::Op(Operation { aim, content }))
 }

@@ -3,8 +3,9 @@
 //! program over readers and writers of its own needs.
 #![tactic(auto)]
 
-pub use onfi_console::{CommandName, Named, Parsed, WordsFault, describe, words};
-pub use onfi_planners::{ChosenPlanner, SlackPlanner, Weighing};
-pub use onfi_run::{NoGate, run_script};
-pub use onfi_script::{Command, EngineFault, Output, PlanOptions, engine, engine_split};
-pub use onfi_seq::Gate;
+pub use onfi_console::{
+    ChosenPlanner, Command, CommandName, EngineFault, GapOptions, Named, Output, Parsed,
+    PlanOptions, SlackPlanner, Weighing, WordsFault, audit, audit_gaps, describe, engine,
+    engine_split, words,
+};
+pub use onfi_run::{Gate, Limit, NoGate, run_script};

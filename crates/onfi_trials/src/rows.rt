@@ -13,6 +13,8 @@ pub(crate) enum Word {
     Apart,
     /// Each phase and each wait of the device is as long as may be.
     Longest,
+    /// Pages have four sectors.
+    Sectored,
     /// By what a planning chooses.
     ByLun,
     ReadsFirst,
@@ -30,7 +32,8 @@ pub(crate) enum Word {
     Array,
     /// Channels, hosts, batch, the room of a submission queue and of a completion queue, limit, and the channel.
     Open,
-    /// LUN, block, page, the byte of each of a program's, host and channel.
+    /// LUN, block, page, the byte of each of a program's, host and channel; of a read of sectors the first in place of the byte,
+    /// and at the end how many.
     Submit(Kind),
     /// Of these the channel.
     Accept,
@@ -67,6 +70,7 @@ impl Word {
         match text {
             "apart" => Word::Apart,
             "longest" => Word::Longest,
+            "sectored" => Word::Sectored,
             "by-lun" => Word::ByLun,
             "reads-first" => Word::ReadsFirst,
             "whole-groups" => Word::WholeGroups,
@@ -86,6 +90,7 @@ impl Word {
             "read" => Word::Submit(Kind::Read),
             "program" => Word::Submit(Kind::Program),
             "erase" => Word::Submit(Kind::Erase),
+            "sectors" => Word::Submit(Kind::ReadSectors { first: 0, count: 0 }),
             "accept" => Word::Accept,
             "plan" => Word::Plan,
             "bus" => Word::Bus,
@@ -103,6 +108,17 @@ impl Word {
             "drain-at" => Word::DrainAt,
             "again" => Word::Again,
             _ => Word::Unknown,
+        }
+    }
+
+    /// The word with the sectors that its numbers name.
+    fn with_sectors(self, numbers: &[u64; 7]) -> Word {
+        match self {
+            Word::Submit(Kind::ReadSectors { .. }) => Word::Submit(Kind::ReadSectors {
+                first: capped_u8(numbers[3]),
+                count: capped_u8(numbers[6]),
+            }),
+            word => word,
         }
     }
 }
@@ -157,7 +173,7 @@ fn row_of(record: &ByteRecord) -> Row {
         numbers[at] = number_of(record.get(at + 1));
     }
     Row {
-        word: word_of(record.get(0)),
+        word: word_of(record.get(0)).with_sectors(&numbers),
         numbers,
     }
 }

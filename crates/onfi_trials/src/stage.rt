@@ -6,6 +6,7 @@ ghost use Rattle.onfi_core.specs.Queues.{IsFresh};
 
 use crate::ended::Ended;
 use crate::rows::{Row, Word, capped_u8, capped_u16, capped_u32};
+use onfi_addr::Geometry;
 use onfi_chip::{ArrayTime, SimChip};
 use onfi_core::{Choice, Setup, SetupFault};
 use onfi_die::Fault;
@@ -19,6 +20,7 @@ use std::alloc::{AllocError, Global};
 #[derive(Drop)]
 pub(crate) struct Stage {
     together: bool,
+    geometry: Geometry,
     timing: Timing,
     choice: Choice,
     pub(crate) planner: ChosenPlanner,
@@ -35,6 +37,7 @@ impl Stage {
     fn new(alloc: Global) -> Stage {
         Stage {
             together: true,
+            geometry: sample_geometry(),
             timing: sample_timing(),
             choice: Choice::InOrder,
             planner: ChosenPlanner::Plain,
@@ -64,6 +67,10 @@ impl Stage {
         match word {
             Word::Apart => self.together = false,
             Word::Longest => self.timing = longest()?,
+            Word::Sectored => {
+                self.geometry = sectored()?;
+                self.timing = timed_by_sectors()?;
+            }
             Word::ByLun => self.choice = Choice::ByLun,
             Word::ReadsFirst => self.choice = Choice::ReadsFirst,
             Word::WholeGroups => self.choice = Choice::WholeGroups,
@@ -97,7 +104,7 @@ impl Stage {
     pub(crate) fn setup(&self, open: &Row) -> Result<Setup, SetupFault> {
         let [channels, hosts, batch, submit_cap, post_cap, limit, _] = open.numbers;
         let setup = Setup::new(
-            sample_geometry(),
+            self.geometry,
             self.timing,
             Rules::new(true, self.together, false, 1),
             capped_u8(channels),
@@ -132,4 +139,24 @@ fn longest() -> Result<Timing, Ended> {
         Ok(spans) => Ok(Timing::new(spans, spans, spans)),
         Err(_) => Err(Ended::NoTrial),
     }
+}
+
+/// The sample device with four sectors of a page.
+fn sectored() -> Result<Geometry, Ended> {
+    match sample_geometry().with_sector_bytes(132) {
+        Some(geometry) => Ok(geometry),
+        None => Err(Ended::NoTrial),
+    }
+}
+
+/// Its timing: a sector takes 2,640 ns, and 440 ns come before the first.
+fn timed_by_sectors() -> Result<Timing, Ended> {
+    let mut timing = sample_timing();
+    for count in 1..5u8 {
+        let Ok(more) = timing.with_sectors(count, 440 + 2_640 * u64::from(count)) else {
+            return Err(Ended::NoTrial);
+        };
+        timing = more;
+    }
+    Ok(timing)
 }

@@ -13,6 +13,7 @@ void judge_open(judge *j, const setup *setup)
     j->of.least_array = setup->least_array;
     j->of.most_array = setup->most_array;
     board_open(&j->board, &j->of);
+    j->sectors = sectors_of(setup->workload);
 }
 
 void judge_acceptance(judge *j, const onfi_want *want, uint64_t since)
@@ -63,23 +64,26 @@ static void begin(judge *j, const phase *p)
 static onfi_phase wires_of(const phase *p)
 {
     onfi_phase made = {.want = p->want.id, .kind = p->want.kind, .is_post = p->is_post, .row_cycles = ROW_CYCLES};
-    made.row = (uint32_t)p->want.lun << (PAGE_BITS + BLOCK_BITS) | (uint32_t)p->want.block << PAGE_BITS | p->want.page;
+    made.row = row_of(p->want.lun, p->want.block, p->want.page);
     made.number = (uint8_t)p->number;
     made.members = (uint8_t)p->members;
     put_bytes(&made);
     return made;
 }
 
-/* Has a phase on the bus; gives its end. */
+/* Has a phase on the bus; gives its end. Which sectors a read puts out makes no difference: they are the first ones. */
 static uint64_t end_on_bus(judge *j, const phase *p)
 {
     struct onfi_bus bus = board_bus(&j->board);
     onfi_phase wires = wires_of(p);
-    uint8_t page[SHOWN], byte;
-    put_page(page, p->want.lun, p->want.block, p->want.page);
-    if (!p->is_post)
-        return p->want.kind == ONFI_PROGRAM ? bus.data_in(bus.board, p->start, &wires, page) : bus.command(bus.board, p->start, &wires);
-    return p->want.kind == ONFI_READ ? bus.data_out(bus.board, p->start, &wires, page) : bus.status(bus.board, p->start, &wires, &byte);
+    onfi_output output = {.bytes = (uint16_t)(j->sectors ? j->sectors * j->board.sector : j->board.page)};
+    uint8_t data[PAGE_BYTES], byte;
+    if (p->is_post)
+        return p->want.kind == ONFI_READ ? bus.data_out(bus.board, p->start, &wires, &output, data) : bus.status(bus.board, p->start, &wires, &byte);
+    if (p->want.kind != ONFI_PROGRAM)
+        return bus.command(bus.board, p->start, &wires);
+    put_bytes_of_page(data, wires.row, 0, j->board.page);
+    return bus.data_in(bus.board, p->start, &wires, data);
 }
 
 const char *judge_phase(judge *j, const phase *p)

@@ -1,6 +1,9 @@
 /* Ways by the library's calls: the choice of a batch, plans, and phase by phase as a firmware has it, by a queue kept from turn to turn. */
 #include "rolling.h"
 
+/* All reads are pages here, whose posts are those of the channel's timing. */
+static const onfi_lengths NO_LENGTHS;
+
 static void choose_by(const machine *m, uint8_t order, batch *chosen)
 {
     said s;
@@ -12,7 +15,7 @@ void by_lun_one_kind(const machine *m, batch *chosen)
 {
     said s;
     say(m, NULL, m->waiting_count, &s);
-    chosen->refused = choose_one_kind(&s.channel, s.lun, m->setup->luns, s.want, m->waiting_count, chosen->place, &chosen->count);
+    chosen->refused = choose_one_kind(&NO_LENGTHS, &s.channel, s.lun, m->setup->luns, s.want, m->waiting_count, chosen->place, &chosen->count);
 }
 
 void whole_groups(const machine *m, batch *chosen)

@@ -7,7 +7,8 @@
  *   byte      ns a byte on the bus, 0.001 to 1000        2
  *   luns      1 to 8                                     8
  *   workload  reads, mixed, sequential, erases,          mixed
- *             random-programs
+ *             random-programs; reads-4k, mixed-4k: reads
+ *             of one sector of four
  *   way       a way; `rolling ways` prints their names   rfirst:all
  *   depth     requests outstanding, 1 to 256             64
  *   load      share of the bus that arrivals ask for     0: a new request comes with each answer

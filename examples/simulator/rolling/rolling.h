@@ -40,12 +40,14 @@ typedef struct {
     uint16_t slack; /* by how many thousandths plans in which requests end early may end later; OF_THE_WAY: as its way says */
 } setup;
 
-/* Puts timing and rules of a device by name, at so many ns a byte; false where there is no such device. */
+/* Puts timing and rules of a device by name, at so many ns a byte, for the workload; false where there is no such device. */
 bool put_device(const char *name, double byte, setup *setup);
 /* The workload of that name; false where there is none. */
 bool put_workload(const char *name, unsigned *workload);
 
 host host_of(const setup *setup);
+/* The next request. Where reads want some sectors all do so many, so that they are reads whose posts are as long. */
+onfi_want next_want(host *host);
 /*
  * Prints how many planes and pages there are, how long the phases of each kind take, and the requests in their order, by kind and
  * LUN: those that come with the one before them, room or not, as mates.
@@ -136,6 +138,7 @@ typedef struct {
 typedef struct {
     simulation of;
     board board;
+    unsigned sectors; /* how many of them reads put out; 0: their pages */
     accepted waiting[MOST_WAITING]; /* in order of acceptance */
     size_t waiting_count;
     uint64_t answered;

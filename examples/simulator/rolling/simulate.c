@@ -18,7 +18,7 @@ typedef struct {
 
 static void accept_next(run *r, uint64_t arrived)
 {
-    onfi_want want = host_want(&r->host);
+    onfi_want want = next_want(&r->host);
     want.id = r->machine.accepted;
     accept_request(&r->machine, want, arrived);
     judge_acceptance(&r->judge, &want, r->machine.now);

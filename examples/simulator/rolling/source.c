@@ -11,18 +11,25 @@ bool put_device(const char *name, double byte, setup *setup)
         return false;
     setup->made_of = *device;
     setup->byte = byte;
-    setup->channel = channel_of(device, byte);
+    setup->channel = channel_for(device, byte, setup->workload);
     return true;
 }
 
 bool put_workload(const char *name, unsigned *workload)
 {
     static const char *const names[WORKLOADS] = {[RANDOM_READS] = "reads", [MIXED] = "mixed", [SEQUENTIAL] = "sequential", [WITH_ERASES] = "erases",
-                                                  [RANDOM_PROGRAMS] = "random-programs"};
+                                                  [RANDOM_PROGRAMS] = "random-programs", [READS_4K] = "reads-4k", [MIXED_4K] = "mixed-4k"};
     for (*workload = 0; *workload < WORKLOADS; ++*workload)
         if (!strcmp(names[*workload], name))
             return true;
     return false;
+}
+
+onfi_want next_want(host *host)
+{
+    onfi_want want = host_want(host);
+    want.kind = operation_of(want.kind);
+    return want;
 }
 
 host host_of(const setup *setup)
@@ -44,7 +51,7 @@ void print_source(const setup *setup, FILE *out)
     }
     for (size_t at = 0; at < setup->requests; at++) {
         bool is_mate = host.mates > 0;
-        onfi_want want = host_want(&host);
+        onfi_want want = next_want(&host);
         fprintf(out, "%s %s %u\n", is_mate ? "mate" : "request", KIND_NAMES[want.kind], want.lun);
     }
 }

@@ -8,13 +8,11 @@ of N rounds (15), the tokens a second of both in processor time and by the clock
 the size of the input. The exit status is 0 where checking runs at no less than a third of the speed of reading.
 """
 
-from __future__ import annotations
-
 import argparse
 import re
 from typing import List
 
-from onfi_tools.bench.runs import PROGRAM, Run, run
+from onfi_tools.bench.runs import Run, add_words, run
 
 SCRIPT = """shape,8,0,0,0
 spans,read,140,600,50100,176000
@@ -48,8 +46,7 @@ def wanted(program: str, command: str, given: str, begins: str, status: int) -> 
 
 
 def words(parser: argparse.ArgumentParser) -> None:
-    parser.add_argument("program", nargs="?", default=PROGRAM)
-    parser.add_argument("--rounds", type=int, default=15)
+    add_words(parser, rounds=15)
 
 
 def main(asked: argparse.Namespace) -> int:

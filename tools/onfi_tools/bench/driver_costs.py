@@ -1,7 +1,5 @@
 """Instructions of a turn of the driver of examples/c, by way, for each request that it answers; counted by callgrind."""
 
-from __future__ import annotations
-
 import os
 import re
 import subprocess

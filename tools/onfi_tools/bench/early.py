@@ -14,39 +14,25 @@ Each plan is given to the check of its kind. A refused plan, one that ends later
 did, and a cost below the least end the run with status 1.
 """
 
-from __future__ import annotations
-
 import argparse
 import concurrent.futures
 import os
 import random
-from typing import Dict, List, NamedTuple, Sequence, Tuple
+from typing import Dict, List, NamedTuple, Sequence
 
-from onfi_tools import costs
-from onfi_tools.bench.runs import PROGRAM, WITHIN, answered, run, table
+from onfi_tools import plans
+from onfi_tools.bench.runs import add_words, planned, quantile, table
 from onfi_tools.bench.worth import drawn_batch
-from onfi_tools.chains import Running, State, below_of, finish_of, idle
+from onfi_tools.channel import Channel, Device, Group, Lun, idle
 from onfi_tools.device import KINDS
 from onfi_tools.drawn import MIX, any_lengths, drawn_wants
-from onfi_tools.policies import Device
 
 SLACKS = [0, 5, 20, 100]
 
 
-def planned(program: str, script: str, *options: str) -> Tuple[str, int, int]:
-    """The text of a plan by a search that remembers states, its finish, and what nothing ends before."""
-    ran = run([program, "plan", "--remember", *options], script)
-    finish, below = finish_of(ran.output), below_of(ran.output)
-    if ran.status or finish is None or below is None:
-        raise ValueError(f"no plan, status {ran.status}: {ran.output[:200]}\n{script}")
-    return ran.output, finish, below
-
-
 def better(program: str, script: str, slack: int, bus: int) -> str:
-    """The text of a plan that is made better within a slack, once it is checked."""
-    plan, finish, below = planned(program, script, "--early", "--slack", str(slack))
-    text, status = (f"within {finish} {below}\n", WITHIN) if below < finish else (f"accepted {finish}\n", 0)
-    answered(program, ["check", "--within"], script + plan, text, status)
+    """The text of a plan that is made better within a slack."""
+    plan, finish, below = planned(program, script, "--remember", "--early", "--slack", str(slack))
     if finish > below + (below - bus) * slack // 1000:
         raise ValueError(f"ends at {finish}, later than {slack} thousandths after {below}\n{script}")
     return plan
@@ -60,22 +46,25 @@ class Small(NamedTuple):
     least: int
 
 
-def small_state(rng: random.Random) -> State:
+def small_channel(rng: random.Random) -> Channel:
     device = Device(rng.randint(1, 3), rng.randint(0, 2), rng.random() < 0.5, rng.random() < 0.5, any_lengths(rng))
-    state = idle(device, drawn_wants(rng, device.luns, MIX, rng.randint(2, 4), 8))
-    for lun in range(device.luns):
-        if rng.random() < 0.3:
-            kind = rng.choices(KINDS, MIX)[0]
-            state.running[lun] = Running(kind, 0, [rng.randrange(8)], 1, rng.randrange(device.lengths[kind].array + 1))
-            del state.free[lun]
-    return state
+    wants = drawn_wants(rng, device.luns, MIX, rng.randint(2, 4), 8)
+    luns = [drawn_lun(rng, device) if rng.random() < 0.3 else Lun() for _ in range(device.luns)]
+    return idle(device, wants)._replace(luns=tuple(luns))
 
 
-def measure_small(program: str, state: State, weights: Dict[int, int], slack: int) -> Small:
-    script = costs.weight_rows(weights) + state.script()
-    (plan, _, below), made = planned(program, script), better(program, script, slack, state.bus)
-    least = costs.least_cost(state, weights, below + (below - state.bus) * slack // 1000)
-    cost, old = (costs.ends_of(state, text).cost(weights) for text in (made, plan))
+def drawn_lun(rng: random.Random, device: Device) -> Lun:
+    """A LUN whose array works for one request."""
+    kind = rng.choices(KINDS, MIX)[0]
+    group = Group(kind, 0, (rng.randrange(8),), 1)
+    return Lun(rng.randrange(device.lengths[kind].array + 1), group)
+
+
+def measure_small(program: str, channel: Channel, weights: Dict[int, int], slack: int) -> Small:
+    script = plans.weight_rows(weights) + channel.script()
+    (plan, _, below), made = planned(program, script, "--remember"), better(program, script, slack, channel.bus)
+    least = plans.least_cost(channel, weights, below + (below - channel.bus) * slack // 1000)
+    cost, old = (plans.ends_of(channel, text).cost(weights) for text in (made, plan))
     if least is None or cost < least or cost > old:
         raise ValueError(f"costs {cost}, was {old}, and the least is {least}\n{script}{made[:2000]}")
     return Small(old, cost, least)
@@ -85,23 +74,23 @@ def small_lines(asked: argparse.Namespace, pool: concurrent.futures.Executor) ->
     rng = random.Random(asked.seed)
     drawn = []
     for _ in range(asked.small):
-        state = small_state(rng)
-        drawn.append((state, {want.number: rng.randint(1, 9) for want in state.wants}))
+        channel = small_channel(rng)
+        drawn.append((channel, {want.number: rng.randint(1, 9) for want in channel.wants}))
     rows = []
     for slack in asked.slack:
         found = [*pool.map(lambda it: measure_small(asked.program, it[0], it[1], slack), drawn)]
         above = [100 * (one.better / one.least - 1) for one in found if one.better > one.least]
-        last = [f"{costs.quantile(above, 0.5):.2f} %", f"{max(above):.2f} %"] if above else ["", ""]
+        last = [f"{quantile(above, 0.5):.2f} %", f"{max(above):.2f} %"] if above else ["", ""]
         rows.append([slack, sum(one.plan == one.least for one in found), len(found) - len(above), *last])
     columns = ["slack", "the least cost by the plan", ".. by the better one", "above the least, of the others: median", "most"]
     return [f"seed {asked.seed}, {asked.small:,} small problems, each against all its schedules", "", *table(columns, rows, 0)]
 
 
-def mean_ends(program: str, state: State, slacks: Sequence[int]) -> List[float]:
+def mean_ends(program: str, channel: Channel, slacks: Sequence[int]) -> List[float]:
     """The mean end of a request by the plan, and by the better one with each slack, in ns."""
-    script = state.script()
-    plans = [planned(program, script)[0], *(better(program, script, slack, state.bus) for slack in slacks)]
-    return [costs.ends_of(state, plan).mean() for plan in plans]
+    script = channel.script()
+    texts = [planned(program, script, "--remember").text, *(better(program, script, slack, channel.bus) for slack in slacks)]
+    return [plans.ends_of(channel, text).mean() for text in texts]
 
 
 def worth_lines(asked: argparse.Namespace, pool: concurrent.futures.Executor) -> List[str]:
@@ -112,19 +101,15 @@ def worth_lines(asked: argparse.Namespace, pool: concurrent.futures.Executor) ->
     for at, slack in enumerate(asked.slack, 1):
         saved = [100 * (1 - ends[at] / ends[0]) for ends in found]
         together = 100 * (1 - sum(ends[at] for ends in found) / sum(ends[0] for ends in found))
-        rows.append([slack, *(f"{cell:.1f} %" for cell in (together, costs.quantile(saved, 0.5), costs.quantile(saved, 0.9), max(saved)))])
+        rows.append([slack, *(f"{cell:.1f} %" for cell in (together, quantile(saved, 0.5), quantile(saved, 0.9), max(saved)))])
     columns = ["slack", "all together", "of a script: median", "nine of ten at most", "most"]
     return [f"seed {asked.seed}, {asked.scripts:,} scripts of `tools/bench worth`: how much sooner a request ends in the mean", "",
             *table(columns, rows, 0)]
 
 
 def words(parser: argparse.ArgumentParser) -> None:
-    parser.add_argument("program", metavar="PROGRAM", nargs="?", default=PROGRAM)
-    parser.add_argument("--seed", type=int, default=1)
-    parser.add_argument("--small", type=int, default=500)
-    parser.add_argument("--scripts", type=int, default=1000)
+    add_words(parser, seed=1, small=500, scripts=1000, jobs=os.cpu_count() or 1)
     parser.add_argument("--slack", type=int, nargs="+", default=SLACKS)
-    parser.add_argument("--jobs", type=int, default=os.cpu_count())
 
 
 def main(asked: argparse.Namespace) -> int:

@@ -36,8 +36,6 @@ a token of `check`, of `check --remember`
 reads on tlc at 2 ns a byte, eight LUNs, 64 outstanding: all but what the mock of the board does, and of it each call of the library.
 """
 
-from __future__ import annotations
-
 import argparse
 import re
 import statistics

@@ -8,17 +8,14 @@ for each; it writes no certificate. The two run in turns, and the best of the ro
 are left out.
 """
 
-from __future__ import annotations
-
 import argparse
 import random
 import subprocess
 import tempfile
 from pathlib import Path
 
-from onfi_tools.bench.runs import ROOT, built
+from onfi_tools.bench.runs import ROOT, add_numbers, built
 from onfi_tools.bench.worth import drawn_batch
-from onfi_tools.policies import script_of
 
 MOST = 100_000
 
@@ -30,9 +27,7 @@ def output(*words: object) -> str:
 def words(parser: argparse.ArgumentParser) -> None:
     parser.add_argument("folder", type=Path)
     parser.add_argument("bnb", nargs="?")
-    parser.add_argument("--scripts", type=int, default=1000)
-    parser.add_argument("--seed", type=int, default=1)
-    parser.add_argument("--rounds", type=int, default=5)
+    add_numbers(parser, scripts=1000, seed=1, rounds=5)
 
 
 def main(asked: argparse.Namespace) -> int:
@@ -40,8 +35,7 @@ def main(asked: argparse.Namespace) -> int:
         room, rng = Path(folder), random.Random(asked.seed)
         files = [room / f"{number}.onfi" for number in range(asked.scripts)]
         for file in files:
-            batch = drawn_batch(rng)
-            file.write_text(script_of(batch.device, batch.wants))
+            file.write_text(drawn_batch(rng).script())
         if asked.bnb:
             opened = [int(line.split()[2]) for line in output(asked.bnb, "-l", MOST, *files).splitlines()]
             files = [file for file, nodes in zip(files, opened) if nodes < MOST]

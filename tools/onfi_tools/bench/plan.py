@@ -21,8 +21,6 @@ then `plan --remember` and the search that remembers states, on the scripts of e
 `tools/bench remember` for which that search opens at least 1,000 nodes. Both have to find the same finish.
 """
 
-from __future__ import annotations
-
 import argparse
 import os
 import random
@@ -32,7 +30,7 @@ import tempfile
 from pathlib import Path
 from typing import Callable, List, NamedTuple, Optional, Sequence, Tuple
 
-from onfi_tools.bench.runs import HARD, MOST, OVER, PROGRAM, ROOT, Run, best_of, built, run
+from onfi_tools.bench.runs import HARD, MOST, OVER, ROOT, Run, add_words, best_of, built, run
 from onfi_tools.drawn import SETS, long_search
 
 TEAMS = (2, 4)
@@ -236,11 +234,8 @@ def bench_workers(planner: Planner, rng: random.Random, rounds: int, count: int,
 
 
 def words(parser: argparse.ArgumentParser) -> None:
-    parser.add_argument("program", nargs="?", default=PROGRAM)
+    add_words(parser, rounds=5, random=3, seed=1)
     parser.add_argument("--against", metavar="OTHER")
-    parser.add_argument("--rounds", type=int, default=5)
-    parser.add_argument("--random", type=int, default=3)
-    parser.add_argument("--seed", type=int, default=1)
     parser.add_argument("--workers", action="store_true")
     parser.add_argument("--prototypes", action="store_true")
 

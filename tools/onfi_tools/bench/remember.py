@@ -27,8 +27,6 @@ random, filled up to eight again. Of all these: how many are over within a limit
 long at most: the median, nine of ten, the greatest. Each such plan is checked by `check --within`.
 """
 
-from __future__ import annotations
-
 import argparse
 import concurrent.futures
 import os
@@ -38,11 +36,10 @@ import sys
 from pathlib import Path
 from typing import Callable, Dict, List, NamedTuple, Optional, Sequence, Tuple
 
-from onfi_tools import chains
-from onfi_tools.bench.runs import HARD, MOST, OVER, PROGRAM, ROOT, WITHIN, answered, at_place, run, said, table
-from onfi_tools.device import spans_of
-from onfi_tools.drawn import DEVICES, MIX, REQUESTS, SETS, SHEET, drawn_wants
-from onfi_tools.policies import Device
+from onfi_tools import plans
+from onfi_tools.bench.runs import HARD, MOST, OVER, ROOT, add_words, answered, at_place, planned, quantile, run, said, table
+from onfi_tools.channel import idle
+from onfi_tools.drawn import DEVICES, MIX, REQUESTS, SETS, device_of, drawn_wants
 
 HARD_STATES = sorted((ROOT / "examples" / "hard-states").glob("*.onfi"))
 HARD_MOST = 100_000
@@ -143,27 +140,9 @@ def measure_hard(asked: argparse.Namespace, pool: concurrent.futures.Executor) -
             *table(columns, [[path.stem, *own] for path, own in zip(files, cells)])]
 
 
-class Within(NamedTuple):
-    """A plan by `plan --within`: its text, and by how much of its time it may be too long at most, in per cent."""
-
-    text: str
-    gap: float
-
-
-def within_of(program: str, state: chains.State, limit: int) -> Within:
-    """The plan within so many nodes, checked."""
-    script = state.script()
-    ran = run([program, "plan", "--within", "--limit", str(limit)], script)
-    finish, below = chains.finish_of(ran.output), chains.below_of(ran.output)
-    if ran.status or finish is None or below is None:
-        raise ValueError(f"plan --within, status {ran.status}: {ran.output[:200]}\n{script}")
-    text, status = (f"accepted {finish}\n", 0) if finish == below else (f"within {finish} {below}\n", WITHIN)
-    answered(program, ["check", "--within"], script + ran.output, text, status)
-    return Within(ran.output, 100 * (finish - below) / max(finish - state.bus, 1))
-
-
 class Batch(NamedTuple):
-    """One of a chain: which searches are over, by option and limit, and the gap of `plan --within` by limit."""
+    """One of a chain: which searches are over, by option and limit, and by how much of its time the plan of `plan --within` may be too
+    long at most, by limit, in per cent."""
 
     over: Dict[Tuple[str, int], bool]
     gaps: Dict[int, float]
@@ -179,23 +158,23 @@ def is_over(program: str, words: str, limit: int, script: str) -> bool:
 def chain_of(program: str, seed: str) -> List[Batch]:
     """The batches of a chain that is drawn from this seed."""
     rng = random.Random(seed)
-    bits, page, cycle = rng.choice(DEVICES)
-    device = Device(rng.choice((2, 4, 8)), bits, True, True, spans_of(page, {**SHEET, "tWC": cycle, "tRC": cycle}))
-    state, batches = chains.idle(device, drawn_wants(rng, device.luns, MIX)), []
+    device = device_of(*rng.choice(DEVICES), rng.choice((2, 4, 8)))
+    channel, batches = idle(device, drawn_wants(rng, device.luns, MIX)), []
     for _ in range(BATCHES):
-        plans = {limit: within_of(program, state, limit) for limit in LIMITS}
-        over = {(words, limit): is_over(program, words, limit, state.script()) for words, limit in SEARCHES}
-        batches.append(Batch(over, {limit: plan.gap for limit, plan in plans.items()}))
-        text = plans[LIMITS[-1]].text
-        count = rng.randint(1, len(chains.phases_of(state, text)))
-        state = chains.filled(chains.left(state, text, count), drawn_wants(rng, device.luns, MIX), REQUESTS)
+        found = {limit: planned(program, channel.script(), "--within", "--limit", str(limit)) for limit in LIMITS}
+        gaps = {limit: 100 * (plan.finish - plan.below) / max(plan.finish - channel.bus, 1) for limit, plan in found.items()}
+        over = {(words, limit): is_over(program, words, limit, channel.script()) for words, limit in SEARCHES}
+        batches.append(Batch(over, gaps))
+        text = found[LIMITS[-1]].text
+        count = rng.randint(1, len(plans.phases_of(channel, text)))
+        channel = plans.filled(plans.left(channel, text, count), drawn_wants(rng, device.luns, MIX), REQUESTS)
     return batches
 
 
 def gaps_row(batches: Sequence[Batch], limit: int) -> List[str]:
-    gaps = sorted(batch.gaps[limit] for batch in batches if batch.gaps[limit] > 0)
+    gaps = [batch.gaps[limit] for batch in batches if batch.gaps[limit] > 0]
     cells = [f"{limit:,}", f"{100 - 100 * len(gaps) / len(batches):.1f} %"]
-    return cells + ([f"{gaps[place]:.1f} %" for place in (len(gaps) // 2, 9 * len(gaps) // 10, -1)] if gaps else ["", "", ""])
+    return cells + ([f"{quantile(gaps, share):.1f} %" for share in (0.5, 0.9, 1)] if gaps else ["", "", ""])
 
 
 def measure_chains(asked: argparse.Namespace, pool: concurrent.futures.Executor) -> List[str]:
@@ -210,11 +189,8 @@ def measure_chains(asked: argparse.Namespace, pool: concurrent.futures.Executor)
 
 
 def words(parser: argparse.ArgumentParser) -> None:
-    parser.add_argument("program", nargs="?", default=PROGRAM)
+    add_words(parser, scripts=2000, chains=400, jobs=os.cpu_count() or 1)
     parser.add_argument("seed", nargs="?", type=int, default=1)
-    parser.add_argument("--scripts", type=int, default=2000)
-    parser.add_argument("--chains", type=int, default=400)
-    parser.add_argument("--jobs", type=int, default=os.cpu_count())
     parser.add_argument("--hard", nargs="+", type=Path, default=[])
     parser.add_argument("--few", action="store_true")
 

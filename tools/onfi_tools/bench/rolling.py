@@ -12,15 +12,14 @@ there is something new, and that is counted. Beside each throughput stands a bou
 
 --quick takes twelve of the configurations, and of two of them early arrays and open loops, and 1,000 requests where no N is named:
 within ten minutes of processor time. --ways takes these ways alone, with commas between them, beside the one that each is compared
-with; --array has the arrays of all configurations take less than is stated, by shares such as 0.7-0.9, which LUNs report; --workload takes the
-54 configurations of one workload, `random-programs` too: the next page of a plane of any LUN. --rows keeps all figures of all runs in a
-file, each as it comes; a run that the file has isn't run again.
+with; --array has the arrays of all configurations take less than is stated, by shares such as 0.7-0.9, which LUNs report; --workload takes
+the 54 configurations of one workload, also of those beside the 216: `random-programs`, the next page of a plane of any LUN; `reads-4k` and
+`mixed-4k`, whose reads put out one sector of four, 4 KiB of tlc and qlc. Of these two --quick takes six, beside whole pages. --rows keeps
+all figures of all runs in a file, each as it comes; a run that the file has isn't run again.
 
 All that is random comes from the seed, the same for all ways: which requests come and when, and how long arrays take. Devices, buses,
 requests and ways are in docs/WORTH.md.
 """
-
-from __future__ import annotations
 
 import argparse
 import os
@@ -28,18 +27,25 @@ import tempfile
 from pathlib import Path
 from typing import List
 
-from onfi_tools.bench.runs import ROOT, processor_time
-from onfi_tools.rolling_tables import quick_tables, whole_tables
-from onfi_tools.rolling_use import ALL, TWELVE, WORKLOADS, Asked, Rows, all_of, build, measure, open_loops, readiness
+from onfi_tools.bench.runs import ROOT, add_numbers, processor_time
+from onfi_tools.rolling_tables import apart, gain_table, pairs_of, quick_tables, sector_table, whole_tables
+from onfi_tools.rolling_use import ALL, OF_SECTORS, TWELVE, WORKLOADS, Asked, Rows, all_of, build, measure, open_loops, readiness, six_of
 from onfi_tools.rolling_ways import BASE, GREEDY, QUICK, SOME, WAYS
+from onfi_tools.rolling_ways import OF_SECTORS as WAYS_OF_SECTORS
 
 
 def quick(program: Path, ways: List[str], asked: Asked, rows: Rows) -> List[str]:
     """The twelve configurations, early arrays of two, open loops of one."""
     some = [way for way in ways if way in SOME or way not in QUICK]
-    twelve = measure(program, TWELVE, ways, asked, rows)
-    early = measure(program, [*readiness(TWELVE[0]), *readiness(TWELVE[10])], some, asked, rows)
-    return quick_tables([twelve, early, measure(program, open_loops(TWELVE[1]), some, asked, rows)], ways, some)
+    early, loops = [*readiness(TWELVE[0]), *readiness(TWELVE[10])], open_loops(TWELVE[1])
+    return quick_tables([measure(program, of, by, asked, rows) for of, by in ((TWELVE, ways), (early, some), (loops, some))], ways, some)
+
+
+def beside_pages(program: Path, workload: str, ways: List[str], asked: Asked, rows: Rows) -> List[str]:
+    """Six configurations whose reads put out a sector, beside the same with whole pages."""
+    pages, sectors = (measure(program, six_of(name), ways, asked, rows) for name in (OF_SECTORS[workload], workload))
+    pairs = pairs_of(pages, sectors)
+    return apart(sector_table(pairs, ways), gain_table(pairs, ways))
 
 
 def ways_named(names: str) -> List[str]:
@@ -55,9 +61,7 @@ def words(parser: argparse.ArgumentParser) -> None:
     parser.add_argument("--quick", action="store_true")
     parser.add_argument("--library", type=Path, default=ROOT / "lib")
     parser.add_argument("--requests", type=int)
-    parser.add_argument("--seed", type=int, default=1)
-    parser.add_argument("--limit", type=int, default=100_000)
-    parser.add_argument("--jobs", type=int, default=os.cpu_count() or 1)
+    add_numbers(parser, seed=1, limit=100_000, jobs=os.cpu_count() or 1)
     parser.add_argument("--rows", type=Path)
     parser.add_argument("--ways", type=ways_named)
     parser.add_argument("--array", default="1-1")
@@ -66,10 +70,13 @@ def words(parser: argparse.ArgumentParser) -> None:
 
 def main(asked: argparse.Namespace) -> int:
     how = Asked(asked.requests or (1000 if asked.quick else 4000), asked.seed, asked.limit, asked.jobs)
-    ways, rows = asked.ways or (QUICK if asked.quick else ways_named(",".join(WAYS))), Rows(asked.rows)
+    is_beside = asked.quick and asked.workload in OF_SECTORS
+    ways, rows = asked.ways or (WAYS_OF_SECTORS if is_beside else QUICK if asked.quick else ways_named(",".join(WAYS))), Rows(asked.rows)
     with tempfile.TemporaryDirectory(prefix="rolling-") as room:
         program = build(Path(room) / "rolling", asked.library if set(ways) - set(GREEDY) else None)
-        if asked.quick:
+        if is_beside:
+            lines = beside_pages(program, asked.workload, ways, how, rows)
+        elif asked.quick:
             lines = quick(program, ways, how, rows)
         else:
             chosen = all_of([asked.workload]) if asked.workload else ALL

@@ -7,11 +7,9 @@ other work on the machine makes fewer, and the microseconds of processor time fo
 whose report isn't whole ends the measuring.
 """
 
-from __future__ import annotations
-
 import argparse
 
-from onfi_tools.bench.runs import PROGRAM, ROOT, Run, run
+from onfi_tools.bench.runs import ROOT, Run, add_words, run
 
 DEVICE = [row for row in (ROOT / "examples" / "two-hosts.onfi").read_text(encoding="utf-8").splitlines() if row.startswith(("page,", "sheet,"))]
 
@@ -30,9 +28,7 @@ def measured(program: str, text: str, replies: int) -> Run:
 
 
 def words(parser: argparse.ArgumentParser) -> None:
-    parser.add_argument("program", nargs="?", default=PROGRAM)
-    parser.add_argument("--rounds", type=int, default=9)
-    parser.add_argument("--operations", type=int, default=2000)
+    add_words(parser, rounds=9, operations=2000)
 
 
 def main(asked: argparse.Namespace) -> int:

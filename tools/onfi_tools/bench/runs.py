@@ -1,7 +1,6 @@
 """Runs of a built program, with what they took; and tables of what was measured."""
 
-from __future__ import annotations
-
+import argparse
 import os
 import resource
 import subprocess
@@ -10,12 +9,25 @@ import time
 from pathlib import Path
 from typing import Iterable, List, NamedTuple, Optional, Sequence, Union
 
+from onfi_tools.plans import below_of, finish_of
+
 ROOT = Path(__file__).resolve().parent.parent.parent.parent
 PROGRAM = str(ROOT / "bin" / "onfi_sim")
 HARD = sorted((ROOT / "examples" / "hard").glob("*.onfi"))
 # The greatest limit, and statuses.
 MOST = 1 << 20
 OVER, WITHIN = 6, 8
+
+
+def add_words(parser: argparse.ArgumentParser, **numbers: int) -> None:
+    """PROGRAM, and options that are numbers, each with what it is where it isn't named."""
+    parser.add_argument("program", nargs="?", default=PROGRAM)
+    add_numbers(parser, **numbers)
+
+
+def add_numbers(parser: argparse.ArgumentParser, **numbers: int) -> None:
+    for name, usual in numbers.items():
+        parser.add_argument(f"--{name}", type=int, default=usual)
 
 
 class Run(NamedTuple):
@@ -66,6 +78,25 @@ def answered(program: str, words: Sequence[str], given: str, text: str, status: 
     return ran
 
 
+class Planned(NamedTuple):
+    """A plan's text, its finish, and what nothing ends before."""
+
+    text: str
+    finish: int
+    below: int
+
+
+def planned(program: str, script: str, *options: str) -> Planned:
+    """A plan by these options, once `check --within` has judged it as what it says of itself."""
+    ran = run([program, "plan", *options], script)
+    finish, below = finish_of(ran.output), below_of(ran.output)
+    if ran.status or finish is None or below is None:
+        raise ValueError(f"no plan {' '.join(options)}, status {ran.status}: {ran.output[:200]}\n{script}")
+    text, status = (f"within {finish} {below}\n", WITHIN) if below < finish else (f"accepted {finish}\n", 0)
+    answered(program, ["check", "--within"], script + ran.output, text, status)
+    return Planned(ran.output, finish, below)
+
+
 def best_of(runs: Sequence[Run]) -> Run:
     return min(runs, key=lambda one: one.processor)
 
@@ -94,6 +125,11 @@ def table(columns: Sequence[str], rows: Iterable[Iterable[object]], left: int = 
 def at_place(rising: Sequence[float], place: int) -> Optional[float]:
     """The number at a place; none where there are fewer, as what is over counts as greater than all."""
     return rising[place] if place < len(rising) else None
+
+
+def quantile(numbers: Sequence[float], share: float) -> float:
+    """The number that so great a share of all doesn't pass."""
+    return sorted(numbers)[min(int(share * len(numbers)), len(numbers) - 1)]
 
 
 def said(number: Optional[float]) -> str:

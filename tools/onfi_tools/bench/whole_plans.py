@@ -1,7 +1,5 @@
 """Instructions of whole calls of the library for C, made in one process under callgrind."""
 
-from __future__ import annotations
-
 import random
 import re
 import subprocess
@@ -9,11 +7,10 @@ import tempfile
 from pathlib import Path
 from typing import Dict, List, NamedTuple, Optional, Sequence
 
-from onfi_tools.bench.runs import ROOT, at_place, built, table
+from onfi_tools.bench.runs import ROOT, at_place, built, said, table
 from onfi_tools.bench.worth import drawn_batch
 from onfi_tools.callgrind import counted
 from onfi_tools.drawn import SETS
-from onfi_tools.policies import script_of
 
 SEED = 1
 REQUESTS = (1, 3, 8)
@@ -52,19 +49,6 @@ def answers_of(output: str) -> List[Answer]:
     return [Answer(*map(int, line.split())) for line in output.splitlines()]
 
 
-def ranked(costs: Sequence[Optional[int]], place: int) -> Optional[float]:
-    """The cost at a place as they rise; none where that one isn't known, which counts as greater than all."""
-    return at_place(sorted(cost for cost in costs if cost is not None), place)
-
-
-def median(costs: Sequence[Optional[int]]) -> Optional[float]:
-    return ranked(costs, len(costs) // 2)
-
-
-def nine_of_ten(costs: Sequence[Optional[int]]) -> Optional[float]:
-    return ranked(costs, -(-9 * len(costs) // 10) - 1)
-
-
 def chosen(scripts: Sequence[Path], answers: Sequence[Answer], count: int, low: int, high: int) -> List[Path]:
     """The first scripts whose searches opened so many nodes."""
     return [script for script, answer in zip(scripts, answers) if answer.status == 0 and low <= answer.opened <= high][:count]
@@ -73,8 +57,7 @@ def chosen(scripts: Sequence[Path], answers: Sequence[Answer], count: int, low: 
 def drawn_batches(count: int, requests: int) -> List[str]:
     """Scripts of `tools/bench worth` with so many requests."""
     rng = random.Random(SEED)
-    batches = [drawn_batch(rng, requests) for _ in range(count)]
-    return [script_of(batch.device, batch.wants) for batch in batches]
+    return [drawn_batch(rng, requests).script() for _ in range(count)]
 
 
 def drawn_sets(count: int) -> Dict[str, List[str]]:
@@ -142,16 +125,12 @@ def a_token(costs: Sequence[Cost]) -> float:
     return sum(cost.check for cost in costs) / sum(cost.answer.tokens for cost in costs)
 
 
-def told(number: Optional[float]) -> str:
-    return "over" if number is None else f"{number:,.0f}"
-
-
 def small_cell(costs: Sequence[Optional[int]]) -> str:
-    """Median, nine of ten, and the greatest of those that aren't over."""
-    known = [cost for cost in costs if cost is not None]
-    greatest = max(known) if known else None
+    """Median and nine of ten, where one that is over counts as greater than all, and the greatest of the others."""
+    known = sorted(cost for cost in costs if cost is not None)
+    places = (len(costs) // 2, -(-9 * len(costs) // 10) - 1, max(len(known) - 1, 0))
     over = f" ({len(costs) - len(known)} over)" if len(known) < len(costs) else ""
-    return f"{told(median(costs))} / {told(nine_of_ten(costs))} / {told(greatest)}{over}"
+    return " / ".join(said(at_place(known, place)) for place in places) + over
 
 
 def rows_of(library: Library) -> Dict[str, str]:
@@ -161,10 +140,10 @@ def rows_of(library: Library) -> Dict[str, str]:
         for requests in REQUESTS:
             rows[f"`{word}` of {requests}, median / nine of ten / greatest"] = small_cell(library.small(way, requests))
     plain, known = library.plain(), library.known()
-    rows[f"a node of `plan`, with its certificate, {len(plain)} scripts"] = told(a_node(plain))
-    rows[f"a node of `plan --remember`, both walks, {len(known)} scripts"] = told(a_node(known))
-    rows["a token of `check`, read and checked"] = told(a_token(plain))
-    rows["a token of `check --remember`, read and checked"] = told(a_token(known))
+    rows[f"a node of `plan`, with its certificate, {len(plain)} scripts"] = said(round(a_node(plain)))
+    rows[f"a node of `plan --remember`, both walks, {len(known)} scripts"] = said(round(a_node(known)))
+    rows["a token of `check`, read and checked"] = said(round(a_token(plain)))
+    rows["a token of `check --remember`, read and checked"] = said(round(a_token(known)))
     return rows
 
 

@@ -36,18 +36,15 @@ The mixes; where nothing else is said LUN, block (0 to 7) and page (0 or 1; 0 fo
 of `Illegal`, and an optimum that ends later than one of the ways, end the run with status 1.
 """
 
-from __future__ import annotations
-
 import argparse
 import random
 import statistics
 from typing import Dict, List, NamedTuple, Optional, Sequence, Tuple
 
-from onfi_tools.bench.runs import MOST, OVER, PROGRAM, ROOT, row, run
-from onfi_tools.device import spans_of
-from onfi_tools.drawn import PAGE, SHEET, SMALL, drawn_wants
-from onfi_tools.policies import (Device, Policy, Want, best_of_ranks, first_in_first_out, round_robin, round_robin_commands_first,
-                                 script_of)
+from onfi_tools.bench.runs import MOST, OVER, ROOT, add_words, row, run
+from onfi_tools.channel import Device, Want, script_of
+from onfi_tools.drawn import PAGE, SMALL, device_of, drawn_wants
+from onfi_tools.policies import Policy, best_of_ranks, first_in_first_out, round_robin, round_robin_commands_first
 from onfi_tools.script import lengths_of, page_numbers
 
 REQUESTS = 8
@@ -86,6 +83,9 @@ class Batch(NamedTuple):
     device: Device
     wants: List[Want]
 
+    def script(self) -> str:
+        return script_of(self.device, self.wants)
+
 
 class Measured(NamedTuple):
     """A script's optimum, and the finish of each way."""
@@ -95,11 +95,10 @@ class Measured(NamedTuple):
     finishes: Dict[str, int]
 
 
-def device_of(name: str, luns: int) -> Device:
+def named_device(name: str, luns: int) -> Device:
     if name in PROFILES:
         return Device(luns, page_numbers(PROFILES[name])["plane_bits"], True, True, lengths_of(PROFILES[name]))
-    bits, page, cycle = DEVICES[name]
-    return Device(luns, bits, True, True, spans_of(page, {**SHEET, "tWC": cycle, "tRC": cycle}))
+    return device_of(*DEVICES[name], luns)
 
 
 def stripe(rng: random.Random, device: Device, requests: int) -> List[Want]:
@@ -114,7 +113,7 @@ def stripe(rng: random.Random, device: Device, requests: int) -> List[Want]:
 
 def drawn_batch(rng: random.Random, requests: int = REQUESTS, devices: Sequence[str] = tuple(DEVICES)) -> Batch:
     name, mix = rng.choice(list(devices)), rng.choice(list(MIXES))
-    device = device_of(name, rng.choice((2, 4, 8)))
+    device = named_device(name, rng.choice((2, 4, 8)))
     weights = MIXES[mix]
     wants = stripe(rng, device, requests) if weights is None else drawn_wants(rng, device.luns, weights, requests, 8)
     return Batch(name, mix, device, wants)
@@ -122,7 +121,7 @@ def drawn_batch(rng: random.Random, requests: int = REQUESTS, devices: Sequence[
 
 def measure(program: str, limit: int, batch: Batch) -> Optional[Measured]:
     """A script's optimum beside the ways; none where the search is over its limit."""
-    script = script_of(batch.device, batch.wants)
+    script = batch.script()
     ran = run([program, "plan", "--limit", str(limit)], script)
     if ran.status == OVER:
         return None
@@ -139,12 +138,11 @@ def check_ways(program: str, batches: List[Batch]) -> int:
     """Has the program judge the schedules of all ways; gives how many it judged."""
     judged = 0
     for batch in batches:
-        script = script_of(batch.device, batch.wants)
         for name, way in WAYS.items():
             plan = way(batch.device, batch.wants).text()
-            answer = run([program, "check"], script + plan).output.strip()
+            answer = run([program, "check"], batch.script() + plan).output.strip()
             if not answer.startswith(("accepted", "refused")) or answer.startswith(("refused plan", "refused 1 ")):
-                raise ValueError(f"{name}: {answer}\n{script}{plan}")
+                raise ValueError(f"{name}: {answer}\n{batch.script()}{plan}")
             judged += 1
     return judged
 
@@ -167,11 +165,7 @@ def table_of(measured: List[Measured]) -> List[str]:
 
 
 def words(parser: argparse.ArgumentParser) -> None:
-    parser.add_argument("program", nargs="?", default=PROGRAM)
-    parser.add_argument("--scripts", type=int, default=1000)
-    parser.add_argument("--seed", type=int, default=1)
-    parser.add_argument("--limit", type=int, default=MOST)
-    parser.add_argument("--check", type=int, default=100)
+    add_words(parser, scripts=1000, seed=1, limit=MOST, check=100)
     parser.add_argument("--profiles", action="store_true")
 
 

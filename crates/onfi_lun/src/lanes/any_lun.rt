@@ -4,7 +4,7 @@ ghost use Rattle.onfi_timing.specs.Kinds.{operation_of};
 ghost use Rattle.onfi_request.specs.Range.{Fits};
 ghost use Rattle.onfi_chip.specs.declared.post.Post.{Post as APost};
 ghost use Rattle.onfi_chip.specs.Chip.{found_ready, posted, taken};
-ghost use Rattle.onfi_chip.specs.Calls.{AfterFault, HasDone, IsLost, IsNextPost, MayTake, command_of};
+ghost use Rattle.onfi_chip.specs.Calls.{AfterFault, HasDone, IsMissed, IsNextPost, MayTake, command_of};
 ghost use Rattle.onfi_chip.specs.Fetching.{HasRoom};
 ghost use Rattle.onfi_lun.specs.Phases.{IsOf, OthersStay};
 ghost use Rattle.onfi_lun.specs.Lanes.{IsThere, IsInArray, IsRipe, Works, IsPostOf, number_in, left_in, ready_in, behind_command, behind_post};
@@ -88,7 +88,7 @@ impl AnyLun {
         ensures there { IfOk result.1 (λ _. IsThere (C.state chip.new) result.0) }
         ensures others { IfOk result.1 (λ _. OthersStay (number_in self) (C.state chip.old) (C.state chip.new)) }
         ensures number { number_in result.0 ≡ number_in self }
-        ensures lost { IfErr result.1 (λ fault. IsLost fault (C.state chip.old) (C.state chip.new)) }
+        ensures lost { IfErr result.1 (λ fault. IsMissed fetch.kind fault (C.state chip.old) (C.state chip.new)) }
         ensures not_ready { IfErr result.1 (λ fault. fault ≡ PostFault.NotReady → operation_of fetch.kind ≢ Operation.Read) }
     {
         let posting = self.into_posting(now);

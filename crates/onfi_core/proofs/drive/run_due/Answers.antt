@@ -30,7 +30,7 @@ returns-in-Some-clause-step g c other channel =
     let chip' = g.C.Chip.state c.run_due.new.chip in
     let stops = sym c.cause_of.ensures ∙ c.in-Some.is in
     let why = cause_is h.setup (channel_with other h.state chip) c.requires.sound c.requires.agree c.args.due.now c.requires.due c.requires.open c.member-item.result.now c.member-item.ensures c.in-Err.fault c.in-Some.cause stops c.in-Err.ensures.not_ready in
-    let lost = lost_by c.in-Err.fault c.args.due.now.lun c.in-Some.cause chip chip' stops c.in-Err.ensures.err in
+    let lost = lost_by h.setup (channel_with other h.state chip) c.requires.sound c.requires.agree c.args.due.now c.requires.due c.requires.open c.member-item.result.now c.member-item.ensures c.in-Err.fault c.in-Some.cause chip' stops c.in-Err.ensures.err in
     stop_step h.setup (channel_with other h.state chip) channel c.in-Some.cause chip' c.stop.new.self.state c.requires.open why lost (ap (λ (v : HalfView). v.state) c.stop.ensures)
 
 pub returns-in-Some-clause-lanes : goal.returns-in-Some-clause-lanes
@@ -41,17 +41,17 @@ returns-in-None-clause-step g c other channel =
     let h = c.args.half.now in
     let chip = g.C.Chip.state c.args.chip.now in
     let chip' = g.C.Chip.state c.run_due.new.chip in
-    short_step h.setup (channel_with other h.state chip) channel chip' c.requires.open (kept_chip c.in-Err.fault c.args.due.now.lun chip chip' (sym c.cause_of.ensures ∙ c.in-None.is) c.in-Err.ensures.err)
+    short_step h.setup (channel_with other h.state chip) channel chip' c.requires.open (kept_chip c.args.due.now c.member-item.result.now c.in-Err.fault c.args.due.now.lun chip chip' (sym c.cause_of.ensures ∙ c.in-None.is) c.in-Err.ensures.err)
 
 pub returns-in-None-clause-lanes : goal.returns-in-None-clause-lanes
 returns-in-None-clause-lanes g c going =
     let chip = g.C.Chip.state c.args.chip.now in
     let chip' = g.C.Chip.state c.run_due.new.chip in
     let stops = sym c.cause_of.ensures ∙ c.in-None.is in
-    let same = kept_chip c.in-Err.fault c.args.due.now.lun chip chip' stops c.in-Err.ensures.err in
+    let same = kept_chip c.args.due.now c.member-item.result.now c.in-Err.fault c.args.due.now.lun chip chip' stops c.in-Err.ensures.err in
     let lanes = kept_lanes c.in-Err.fault c.args.due.now.lun c.args.lanes.now c.run_due.new.self stops c.in-Err.ensures.memory in
     rw (same, lanes) c.requires.lanes
 
 pub returns-in-None-clause-memory : goal.returns-in-None-clause-memory
 returns-in-None-clause-memory g c e =
-    (refl, kept_chip c.in-Err.fault c.args.due.now.lun (g.C.Chip.state c.args.chip.now) (g.C.Chip.state c.run_due.new.chip) (sym c.cause_of.ensures ∙ c.in-None.is) c.in-Err.ensures.err)
+    (refl, kept_chip c.args.due.now c.member-item.result.now c.in-Err.fault c.args.due.now.lun (g.C.Chip.state c.args.chip.now) (g.C.Chip.state c.run_due.new.chip) (sym c.cause_of.ensures ∙ c.in-None.is) c.in-Err.ensures.err)

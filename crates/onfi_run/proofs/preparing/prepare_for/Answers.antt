@@ -8,7 +8,7 @@ use Rattle.onfi_run.proofs.preparing.prepare_for.Goals as goal
 
 pub returns-in-Ok-Some : goal.returns-in-Ok-Some
 returns-in-Ok-Some c =
-    let device = c.in-Ok.device in
+    let device = c.in-Ok.device.chips in
     let refusal = c.in-Ok-Some.refusal in
     let told = rw c.in-Ok-Some.field-0-is at c.in-Ok-Some.ensures in
     has_wrong_row c.in_ok-rows.rows.items device c.in_ok-rows.ensures (subst (λ l. TellsChips l (Ok device)) c.as_slice.ensures.value c.in-Ok.ensures)

@@ -13,8 +13,8 @@ returns-in-Ok g c =
     let input = c.args.input.now in
     let p = c.in-Ok.prepared in
     let report = c.in_ok-report-in-Ok.report in
-    let prepared = subst (λ x. IsPrepared x input p.rows.items p.device) c.purpose_of.ensures c.in-Ok.ensures in
-    IfOk-weaker c.report_answer.result (λ a. answer_of a ≡ report_answer report) (λ a. IsAnswer c.args.clocked input (answer_of a)) (λ a e. is_report p.rows.items p.device report prepared c.in_ok-report-in-Ok.ensures.report e) c.report_answer.ensures
+    let prepared = subst (λ x. IsPrepared x input p.rows.items p.device.chips) c.purpose_of.ensures c.in-Ok.ensures in
+    IfOk-weaker c.report_answer.result (λ a. answer_of a ≡ report_answer report) (λ a. IsAnswer c.args.clocked input (answer_of a)) (λ a e. is_report p.rows.items p.device.chips report prepared c.in_ok-report-in-Ok.ensures.report e) c.report_answer.ensures
 
 pub returns-in-Err-Refused : goal.returns-in-Err-Refused
 returns-in-Err-Refused g c =

@@ -20,8 +20,8 @@ returns-clause-tells g c =
     let prepared = c.args.prepared.now in
     let opened = c.in_ok-stage in
     let settled = c.in_ok-settled in
-    let there = subst (λ l. AreOpenedOn l prepared.device c.args.limit c.args.gates.items opened.stage.lanes.items) c.as_slice-rows.ensures.value opened.ensures.opened in
-    let behind : AreBehind prepared.rows.items prepared.device c.args.limit c.args.gates.items settled.settled.lanes.items = (opened.stage.lanes.items, there, settled.ensures.lanes) in
+    let there = subst (λ l. AreOpenedOn l prepared.device.chips c.args.limit c.args.gates.items opened.stage.lanes.items) c.as_slice-rows.ensures.value opened.ensures.opened in
+    let behind : AreBehind prepared.rows.items prepared.device.chips c.args.limit c.args.gates.items settled.settled.lanes.items = (opened.stage.lanes.items, there, settled.ensures.lanes) in
     IfOk-weaker c.report_of.result _ _ (λ r tells. (settled.settled, behind, settled.ensures.no_clock, tells)) c.report_of.ensures
 
 pub returns-clause-report : goal.returns-clause-report

@@ -1,5 +1,5 @@
 use Rattle.std.proofs.Common.{sym, ◌∙◌}
-use Rattle.onfi_script.specs.Parts.{parts}
+use Rattle.onfi_log.specs.Parts.{parts}
 use Rattle.onfi_script.specs.PlanText.{lines_of}
 use Rattle.onfi_script.proofs.PlanLemmas.{plan_ended, read_on}
 use Rattle.onfi_script.proofs.plan_text.read_lines.Goals as goal

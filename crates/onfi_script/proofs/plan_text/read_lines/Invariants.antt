@@ -1,5 +1,5 @@
 use Rattle.std.proofs.Common.{◌≡◌, length}
-use Rattle.onfi_script.specs.Parts.{parts}
+use Rattle.onfi_log.specs.Parts.{parts}
 use Rattle.onfi_script.specs.PlanText.{lines_of, plan_after}
 use Rattle.onfi_script.proofs.plan_text.read_lines.Given as goal
 

@@ -2,9 +2,9 @@ use Rattle.std.proofs.Common.{refl, sym, subst}
 use Rattle.onfi_addr.specs.declared.geometry.Geometry.{Geometry}
 use Rattle.onfi_lun.specs.Drive.{HasRun}
 use Rattle.onfi_core.specs.Dues.{after_due, replies_of}
-use Rattle.onfi_batch.specs.Course.{IsFaultOf, state_of}
+use Rattle.onfi_batch.specs.Course.{AfterPhaseFault, IsFaultOf, state_of}
 use Rattle.onfi_core.proofs.MayRunDue.{may_run_due}
-use Rattle.onfi_batch.proofs.Steps.{agree_behind, fault_is, goes_on, kept_by}
+use Rattle.onfi_batch.proofs.Steps.{agree_behind, fault_is, fault_leaves, goes_on, kept_by}
 use Rattle.onfi_batch.proofs.course.Course.run.Goals as goal
 
 pub run_due-requires-clause-due : goal.run_due-requires-clause-due
@@ -48,6 +48,17 @@ returns-in-Ok-clause-err g c =
     let after = after_due h c.args.due (replies_of h.accepted new.faults c.args.due c.in-Ok.ran) in
     kept_by h after old new c.args.due
     (goes_on d.setup h old d.half d.agrees c.args.due c.requires.due c.member.result.1.now e.0 e.1 e.3 after new c.in-Ok.ran ran refl)
+
+pub returns-clause-err : goal.returns-clause-err
+returns-clause-err g c =
+    let d = c.requires.driven in
+    let e = c.member.ensures in
+    let h = state_of c.args.self.now in
+    let old = g.C.Chip.state c.args.chip.now in
+    let new = g.C.Chip.state c.run_due.new.chip in
+    let left = fault_leaves d.setup h old d.half d.agrees c.args.due c.requires.due c.member.result.1.now e.0 e.1 e.3
+    c.in-Err.fault c.args.due.lun new c.in-Err.ensures.err in
+    subst (λ f. AfterPhaseFault h f old new) (sym c.fault_of.ensures) left
 
 pub returns-clause-told : goal.returns-clause-told
 returns-clause-told g c =

@@ -1,28 +1,9 @@
-use Rattle.std.proofs.Common.{refl, sym, ap, ◌∙◌}
+use Rattle.std.proofs.Common.{sym, ap, ◌∙◌}
 use Rattle.onfi_timing.specs.Kinds.{operation_of}
-use Rattle.onfi_request.specs.declared.answer.Answer.TheVariants.{Read}
-use Rattle.onfi_chip.specs.declared.post.Post.{Post}
-use Rattle.onfi_chip.specs.declared.sim.SimChip.{SimChip}
-use Rattle.onfi_chip.proofs.SimCalls.{as_many, posts_there, post_done, is_read}
+use Rattle.onfi_request.specs.Parts.{bytes_out}
 use Rattle.onfi_chip.proofs.sim.SimChipChip.data_out.Goals as goal
 
-pub unreachable-requires : goal.unreachable-requires
-unreachable-requires c =
-    let old = c.args.self.now in
-    let post = c.requires.next.0 in
-    let left = c.requires.next.1 in
-    let h = c.requires.next.2 in
-    let place = c.place-place.ensures post.place h.in_range h.row_is in
-    let told = c.post-post.ensures.taken post left h.ready (posts_there old c.args.now c.args.row post left c.place-place.result place h) in
-    is_read _ c.post-post.result.kind c.post-post.result.answer (ap (λ (q : Post). operation_of q.kind) told.0 ∙ c.requires.next.3) c.post-post.ensures.form c.in_default.not-Read
-
-pub returns-clause-ok : goal.returns-clause-ok
-returns-clause-ok c post left h =
-    let old = c.args.self.now in
-    let place = c.place-place.ensures post.place h.in_range h.row_is in
-    let told = c.post-post.ensures.taken post left h.ready (posts_there old c.args.now c.args.row post left c.place-place.result place h) in
-    let fine = c.count.ensures.fine c.if-count.false in
-    let new : SimChip = record { dies = c.post-post.new.self; calls = c.count.new.self; statuses = old.statuses; arrays = old.arrays } in (
-      ap (λ (q : Post). q.answer) (sym told.0) ∙ c.in-Read.is ∙ ap Read (sym c.in-Read.bytes-is ∙ sym (c.copy_from_slice.ensures.after ∙ c.as_slice.ensures)),
-      post_done old new c.args.now post left c.place-place.result place told.1 (as_many old new fine refl),
-    )
+pub put_out-requires : goal.put_out-requires
+put_out-requires c =
+    let (post, left, next, whole) = c.requires.next in
+    record { next = (post, left, next, ap operation_of whole, c.requires.room ∙ sym (ap (bytes_out c.args.self.now.dies.geometry) whole)) }

@@ -6,6 +6,7 @@ use Rattle.onfi_check.specs.Nodes.{HasMoreNodes}
 use Rattle.onfi_core.specs.declared.planning.PlanStop.{PlanStop}
 use Rattle.onfi_core.specs.declared.planning.PlanStop.TheVariants.{Clock, Over, Memory}
 use Rattle.onfi_core.specs.Kept.{IsSound}
+use Rattle.onfi_core.specs.Stated.{StatesParts}
 use Rattle.onfi_core.specs.Steps.{Plans, Taken, Takes, nothing_to_plan, problem_with}
 use Rattle.onfi_core.specs.View.{HalfView, PlanRefused, StopsBecause, planning_of, refusal_of, taken_of}
 use Rattle.onfi_core.proofs.Plan.{has_lengths, keeps_taken, parts_are}
@@ -56,7 +57,8 @@ plan_wants-next-requires-clause-lengths g c =
     let v = c.args.self.now in
     let sound = subst (λ (x : HalfView). IsSound x.setup x.state) c.self.view_is c.self.invariant.sound in
     let keeps = keeps_taken v.setup v.state (taken_of c.in-Ok.taking) sound c.in-Ok.ensures.takes in
-    subst HasLengths (sym (problem_is g c)) (has_lengths v.setup v.state (taken_of c.in-Ok.taking) sound keeps)
+    let stated = subst (λ (x : HalfView). StatesParts x.setup.geometry x.setup.timing) c.self.view_is c.states_lengths.ensures in
+    subst HasLengths (sym (problem_is g c)) (has_lengths v.setup v.state (taken_of c.in-Ok.taking) stated sound keeps)
 
 pub take_over-requires-clause-plans : goal.take_over-requires-clause-plans
 take_over-requires-clause-plans g c =

@@ -1,19 +1,23 @@
-use Rattle.std.proofs.Common.{◌<◌, replicate, refl, sym, ap, subst, ◌∙◌}
-use Rattle.std.proofs.Math.ListN.{length-replicate}
+use Rattle.std.proofs.Common.{◌<◌, refl, sym, ap, subst, ◌∙◌}
 use Rattle.std.specs.Prelude.{IsSome}
 use Rattle.std.specs.Option.{unwrap_or}
-use Rattle.onfi_request.specs.declared.answer.Answer.{Answer}
+use Rattle.onfi_request.specs.declared.answer.Answer.TheVariants.{Read as Gave}
+use Rattle.onfi_die.specs.declared.page.Page.TheVariants.{Erased}
 use Rattle.onfi_die.specs.declared.shape.Shape.{Shape}
+use Rattle.onfi_die.specs.Block.{put_out, shown}
 use Rattle.onfi_die.specs.Contents.{fresh, answer_of}
 use Rattle.onfi_die.specs.Prepared.{kind_of, HasRoom, IsAnswerTo}
 use Rattle.onfi_die.specs.Requests.{request_of}
 use Rattle.onfi_die.specs.Store.{Stored, IsKept, blocks_of}
-use Rattle.onfi_die.proofs.Keeping.{stored, shape_found, blocks_ran, answer_ran, put_shape, put_still, put_no_more, not_kept, read_if_none, read_changes_nothing, read_of_none, read_is_answer}
+use Rattle.onfi_die.proofs.Keeping.{stored, shape_found, blocks_ran, answer_ran, put_shape, put_still, put_no_more, not_kept, read_if_none, read_changes_nothing, read_of_none}
 use Rattle.onfi_die.proofs.store.Store.run.Goals as goal
 
-pub read_erased-requires : goal.read_erased-requires
-read_erased-requires c =
+pub read-requires-clause-read : goal.read-requires-clause-read
+read-requires-clause-read c =
     read_if_none c.args.operation c.args.self.now c.self.inside.kept.entries c.args.place.lun c.args.place.block c.key_of.result (ap (λ (s : Stored). s.kept) (sym c.self.view_is)) c.key_of.ensures c.in_default.ensures.value c.requires.kept
+
+pub read-requires-clause-room : goal.read-requires-clause-room
+read-requires-clause-room c = subst (λ (s : Stored). HasRoom s.device.shape.bytes c.args.operation) (sym c.self.view_is) c.requires.room
 
 pub returns-in_default-clause-blocks : goal.returns-in_default-clause-blocks
 returns-in_default-clause-blocks c =
@@ -26,15 +30,13 @@ returns-in_default-clause-answer c =
     let none = not_kept c.args.self.now c.self.inside.kept.entries c.args.place.lun c.args.place.block c.key_of.result (ap (λ (s : Stored). s.kept) (sym c.self.view_is)) c.key_of.ensures c.in_default.ensures.value in
     let read = read_if_none c.args.operation c.args.self.now c.self.inside.kept.entries c.args.place.lun c.args.place.block c.key_of.result (ap (λ (s : Stored). s.kept) (sym c.self.view_is)) c.key_of.ensures c.in_default.ensures.value c.requires.kept in
     let r = request_of c.args.place c.args.operation in
-    c.read_erased.ensures c.args.self.now.device.shape.bytes c.requires.room ∙ sym (read_of_none c.args.self.now.device r read)
+    c.read.ensures.answer ∙ ap (λ (s : Stored). Gave (put_out s.device.shape (kind_of c.args.operation) (shown s.device.shape.bytes Erased))) c.self.view_is
+    ∙ sym (read_of_none c.args.self.now.device r read)
     ∙ ap (λ o. answer_of c.args.self.now.device r (unwrap_or o (fresh c.args.self.now.device))) (sym none)
 
 pub returns-in_default-clause-form : goal.returns-in_default-clause-form
 returns-in_default-clause-form c =
-    let read = read_if_none c.args.operation c.args.self.now c.self.inside.kept.entries c.args.place.lun c.args.place.block c.key_of.result (ap (λ (s : Stored). s.kept) (sym c.self.view_is)) c.key_of.ensures c.in_default.ensures.value c.requires.kept in
-    let bytes = c.args.self.now.device.shape.bytes in
-    subst (λ (a : Answer). IsAnswerTo bytes (kind_of c.args.operation) a) (sym (c.read_erased.ensures bytes c.requires.room))
-    (read_is_answer bytes (kind_of c.args.operation) (replicate bytes 255) read (length-replicate bytes 255))
+    subst (λ (s : Stored). IsAnswerTo s.device.shape (kind_of c.args.operation) c.read.result) c.self.view_is c.read.ensures.form
 
 pub run-requires-clause-page : goal.run-requires-clause-page
 run-requires-clause-page c =
@@ -66,7 +68,7 @@ returns-clause-answer c =
 pub returns-clause-form : goal.returns-clause-form
 returns-clause-form c =
     let shape = shape_found c.self.inside.shape c.self.inside.kept.entries c.key_of.result c.in-Some.kept.now c.self.invariant c.in-Some.ensures.value in
-    subst (λ (s : Shape). IsAnswerTo s.bytes (kind_of c.args.operation) c.run.result) (shape ∙ ap (λ (s : Stored). s.device.shape) c.self.view_is) c.run.ensures.form
+    subst (λ (s : Shape). IsAnswerTo s (kind_of c.args.operation) c.run.result) (shape ∙ ap (λ (s : Stored). s.device.shape) c.self.view_is) c.run.ensures.form
 
 pub returns-clause-others : goal.returns-clause-others
 returns-clause-others c lun block h =

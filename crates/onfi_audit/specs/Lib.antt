@@ -1,0 +1,3 @@
+pub mod Audit
+pub mod Legal
+pub mod Laws

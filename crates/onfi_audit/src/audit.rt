@@ -1,0 +1,246 @@
+ghost use Rattle.std.specs.Prelude.{◌≡◌, ◌≢◌, true, false, ◌<◌, ◌≤◌, length, IfOk, IfErr};
+ghost use Rattle.onfi_request.specs.declared.want.Want.{Want as AWant};
+ghost use Rattle.onfi_audit.specs.Audit.{Audit as Left, IsAccepted, IsAccepting, TellsFault, accepting, first_at, opening, readied, request_of, resuming};
+
+mod judging;
+
+use crate::luns::Luns;
+use crate::requests::first_at;
+use crate::stage::LunStage;
+use crate::waiting::Waiting;
+use onfi_addr::plane_at;
+use onfi_flight::Flight;
+use onfi_group::Rules;
+use onfi_request::Want;
+use onfi_timing::{Kind, Timing};
+use std::alloc::Global;
+use std::marker::Model;
+use thiserror::Error;
+
+/// What the phases of a log that were judged have left: from when on the bus is free, what each LUN does, and the requests that wait.
+/// It takes memory for requests that wait, and for nothing else.
+#[derive(Drop)]
+pub struct Audit {
+    timing: Timing,
+    rules: Rules,
+    bus_free: u64,
+    luns: Luns,
+    wants: Waiting,
+    accepted: u64,
+}
+
+impl Model for Audit {
+    ghost use Rattle.std.specs.Prelude.{◌<◌};
+    ghost use Rattle.std.specs.List.{AllByRecursion as Each};
+    ghost use Rattle.onfi_audit.specs.Audit.{Audit as Left};
+
+    ghost Value = { Left };
+
+    ghost view = { λ a. record {
+      timing = a.timing;
+      rules = a.rules;
+      bus_free = a.bus_free;
+      luns = a.luns;
+      wants = a.wants;
+      accepted = a.accepted;
+    } };
+
+    ghost invariant = { λ a. Each (λ w. w.id < a.accepted) a.wants };
+}
+
+/// Why a request isn't accepted.
+#[derive(Clone, Copy, Debug, PartialEq, Eq, Error)]
+pub enum AcceptFault {
+    /// The channel has no such LUN.
+    #[error("the LUN isn't there")]
+    NoLun,
+    /// An erase that names another page than 0.
+    #[error("an erase names page 0")]
+    ErasePage,
+    /// The lengths state no post for so many sectors.
+    #[error("sectors without lengths")]
+    NoLengths,
+    /// There is no further number.
+    #[error("2^64 requests were accepted")]
+    Full,
+    /// Memory was refused.
+    #[error("memory was refused")]
+    Memory,
+}
+
+impl Audit {
+    /// A log that begins with the channel as a flight has it: lengths, rules, bus and LUNs. Nothing waits yet.
+    pub fn of(alloc: Global, flight: &Flight) -> Audit
+        ensures { result ≡ opening flight.now.now }
+    {
+        Audit {
+            timing: flight.timing(),
+            rules: flight.rules(),
+            bus_free: flight.bus_free(),
+            luns: Luns::of(flight.luns()),
+            wants: Waiting::new(alloc),
+            accepted: 0,
+        }
+    }
+
+    /// A log that goes on where another stood: lengths and rules, from when on the bus is free in ns of the channel's clock, what
+    /// each LUN does, and how many requests were accepted, which is the number of the next one. Nothing waits.
+    pub fn resume(
+        alloc: Global,
+        timing: Timing,
+        rules: Rules,
+        bus_free: u64,
+        stages: &[LunStage],
+        accepted: u64,
+    ) -> Audit
+        requires { length stages.now ≤ 8 }
+        ensures { result ≡ resuming timing rules bus_free stages.now accepted }
+    {
+        Audit {
+            timing,
+            rules,
+            bus_free,
+            luns: Luns::copy_of(stages),
+            wants: Waiting::new(alloc),
+            accepted,
+        }
+    }
+
+    /// The lengths of phases.
+    pub fn timing(&self) -> Timing
+        ensures { result ≡ self.now.timing }
+    {
+        self.timing
+    }
+
+    /// Which operations may be grouped.
+    pub fn rules(&self) -> Rules
+        ensures { result ≡ self.now.rules }
+    {
+        self.rules
+    }
+
+    /// How many requests were accepted: the number of the next one.
+    pub fn accepted(&self) -> u64
+        ensures { result ≡ self.now.accepted }
+    {
+        self.accepted
+    }
+
+    /// From when on the bus is free, in ns of the channel's clock.
+    pub fn bus_free(&self) -> u64
+        ensures { result ≡ self.now.bus_free }
+    {
+        self.bus_free
+    }
+
+    /// What each LUN does.
+    pub fn luns(&self) -> &[LunStage]
+        ensures { result.now ≡ self.now.luns }
+    {
+        self.luns.as_slice()
+    }
+
+    /// The requests that wait, in the order in which they were accepted, with their numbers.
+    pub fn wants(&self) -> &[Want]
+        ensures { result.now ≡ self.now.wants }
+    {
+        self.wants.as_slice()
+    }
+
+    /// The request that waits first on that block.
+    pub fn first_on(&self, lun: u8, block: u16) -> Option<Want>
+        ensures { result ≡ first_at self.now.wants lun block }
+    {
+        first_at(self.wants.as_slice(), lun, block)
+    }
+
+    /// Accepts a request after those before it; its number, counted from 0, is answered.
+    ///
+    /// # Errors
+    /// The first of `NoLun`, `ErasePage`, `NoLengths`, `Full`, `Memory`; then nothing changes.
+    pub fn accept(&mut self, kind: Kind, lun: u8, block: u16, page: u16) -> Result<u64, AcceptFault>
+        ensures number { IfOk result (λ number. number ≡ self.old.accepted) }
+        ensures accepted { IfOk result (λ _. self.new ≡ accepting self.old (request_of self.old kind lun block page)) }
+        ensures is { IfOk result (λ _. IsAccepted self.old (request_of self.old kind lun block page)) }
+        ensures refused { IfErr result (λ fault. (self.new ≡ self.old) × TellsFault self.old kind lun page fault) }
+    {
+        if usize::from(lun) >= self.luns.as_slice().len() {
+            return Err(AcceptFault::NoLun);
+        }
+        if is_page_of_erase(kind, page) {
+            return Err(AcceptFault::ErasePage);
+        }
+        if !self.timing.states(kind) {
+            return Err(AcceptFault::NoLengths);
+        }
+        if self.accepted == u64::MAX {
+            return Err(AcceptFault::Full);
+        }
+        let number = self.accepted;
+        let want = Want {
+            id: number,
+            kind,
+            lun,
+            plane: plane_at(self.rules.plane_bits, block),
+            block,
+            page,
+        };
+        if self.wants.push(want).is_err() {
+            return Err(AcceptFault::Memory);
+        }
+        self.accepted += 1;
+        Ok(number)
+    }
+
+    /// Takes back the request that was accepted last, while it waits: the next one gets its number.
+    pub fn withdraw(&mut self)
+        requires { IsAccepting self.old }
+        ensures { (before : Left) (want : AWant) → self.old ≡ accepting before want → self.new ≡ before }
+    {
+        self.wants.pop();
+        self.accepted -= 1;
+    }
+
+    /// The LUN is reported ready at that moment, in ns: what its group has next may come from then on, or as it might before
+    /// where that is sooner. A LUN that is free stays so.
+    pub fn ready(&mut self, lun: u8, moment: u64)
+        ensures { self.new ≡ readied self.old lun moment }
+    {
+        let at = usize::from(lun);
+        if let Some(stage) = self.luns.as_slice().get(at) {
+            let sooner = ready_by(stage, moment);
+            self.luns.set(at, sooner);
+        }
+    }
+}
+
+ghost use Rattle.onfi_timing.specs.declared.kind.Kind.TheVariants.{Erase};
+ghost use Rattle.onfi_audit.specs.Audit.{readied_stage};
+
+// Whether an erase names another page than 0.
+fn is_page_of_erase(kind: Kind, page: u16) -> bool
+    ensures other { result ≡ true → (kind ≡ Erase) × (page ≢ 0) }
+    ensures none { result ≡ false → kind ≡ Erase → page ≡ 0 }
+{
+    kind == Kind::Erase && page != 0
+}
+
+// What a LUN does that is ready then.
+fn ready_by(stage: &LunStage, moment: u64) -> LunStage
+    ensures { result ≡ readied_stage moment stage.now }
+{
+    match stage {
+        LunStage::Free { since } => LunStage::Free { since: *since },
+        LunStage::Running { group, next, ready } => LunStage::Running {
+            group: group.copy(),
+            next: *next,
+            ready: (*ready).min(moment),
+        },
+        LunStage::Open { group, more, ready } => LunStage::Open {
+            group: group.copy(),
+            more: (*more).min(moment),
+            ready: (*ready).min(moment),
+        },
+    }
+}

@@ -1,0 +1,5 @@
+pub mod PartsLemmas
+pub mod Steps
+pub mod Answering
+pub mod Reports
+pub mod LegalLogs

@@ -1,0 +1,94 @@
+-- Laws of logs that are answered.
+use Rattle.std.specs.Prelude.{◌≡◌, ℕ, ◌<◌, ◌≤◌, min, Bool, List, [], ◌∷◌, ◌++◌, length, map, Option, Some, None, slice_get, slice_set}
+use Rattle.onfi_request.specs.declared.want.Want.{Want}
+use Rattle.onfi_problem.specs.declared.lun_state.LunState.{LunState}
+use Rattle.onfi_problem.specs.declared.lun_state.LunState.TheVariants.{Free, Running}
+use Rattle.onfi_problem.specs.Moves.{Move, placed}
+use Rattle.onfi_problem.specs.Problem.{Problem, IsProblem}
+use Rattle.onfi_audit.specs.Audit.{Audit, opening}
+use Rattle.onfi_audit.specs.Legal.{Accept, Audited, Entry, IsLineOf, Leads, Phase, lines_of, wants_of, with_wants}
+use Rattle.onfi_audit.specs.declared.line.Line.{Line}
+use Rattle.onfi_log.specs.declared.entry.LogEntry.TheVariants as says
+use Rattle.onfi_log.specs.declared.line.LogLine.{LogLine}
+use Rattle.onfi_log.specs.declared.readies.Readies.{Readies}
+use Rattle.onfi_log.specs.declared.requests.Requests.{Requests}
+use Rattle.onfi_log.specs.Entry.{entry_of}
+use Rattle.onfi_log.specs.Line.{line_of}
+use Rattle.onfi_log.specs.Parts.{parts}
+use Rattle.onfi_log.specs.Text.{Answer, AnswersLog, AnswersLogBy}
+
+-- Logs of phases alone
+
+-- the text says that phase
+abbrev pub IsSaid : List ℕ → Line → Type 0
+IsSaid text line = (l : LogLine) × (line_of text ≡ Some l) × (l.phase ≡ line)
+
+-- each of the texts but the last, which has no line end, says one of the phases
+abbrev pub Says : List (List ℕ) → List Line → Type 0
+Says [] lines = lines ≡ []
+Says (last ∷ []) lines = lines ≡ []
+Says (text ∷ next ∷ more) [] = ⊥
+Says (text ∷ next ∷ more) (line ∷ lines) = IsSaid text line × Says (next ∷ more) lines
+
+-- what is answered as legal is: with the requests that it mentions, and after what came before, its phases lead from the opening on
+abbrev pub LegalLaw : Type 0
+LegalLaw = (p : Problem) (before : List Entry) (a : Audit) (requests : Requests) (all : Bool) (text : List ℕ) (answer : Answer)
+    → IsProblem p → Audited (opening p) before a → AnswersLog requests a all text answer → answer.status ≡ 0
+    → (entries : List Entry) × (q : Problem) × Says (parts 10 text) (lines_of entries)
+    × Leads (with_wants p (wants_of (before ++ entries))) (lines_of (before ++ entries)) q
+
+-- Logs with reports
+
+-- a LUN that is ready at that moment, or before
+abbrev pub ready_state : ℕ → LunState → LunState
+ready_state moment (Free since) = Free since
+ready_state moment (Running group next ready) = Running group next (min ready moment)
+
+abbrev pub ready_on : Problem → ℕ → ℕ → Option LunState → Problem
+ready_on p lun moment None = p
+ready_on p lun moment (Some s) = record p { luns = slice_set p.luns lun (ready_state moment s) }
+
+-- the problem with that LUN ready then
+abbrev pub ready_by : Problem → ℕ → ℕ → Problem
+ready_by p lun moment = ready_on p lun moment (slice_get p.luns lun)
+
+-- what a log has: a request that it mentions, a phase, or a report that a LUN is ready at a moment
+pub data Event : Type 0 where
+  Mentions : Want → Event
+  Runs : Line → Event
+  Reports : ℕ → ℕ → Event
+
+abbrev pub event_of : Entry → Event
+event_of (Accept w) = Mentions w
+event_of (Phase line) = Runs line
+
+abbrev pub mentioned : List Event → List Want
+mentioned [] = []
+mentioned (Mentions w ∷ events) = w ∷ mentioned events
+mentioned (Runs line ∷ events) = mentioned events
+mentioned (Reports lun moment ∷ events) = mentioned events
+
+-- each of the texts but the last, which has no line end, says one of the phases and reports
+abbrev pub SaysBy : Readies → List (List ℕ) → List Event → Type 0
+SaysBy readies texts [] = length texts ≡ 1
+SaysBy readies texts (Mentions w ∷ events) = SaysBy readies texts events
+SaysBy readies [] (Runs line ∷ events) = ⊥
+SaysBy readies (text ∷ texts) (Runs line ∷ events) =
+    ((l : LogLine) × (entry_of readies text ≡ Some (says.Phase l)) × (l.phase ≡ line)) × SaysBy readies texts events
+SaysBy readies [] (Reports lun moment ∷ events) = ⊥
+SaysBy readies (text ∷ texts) (Reports lun moment ∷ events) = (entry_of readies text ≡ Some (says.Ready lun moment)) × SaysBy readies texts events
+
+-- each phase is that of a move of the problem as it then stands, with the LUNs ready that were reported so when the bus was free,
+-- and that problem is left
+abbrev pub LeadsBy : Problem → List Event → Problem → Type 0
+LeadsBy p [] q = p ≡ q
+LeadsBy p (Mentions w ∷ events) q = LeadsBy p events q
+LeadsBy p (Runs line ∷ events) q = (move : Move) × IsLineOf p move line × LeadsBy (placed p move line.start) events q
+LeadsBy p (Reports lun moment ∷ events) q = (lun < length p.luns) × (p.bus_free ≤ moment) × LeadsBy (ready_by p lun moment) events q
+
+-- .. the same of a log with reports: its phases lead from the opening on where LUNs are ready as reported
+abbrev pub ReportedLaw : Type 0
+ReportedLaw = (p : Problem) (before : List Entry) (a : Audit) (requests : Requests) (readies : Readies) (all : Bool) (text : List ℕ) (answer : Answer)
+    → IsProblem p → Audited (opening p) before a → AnswersLogBy requests readies a all text answer → answer.status ≡ 0
+    → (events : List Event) × (q : Problem) × SaysBy readies (parts 10 text) events
+    × LeadsBy (with_wants p (mentioned (map event_of before ++ events))) (map event_of before ++ events) q

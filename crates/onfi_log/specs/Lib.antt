@@ -1,0 +1,6 @@
+pub mod Parts
+pub mod Line
+pub mod Entry
+pub mod Judging
+pub mod Text
+pub mod Laws

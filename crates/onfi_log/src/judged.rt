@@ -1,0 +1,356 @@
+//! A log as far as it was judged.
+ghost use Rattle.std.specs.Prelude.{◌≡◌, ◌<◌, ◌≤◌, ◌^◌, ◌*◌, ◌+◌, ℕ, true, false, ◌↔◌, None, IsTrue, IsOk, IfOk, IfErr, IfSome, IfNone, slice_index_or, length};
+ghost use Rattle.std.specs.List.{AllByRecursion as Each};
+ghost use Rattle.onfi_audit.specs.Audit.{IsAccepting, MayCome, MayComeLater, Tells, after_line, accepting, readied};
+ghost use Rattle.onfi_audit.specs.Audit.{Audit as AnAudit};
+ghost use Rattle.onfi_request.specs.declared.want.Want.{Want as AWant};
+ghost use Rattle.onfi_audit.specs.declared.breach.LogBreach.TheVariants.{UnknownRequest};
+ghost use Rattle.onfi_log.specs.Entry.{IsInRange};
+ghost use Rattle.onfi_log.specs.Judging as spec;
+ghost use Rattle.onfi_log.specs.Judging.{Judged as Log};
+
+use crate::entry::LogEntry;
+use crate::line::LogLine;
+use crate::requests::Requests;
+use onfi_audit::{Audit, Line, LogBreach, LunStage};
+use onfi_request::Want;
+use onfi_timing::{Kind, Operation};
+use std::alloc::{AllocError, Global};
+use std::marker::Model;
+
+/// A log as far as it was judged.
+#[derive(Drop)]
+pub(crate) struct Judged {
+    requests: Requests,
+    audit: Audit,
+    // Of each block one more than the greatest number that a request had which began there.
+    greatest: Vec<u64>,
+}
+
+impl Model for Judged {
+    ghost use Rattle.onfi_log.specs.Judging.{Judged as Log};
+
+    ghost Value = { Log };
+
+    ghost view = { λ j. record { requests = j.requests; audit = j.audit; greatest = j.greatest.items } };
+}
+
+/// What a request asks for whose command does this.
+fn kind_of(operation: Operation) -> Kind
+    ensures { result ≡ spec.kind_of operation }
+{
+    match operation {
+        Operation::Read => Kind::Read,
+        Operation::Program => Kind::Program,
+        Operation::Erase => Kind::Erase,
+    }
+}
+
+/// Whether a request of that operation may name the page.
+fn takes_page(operation: Operation, page: u16) -> bool
+    ensures { result ≡ spec.takes_page operation page }
+{
+    match operation {
+        Operation::Read | Operation::Program => true,
+        Operation::Erase => page == 0,
+    }
+}
+
+/// Why a command can't be of request `number` where that one waits first on its block.
+fn misnamed_among(line: &Line, number: u64, first: Option<Want>) -> Option<LogBreach>
+    ensures { result ≡ spec.misnamed_among line.now number first }
+{
+    let first = first?.id;
+    if first == number {
+        None
+    } else if first < number {
+        Some(LogBreach::BlockOrder {
+            earlier: first,
+            later: number,
+        })
+    } else {
+        Some(unknown(line))
+    }
+}
+
+/// Why a command can't be of request `number` after requests of which the greatest number is one less than that.
+fn misnamed_after(line: &Line, number: u64, greatest: u64) -> Option<LogBreach>
+    requires { number < 2 ^ 63 }
+    ensures { result ≡ spec.misnamed_after line.now number greatest }
+{
+    if greatest <= number {
+        None
+    } else if greatest == number + 1 {
+        Some(unknown(line))
+    } else {
+        Some(LogBreach::BlockOrder {
+            earlier: number,
+            later: greatest - 1,
+        })
+    }
+}
+
+/// No request that waits is the line's.
+fn unknown(line: &Line) -> LogBreach
+    ensures { result ≡ UnknownRequest line.now.lun line.now.block }
+{
+    LogBreach::UnknownRequest {
+        lun: line.lun,
+        block: line.block,
+    }
+}
+
+/// Where the number of a block stands.
+fn block_at(line: &Line) -> usize
+    ensures { result ≡ spec.block_at line.now }
+{
+    usize::from(line.lun) * 65_536 + usize::from(line.block)
+}
+
+/// So many zeros.
+fn zeros(alloc: Global, count: usize) -> Result<Vec<u64>, AllocError>
+    ensures count { IfOk result (λ v. length v.items ≡ count) }
+    ensures zero { IfOk result (λ v. Each (λ n. n ≡ 0) v.items) }
+{
+    Vec::from_elem(alloc, 0u64, count)
+}
+
+/// How many blocks the LUNs of a channel have.
+const BLOCKS: usize = 8 * 65_536;
+
+impl Judged {
+    /// A log of which nothing was judged.
+    ///
+    /// # Errors
+    /// Where memory was refused.
+    pub(crate) fn of(alloc: Global, requests: Requests, audit: Audit) -> Result<Judged, AllocError>
+        ensures requests { IfOk result (λ j. j.requests ≡ requests) }
+        ensures audit { IfOk result (λ j. j.audit ≡ audit) }
+        ensures fresh { IfOk result (λ j. spec.IsFresh requests j.greatest) }
+    {
+        let greatest = match requests {
+            Requests::Accepted => Vec::new(alloc),
+            Requests::Mentioned => zeros(alloc, BLOCKS)?,
+        };
+        Ok(Judged {
+            requests,
+            audit,
+            greatest,
+        })
+    }
+
+    /// Whether the line is a command that begins a request.
+    fn begins(&self, line: &Line) -> bool
+        ensures { result ≡ spec.begins self.now.audit line.now }
+    {
+        if line.is_post {
+            return false;
+        }
+        match self.audit.luns().get(usize::from(line.lun)) {
+            Some(LunStage::Free { .. } | LunStage::Open { .. }) => true,
+            Some(LunStage::Running { .. }) | None => false,
+        }
+    }
+
+    /// Whether the line, which begins a request where `begins` says so, brings it.
+    fn brings(&self, begins: bool, line: &Line) -> bool
+        requires { begins ≡ spec.begins self.now.audit line.now }
+        ensures { result ≡ spec.brings self.now line.now }
+    {
+        match self.requests {
+            Requests::Accepted => false,
+            Requests::Mentioned => begins && takes_page(line.operation, line.page),
+        }
+    }
+
+    /// Accepts the request that the line brings; whether it brings one.
+    ///
+    /// # Errors
+    /// Where memory was refused.
+    fn bring(&mut self, begins: bool, line: &Line) -> Result<bool, AllocError>
+        requires { begins ≡ spec.begins self.old.audit line.now }
+        ensures brought { IfOk result (λ b. (b ≡ spec.brings self.old line.now) × (self.new ≡ spec.bringing self.old line.now)) }
+    {
+        if !self.brings(begins, line) {
+            return Ok(false);
+        }
+        let kind = kind_of(line.operation);
+        match self.audit.accept(kind, line.lun, line.block, line.page) {
+            Ok(_) => Ok(true),
+            Err(_) => Err(AllocError),
+        }
+    }
+
+    /// The greatest number of a request that began on the line's block, and one more; 0 where none had one.
+    fn greatest_at(&self, line: &Line) -> u64
+        ensures { result ≡ slice_index_or self.now.greatest (spec.block_at line.now) 0 }
+    {
+        self.greatest.get(block_at(line)).copied().unwrap_or(0)
+    }
+
+    /// Why the command that begins a request, where `begins` says so, can't be of the one that the line names.
+    fn misnamed(&self, begins: bool, line: &LogLine) -> Option<LogBreach>
+        requires begins { begins ≡ spec.begins self.now.audit line.now.phase }
+        requires small { IfSome line.now.request (λ number. number < 2 ^ 63) }
+        ensures { result ≡ spec.misnamed self.now line.now }
+    {
+        if !begins {
+            return None;
+        }
+        let number = line.request?;
+        let phase = &line.phase;
+        match self.requests {
+            Requests::Accepted => misnamed_among(
+                phase,
+                number,
+                self.audit.first_on(phase.lun, phase.block),
+            ),
+            Requests::Mentioned => misnamed_after(phase, number, self.greatest_at(phase)),
+        }
+    }
+
+    /// Notes the number of the request that the line began, where `begins` says so.
+    fn note(&mut self, begins: bool, line: &LogLine)
+        requires small { IfSome line.now.request (λ number. number < 2 ^ 63) }
+        ensures { self.new ≡ record self.old { greatest = spec.noted begins self.old.greatest line.now } }
+    {
+        if !begins {
+            return;
+        }
+        let Some(number) = line.request else {
+            return;
+        };
+        let greatest = self.greatest_at(&line.phase).max(number + 1);
+        let at = block_at(&line.phase);
+        if at < self.greatest.len() {
+            self.greatest[at] = greatest;
+        }
+    }
+
+    /// Runs the phase though it may start too soon; whether it ran.
+    fn run_anyway(&mut self, line: &Line) -> bool
+        requires { line.now.start < 2 ^ 62 }
+        ensures ran { IsTrue result ↔ MayComeLater self.old.audit line.now }
+        ensures after { result ≡ true → self.new ≡ record self.old { audit = after_line self.old.audit line.now } }
+        ensures unchanged { result ≡ false → self.new ≡ self.old }
+    {
+        self.audit.run_anyway(line)
+    }
+
+    /// Takes back the request that was accepted last.
+    fn withdraw(&mut self)
+        requires { IsAccepting self.old.audit }
+        ensures { (before : AnAudit) (want : AWant) → self.old.audit ≡ accepting before want → self.new ≡ record self.old { audit = before } }
+    {
+        self.audit.withdraw();
+    }
+
+    /// Goes on after a line that breaks a condition, and that began and brought a request as `begins` and `brought` say.
+    fn go_on(&mut self, begins: bool, brought: bool, line: &LogLine)
+        requires from { (j : Log) × (self.old ≡ spec.bringing j line.now.phase) × (begins ≡ spec.begins j.audit line.now.phase) × (brought ≡ spec.brings j line.now.phase) }
+        requires small { IfSome line.now.request (λ number. number < 2 ^ 63) }
+        requires start { line.now.phase.start < 2 ^ 62 }
+        ensures { (j : Log) → self.old ≡ spec.bringing j line.now.phase → begins ≡ spec.begins j.audit line.now.phase
+            → brought ≡ spec.brings j line.now.phase → spec.GoesOnBy j line.now self.new }
+    {
+        if self.run_anyway(&line.phase) {
+            self.note(begins, line);
+        } else if brought {
+            self.withdraw();
+        }
+    }
+
+    /// Judges the phase, which runs if it breaks no condition.
+    fn judge(&mut self, line: &Line) -> Result<(), LogBreach>
+        requires { line.now.start < 2 ^ 62 }
+        ensures exactly { IsOk result ↔ MayCome self.old.audit line.now }
+        ensures after { IfOk result (λ _. self.new ≡ record self.old { audit = after_line self.old.audit line.now }) }
+        ensures broken { IfErr result (Tells self.old.audit line.now) }
+        ensures unchanged { IfErr result (λ _. self.new ≡ self.old) }
+    {
+        self.audit.judge(line)
+    }
+
+    /// The condition that the phase breaks, which is misnamed as `misnamed` says; if it breaks none it runs.
+    fn find_breach(&mut self, misnamed: Option<LogBreach>, line: &Line) -> Option<LogBreach>
+        requires { line.now.start < 2 ^ 62 }
+        ensures none { IfNone result ((misnamed ≡ None) × MayCome self.old.audit line.now × (self.new ≡ record self.old { audit = after_line self.old.audit line.now })) }
+        ensures breaks { IfSome result (spec.BreaksBy misnamed self.old.audit line.now) }
+        ensures unchanged { IfSome result (λ _. self.new ≡ self.old) }
+    {
+        if misnamed.is_some() {
+            return misnamed;
+        }
+        self.judge(line).err()
+    }
+
+    /// Judges the phase of the next line: the condition that it breaks, if it breaks one.
+    ///
+    /// # Errors
+    /// Where memory was refused.
+    fn step(&mut self, line: &LogLine) -> Result<Option<LogBreach>, AllocError>
+        requires small { IfSome line.now.request (λ number. number < 2 ^ 63) }
+        requires start { line.now.phase.start < 2 ^ 62 }
+        ensures { IfOk result (λ breach. spec.Steps self.old line.now breach self.new) }
+    {
+        let begins = self.begins(&line.phase);
+        let misnamed = self.misnamed(begins, line);
+        let brought = self.bring(begins, &line.phase)?;
+        let breach = self.find_breach(misnamed, &line.phase);
+        match breach {
+            None => self.note(begins, line),
+            Some(_) => self.go_on(begins, brought, line),
+        }
+        Ok(breach)
+    }
+
+    /// Why the LUN's status can't have reported it ready then.
+    fn misreported(&self, lun: u8, moment: u64) -> Option<LogBreach>
+        ensures { result ≡ spec.misreported self.now.audit lun moment }
+    {
+        if usize::from(lun) >= self.audit.luns().len() {
+            return Some(LogBreach::NoLun { lun });
+        }
+        let bus_free = self.audit.bus_free();
+        if moment < bus_free {
+            return Some(LogBreach::BusNotFree {
+                start: moment,
+                bus_free,
+            });
+        }
+        None
+    }
+
+    /// The LUN is ready from that moment on.
+    fn ready(&mut self, lun: u8, moment: u64)
+        ensures { self.new ≡ record self.old { audit = readied self.old.audit lun moment } }
+    {
+        self.audit.ready(lun, moment);
+    }
+
+    /// Takes it that the LUN's status reported it ready then: the condition that this breaks, if it breaks one.
+    fn report(&mut self, lun: u8, moment: u64) -> Option<LogBreach>
+        ensures breach { result ≡ spec.misreported self.old.audit lun moment }
+        ensures after { self.new ≡ spec.after_report self.old lun moment result }
+    {
+        let breach = self.misreported(lun, moment);
+        if breach.is_none() {
+            self.ready(lun, moment);
+        }
+        breach
+    }
+
+    /// Judges what the next line says: the condition that it breaks, if it breaks one.
+    ///
+    /// # Errors
+    /// Where memory was refused.
+    pub(crate) fn take(&mut self, entry: &LogEntry) -> Result<Option<LogBreach>, AllocError>
+        requires { IsInRange entry.now }
+        ensures { IfOk result (λ breach. spec.Takes self.old entry.now breach self.new) }
+    {
+        match entry {
+            LogEntry::Phase(line) => self.step(line),
+            LogEntry::Ready { lun, moment } => Ok(self.report(*lun, *moment)),
+        }
+    }
+}

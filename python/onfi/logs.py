@@ -1,0 +1,239 @@
+"""Logs of a channel's phases, of any length: which phase breaks which condition."""
+
+from __future__ import annotations
+
+import ctypes
+import enum
+from dataclasses import dataclass
+from typing import Any, Callable, Dict, Iterable, Iterator, List, Optional, Sequence, Tuple, Union
+
+from onfi.calls import DONE, Problem, refusal, text_audit
+from onfi.library import library
+from onfi.model import Channel, Kind, Lengths, Lun, Phase, Spans, Want
+from onfi.refused import REFUSALS, BadKind, BadLun, Illegal, Refused
+from onfi.structs import CAudit, CLogBroken, CPhase, number
+
+
+class LogCondition(enum.Enum):
+    """What a phase has to keep, so that a log stays legal."""
+
+    NO_LUN = "NoLun"
+    """Its LUN is there."""
+    NOTHING_RUNS = "NothingRuns"
+    """A post is of a LUN that has one left."""
+    OTHER_PHASE = "OtherPhase"
+    """A LUN goes on with the next phase of its group."""
+    UNKNOWN_REQUEST = "UnknownRequest"
+    """A command is of a request that waits."""
+    BLOCK_ORDER = "BlockOrder"
+    """Of two requests on one block the earlier begins first."""
+    NOT_GROUPED = "NotGrouped"
+    """A command makes a group with those of its LUN before it."""
+    BUS_NOT_FREE = "BusNotFree"
+    """It starts once the bus is free."""
+    LUN_NOT_FREE = "LunNotFree"
+    """A group starts once its LUN is free."""
+    NOT_READY = "NotReady"
+    """A further phase of a group starts once the wait after the one before it is over."""
+
+
+@dataclass(frozen=True)
+class Logged:
+    """A phase as a log has it; a `Phase` has the same, and more."""
+
+    start: int
+    """When it started, in ns; below 2^62."""
+    lun: int
+    kind: int
+    """A `Kind`."""
+    is_post: bool
+    """Whether it is a data output or a status byte; else it is a command."""
+    block: int
+    page: int
+
+
+@dataclass(frozen=True)
+class LogBreach:
+    """A condition that a phase breaks. What it doesn't tell is None. Times are ns."""
+
+    at: int
+    """The place of the phase in the log, from 0."""
+    condition: LogCondition
+    lun: Optional[int] = None
+    start: Optional[int] = None
+    earliest: Optional[int] = None
+    """From when on it could start, as far as this condition goes."""
+    is_post: Optional[bool] = None
+    """Of the phase that is next on the LUN: whether it is a post."""
+    block: Optional[int] = None
+    """.. its block; or the block on which no such request waits."""
+    page: Optional[int] = None
+    """.. and its page."""
+    earlier: Optional[int] = None
+    """The place in the list of wants of the request that comes first on the block."""
+    later: Optional[int] = None
+    """.. and of the one that began."""
+
+
+def number_of(word: str) -> int:
+    return int(word)
+
+
+def is_post_of(word: str) -> bool:
+    return word == "post"
+
+
+# What the words behind a condition tell.
+TOLD: Dict[LogCondition, Tuple[Tuple[str, Callable[[str], Union[int, bool]]], ...]] = {
+    LogCondition.NO_LUN: (("lun", number_of),),
+    LogCondition.NOTHING_RUNS: (("lun", number_of),),
+    LogCondition.OTHER_PHASE: (("lun", number_of), ("is_post", is_post_of), ("block", number_of), ("page", number_of)),
+    LogCondition.UNKNOWN_REQUEST: (("lun", number_of), ("block", number_of)),
+    LogCondition.BLOCK_ORDER: (("earlier", number_of), ("later", number_of)),
+    LogCondition.NOT_GROUPED: (("lun", number_of),),
+    LogCondition.BUS_NOT_FREE: (("start", number_of), ("earliest", number_of)),
+    LogCondition.LUN_NOT_FREE: (("lun", number_of), ("start", number_of), ("earliest", number_of)),
+    LogCondition.NOT_READY: (("lun", number_of), ("start", number_of), ("earliest", number_of)),
+}
+
+
+def word_of(kind: int) -> str:
+    if kind not in list(Kind):
+        raise refusal(BadKind.status)
+    return Kind(kind).name.lower()
+
+
+def row_of_spans(word: str, spans: Spans) -> str:
+    return f"spans,{word},{spans.cmd},{spans.gap},{spans.array},{spans.post}"
+
+
+def row_of_lun(number: int, lun: Lun) -> str:
+    if not lun.members:
+        return f"free,{number},{lun.since}"
+    kinds, pages = {want.kind for want in lun.members}, {want.page for want in lun.members}
+    if len(kinds) > 1 or len(pages) > 1 or any(want.lun != number for want in lun.members):
+        raise refusal(BadLun.status)
+    blocks = ",".join(str(want.block) for want in lun.members)
+    return f"running,{number},{lun.next},{lun.since},{word_of(kinds.pop())},{pages.pop()},{blocks}"
+
+
+def script_of(channel: Channel, luns: Sequence[Lun], wants: Sequence[Want]) -> str:
+    """The rows that say a channel and its requests."""
+    timing, rules = channel.timing, channel.rules
+    rows = [f"shape,{len(luns)},{rules.plane_bits},{int(rules.read)},{int(rules.write)}", f"bus,{channel.bus_free}", *["strict,1"] * rules.strict]
+    rows += [row_of_spans(word, spans) for word, spans in (("read", timing.read), ("program", timing.program), ("erase", timing.erase))]
+    rows += [row_of_lun(number, lun) for number, lun in enumerate(luns)]
+    rows += [f"want,{word_of(want.kind)},{want.lun},{want.block},{want.page}" for want in wants]
+    return "\n".join([*rows, "end\n"])
+
+
+def line_of(phase: Union[Phase, Logged]) -> str:
+    return f"{phase.start} {phase.lun} {word_of(phase.kind)} {'post' if phase.is_post else 'cmd'} {phase.block} {phase.page}\n"
+
+
+def breach_in(line: str) -> LogBreach:
+    _, number, name, *words = line.split()
+    condition = LogCondition(name)
+    told: Dict[str, Any] = {what: read(word) for (what, read), word in zip(TOLD[condition], words)}
+    return LogBreach(int(number) - 1, condition, **told)
+
+
+def refused_by(line: str) -> Union[Refused, ValueError]:
+    """Why what a log begins with is none: the refusal of that name, else that a number is out of its range."""
+    name = line.split()[-1]
+    found = [it.status for it in REFUSALS.values() if it.__name__ == name]
+    return refusal(found[0]) if found else ValueError(f"the channel of a log: {line}")
+
+
+def audit(channel: Channel, luns: Sequence[Lun], phases: Iterable[Union[Phase, Logged]], wants: Sequence[Want] = ()) -> Iterator[LogBreach]:
+    """Judges a log of any length, which begins with the channel and its LUNs as they are said: gives each breach, in order; none where it is legal.
+
+    A phase that only starts too soon counts as run, and any other that breaks a condition as not there, so that the next one can be
+    judged. Commands of a LUN that follow each other without a post between are one group. With wants, of any number, each command is of
+    the one that waits first on its block; their ids aren't looked at. Without, each command brings its own request. Reads are of whole
+    pages.
+
+    It is what `text_audit` says, so that what is told is proved. Raises `BadKind`, `BadLun`, `Clock`, `Memory`; `ValueError` where another
+    number of the channel or a phase is out of its range.
+    """
+    log: List[str] = []
+    for phase in phases:
+        if not 0 <= phase.start < 1 << 62:
+            raise ValueError(f"the start of a phase is not from 0 to 2^62 - 1: {phase.start}")
+        log.append(line_of(phase))
+    answer = text_audit(script_of(channel, luns, wants) + "".join(log), each=True)
+    lines = answer.text.decode("ascii").splitlines()
+    if answer.status == 1:
+        raise refused_by(lines[0])
+    for line in lines:
+        if line.startswith("refused "):
+            raise ValueError(f"a number of phase {int(line.split()[-1]) - 1} is out of its range")
+    return (breach_in(line) for line in lines if line.startswith("illegal "))
+
+
+def logged(phase: Union[Phase, Logged]) -> CPhase:
+    """What of a phase an `Audit` looks at."""
+    return CPhase(
+        start=number(phase.start, 1 << 64, "the start of a phase"),
+        lun=number(phase.lun, 256, "the LUN of a phase"),
+        kind=number(phase.kind, 256, "the kind of a phase"),
+        is_post=phase.is_post,
+        block=number(phase.block, 65536, "the block of a phase"),
+        page=number(phase.page, 65536, "the page of a phase"),
+    )
+
+
+def breach_told(at: int, lun: int, broken: CLogBroken) -> LogBreach:
+    """What the struct tells of the phase at that place, which is of that LUN."""
+    condition = list(LogCondition)[broken.condition - 1]
+    told: Dict[str, Any] = {what: lun if what == "lun" else getattr(broken, what) for what, _ in TOLD[condition]}
+    return LogBreach(at, condition, **told)
+
+
+class Audit:
+    """A log that is judged phase by phase, as it comes, and that begins with the channel and its LUNs as they are said.
+
+    Commands of a LUN that follow each other without a post between are one group; each command brings its own request. With `lengths`
+    reads may put out some sectors, as by `plan_within`. Raises what `plan_within` raises of a channel.
+    """
+
+    def __init__(self, channel: Channel, luns: Sequence[Lun], lengths: Optional[Lengths] = None) -> None:
+        said = Problem(channel, luns, (), lengths)
+        self._audit = CAudit()
+        self._judged = 0
+        status = said.call("onfi_audit_begin")(*said.stand, ctypes.byref(self._audit))
+        if status != DONE:
+            raise refusal(status)
+
+    @property
+    def bus_free(self) -> int:
+        """From when on the bus is free, in ns."""
+        return int(self._audit.channel.bus_free)
+
+    def judge(self, phase: Union[Phase, Logged]) -> Optional[LogBreach]:
+        """The condition that the next phase breaks; None where it is legal.
+
+        One that only starts too soon counts as run, and any other that breaks a condition as not there. Raises `BadKind`, `Clock`;
+        where it begins a request `BadLun` of an erase of another page than 0, `NoLengths`, `Memory`: then it isn't judged, nor counted.
+        `ValueError` where a number doesn't fit its place in onfi.h.
+        """
+        broken = CLogBroken()
+        status = library().onfi_audit_phase(ctypes.byref(self._audit), ctypes.byref(logged(phase)), ctypes.byref(broken))
+        if status not in (DONE, Illegal.status):
+            raise refusal(status)
+        at, self._judged = self._judged, self._judged + 1
+        return None if status == DONE else breach_told(at, phase.lun, broken)
+
+    def ready(self, lun: int, moment: int) -> None:
+        """Notes that the LUN was reported ready at that moment, in ns: what its group has next may come from then on. Raises `BadLun`."""
+        status = library().onfi_audit_ready(ctypes.byref(self._audit), number(lun, 256, "a LUN"), number(moment, 1 << 64, "a time"))
+        if status != DONE:
+            raise refusal(status)
+
+
+def audit_phases(
+    channel: Channel, luns: Sequence[Lun], phases: Iterable[Union[Phase, Logged]], lengths: Optional[Lengths] = None
+) -> Iterator[LogBreach]:
+    """The breaches of a log as it comes, as `Audit.judge` tells them: each phase is judged when it is taken from `phases`."""
+    log = Audit(channel, luns, lengths)
+    return (breach for breach in map(log.judge, phases) if breach is not None)

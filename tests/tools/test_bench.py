@@ -1,0 +1,224 @@
+"""tools/bench: on programs whose work is known, what it makes of counts of instructions, and on the built program."""
+
+import re
+import shutil
+import subprocess
+import sys
+import tempfile
+import unittest
+from pathlib import Path
+
+import support
+from onfi_tools.bench import driver_costs, instructions, runs, whole_plans
+
+SEARCH = r"""
+#include <stdio.h>
+#include <stdlib.h>
+
+static volatile long done;
+
+__attribute__((noinline)) static void visit_node(void) { for (int i = 0; i < WORK; i++) done++; }
+
+int main(int count, char **words)
+{
+    long limit = atol(words[2]);
+    for (long node = 0; node < limit; node++) visit_node();
+    printf("%s 7 %ld\n", words[3], limit);
+    return count != 4;
+}
+"""
+PARTS = "".join(f"part: {at}\n\ndesc: Trigger: {cause}\n\nevents: Ir\nsummary: {count}\n\ntotals: {count}\n\n" for at, (cause, count) in enumerate((
+    ("Client Request: plan 0", 12), ("Client Request: check 0", 7), ("Client Request: plan 1", 300), ("Program termination", 44))))
+
+# A driver whose turns take 1,000 + 300 + 70 instructions, 240 of them of the board; the library calls a function of its own.
+TURNS = """positions: line
+events: Ir
+fn=(1) ask_next
+5 9
+cfn=(2) driver_next
+calls=4 20
+6 1000
+cfn=(3) driver_run
+calls=4 30
+7 300
+cfn=(4) driver_accept
+calls=2 40
+8 70
+fn=(2)
+20 100
+cfi=(3) choosing.c
+cfn=(5) onfi_choose
+calls=4 1
++1 600
+cfn=(6) onfi_due
+calls=4 1
+* 200
+fn=(3)
+30 20
+cfn=(7) board_status.part.0
+calls=3 9
+31 240
+fn=(5)
+1 500
+cfn=(6)
+calls=1 1
+2 100
+"""
+SAID = "plans: 26142.634 requests a second, bus busy 99.290 %, 7 plans\n  1 reads: 1 us in the mean, 99 % within 3350 us\n"
+
+
+class Instructions(unittest.TestCase):
+    @unittest.skipUnless(shutil.which("valgrind"), "no valgrind")
+    def test_twice_the_work_counts_twice(self) -> None:
+        with tempfile.TemporaryDirectory() as folder:
+            searches = [support.compiled(folder, SEARCH, "-O1", f"-DWORK={work}", name=f"bnb-{work}") for work in (100, 200)]
+            said = support.run_tool("bench", "instructions", *searches, "--functions", "1")
+        self.assertEqual(said.returncode, 0, said.stderr)
+        rows = re.findall(r"\| a node of [\w-]+ \| ([\d,]+) \| ([\d,]+) \|", said.stdout)
+        self.assertEqual((len(rows), len(set(rows))), (4, 1), "the same work is the same count")
+        first, second = (int(cell.replace(",", "")) for cell in rows[0])
+        self.assertGreater(first, 200)
+        self.assertAlmostEqual(second / first, 2, delta=0.05)
+        self.assertEqual(len(re.findall(r"^[\w-]+: visit_node 9\d\.\d %$", said.stdout, re.MULTILINE)), 8)
+
+    def test_calls_of_the_library(self) -> None:
+        """Parts are named by their calls; what is over counts as greater than all; scripts are chosen by the nodes of their search."""
+        self.assertEqual(whole_plans.parts_of(PARTS), {"plan 0": 12, "check 0": 7, "plan 1": 300})
+        self.assertEqual(whole_plans.small_cell([7, None, 3, 9, 1, 2, 4, 5, 6, 8]), "6 / 9 / 9 (1 over)")
+        for costs, cell in (([*range(8), None, None], "5 / over / 7 (2 over)"), ([None], "over / over / over (1 over)")):
+            self.assertEqual(whole_plans.small_cell(costs), cell)
+        answers = whole_plans.answers_of("0 999 5 5\n0 1000 5 5\n6 0 0 0\n0 14000 1 1\n0 14001 1 1\n0 2000 1 1\n")
+        for count in (9, 2):
+            found = whole_plans.chosen([Path(name) for name in "abcdef"], answers, count, 1000, 14_000)
+            self.assertEqual(found, [Path("b"), Path("d"), Path("f")][:count])
+        costs = [whole_plans.Cost(whole_plans.Answer(0, opened, 10, 20), plan, check) for opened, plan, check in ((30, 4000, 300), (50, 1000, 100))]
+        self.assertEqual([runs.quantile([3, 1, 2], share) for share in (0, 0.5, 0.9, 1)], [1, 2, 3, 3])
+        self.assertEqual((whole_plans.a_node(costs), whole_plans.a_token(costs)), (50, 10))
+
+    def test_scripts_that_are_counted(self) -> None:
+        """They have the requests that were asked for, a seed names them, each set has its own; those of a start have none."""
+        for requests in whole_plans.REQUESTS:
+            drawn = whole_plans.drawn_batches(5, requests)
+            self.assertEqual(([script.count("\nwant,") for script in drawn], drawn), ([requests] * 5, whole_plans.drawn_batches(5, requests)))
+        self.assertEqual(len({script for scripts in whole_plans.drawn_sets(2).values() for script in scripts}), 8)
+        self.assertEqual([row.split(",")[0] for row in instructions.WITHOUT_REQUESTS.splitlines()], ["shape", "spans", "spans", "spans", "end"])
+
+    def test_a_turn_is_the_driver_without_the_board(self) -> None:
+        turns = driver_costs.turns_of(TURNS, SAID, 2)
+        self.assertEqual(turns, driver_costs.Turns((1370 - 240) / 2, {"onfi_choose": 300, "onfi_due": 100}, 3.5))
+        self.assertEqual(driver_costs.cells_of(turns, ["onfi_choose", "onfi_next", "onfi_due"]), ["565", "165", "300", "", "100", "3.50"])
+
+    @unittest.skipUnless(shutil.which("valgrind"), "no valgrind")
+    def test_turns_of_the_greedy_way(self) -> None:
+        with tempfile.TemporaryDirectory() as folder:
+            built = support.library(Path(folder))
+            if built is None:
+                self.skipTest("no built library")
+            driver = driver_costs.Driver(built, Path(folder))
+            few, many = (driver.turns("greedy", ["depth", depth]) for depth in ("1", "256"))
+            self.assertTrue(driver.has("plans by LUN"))
+            self.assertRaises(subprocess.CalledProcessError, driver.turns, "greedy", ["luns", "9"])
+        self.assertEqual((sorted(few.calls), few.plans), (["onfi_output_of", "onfi_row"], 0))
+        self.assertTrue(100 < few.whole < many.whole < 1_000_000, (few, many))
+
+
+# A program whose plain searches open 37 nodes and those that remember states so many.
+REMEMBERING = """#!{python} -SI
+import sys
+words = sys.argv[1:]
+sys.stdin.read()
+remembers = "--remember" in words
+nodes, finish = ({nodes}, {finish}) if remembers else ({plain_nodes}, 7)
+if words[0] == "check":
+    sys.exit(print(f"accepted {accepted}"))
+limit = int(words[words.index("--limit") + 1])
+if limit < nodes:
+    print(f"over {{limit}}")
+    sys.exit(6)
+print(f"ONFIPLAN 1\\nfinish {{finish}}\\ngroup 0 0 1\\nONFICERT {{'3 remember' if remembers else 1}}\\nB3 U Y1 L")
+"""
+# What it opens and answers, the status, and what is said then.
+REMEMBERED = {
+    "nodes are counted by the least limit": (dict(plain_nodes=37, nodes=3, finish=7, accepted=7), 0, [
+        "4 finishes of both agree, 4 plans", r"\| all \| `plan` \| 0 \| 37 / 37 / 37 \|.*\| 21 / 21 / 21 \|",
+        r"\| all \| `plan --remember` \| 0 \| 3 / 3 / 3 \|.*\| 30 / 30 / 30 \|", "9 of 9 hard scripts"]),
+    "a search that is over": (dict(plain_nodes=1 << 21, nodes=100_001, finish=7, accepted=7), 0, [
+        r"\| all \| `plan` \| 4 \| over / over / over \|", r"\| 0 \| 100,001 / 100,001 / 100,001 \|", "0 of 9 hard scripts"]),
+    "another finish": (dict(plain_nodes=37, nodes=3, finish=6, accepted=6), 1, ["finishes 7 and 6"]),
+    "a plan that is refused": (dict(plain_nodes=37, nodes=3, finish=7, accepted=8), 1, ["check --remember: accepted 8"]),
+}
+# Answers by the plain searches: `plan --limit N` is over where theirs is, and `plan --remember` gives their finish, or one ns more.
+BESIDE = """#!/bin/sh
+script={room}/given.onfi
+cat > $script
+case "$2" in
+--limit) {room}/bnb -l "$3" $script | grep -q over && {{ echo "over $3"; exit 6; }}; printf 'ONFIPLAN\\nfinish 1\\nONFICERT 1\\nU\\n' ;;
+*) finish=$({room}/rem -s g -b W -k 64 -l 1048576 $script | tail -1 | cut -d ' ' -f 2)
+   printf 'ONFIPLAN\\nfinish %s\\n' $((finish + {more})) ;;
+esac
+"""
+# Gives each script the plan of another one, which ends later than its certificate says.
+LATE = """#!{python}
+import sys
+print("ONFIPLAN 1\\nfinish 9\\nbelow 8\\nONFICERT 3 remember\\nU" if "plan" in sys.argv else "within 9 8")
+"""
+
+
+class Searches(unittest.TestCase):
+    def test_remembering_states(self) -> None:
+        for name, (numbers, status, told) in REMEMBERED.items():
+            with self.subTest(name), tempfile.TemporaryDirectory() as folder:
+                program = support.executable(folder, REMEMBERING.format(python=sys.executable, **numbers))
+                said = support.run_tool("bench", "remember", program, "5", "--scripts", "4", "--chains", "0")
+                self.assertEqual(said.returncode, status, said.stderr)
+                for text in told:
+                    self.assertRegex(said.stdout + said.stderr, text)
+
+    def beside_prototypes(self, more: int, random: int) -> "subprocess.CompletedProcess[str]":
+        with tempfile.TemporaryDirectory() as room:
+            for name in ("bnb", "rem"):
+                source = support.ROOT / "bench" / f"{name}.cpp"
+                subprocess.run(["g++", "-O1", "-std=c++17", "-w", "-o", f"{room}/{name}", str(source)], check=True)
+            program = support.executable(room, BESIDE.format(room=room, more=more))
+            return support.run_tool("bench", "plan", program, "--prototypes", "--rounds", "1", "--random", str(random))
+
+    def test_beside_prototypes(self) -> None:
+        run = self.beside_prototypes(0, 1)
+        self.assertEqual((run.returncode, run.stderr), (0, ""))
+        plain, remembering = run.stdout.split("plan --remember, beside rem\n")
+        self.assertRegex(plain, r"mixed-on-eight-luns\.onfi: 1,048,576 nodes.*ratio [0-9.]+\n")
+        self.assertRegex(remembering, r"programs-on-one-plane\.onfi: 808 nodes, .* ms, other .* ms, ratio [0-9.]+\n")
+        self.assertRegex(remembering, r"remembered-1\.onfi: [0-9]+,[0-9]{3} nodes")
+        self.assertEqual(len(re.findall(r"^all: .*; other .*, ratio [0-9.]+$", run.stdout, re.MULTILINE)), 2)
+        run = self.beside_prototypes(1, 0)
+        self.assertEqual(run.returncode, 1)
+        self.assertIn("where the prototype finds", run.stderr)
+
+    def test_a_better_plan_that_ends_too_late(self) -> None:
+        with tempfile.TemporaryDirectory() as folder:
+            program = support.executable(folder, LATE.format(python=sys.executable))
+            said = support.run_tool("bench", "early", program, "--small", "1", "--scripts", "0", "--slack", "0", "--jobs", "1")
+        self.assertEqual((said.returncode, said.stdout), (1, ""))
+        self.assertTrue(said.stderr.startswith("bench early: "), said.stderr)
+
+
+@unittest.skipUnless(support.program(), "no built program")
+class Built(unittest.TestCase):
+    def measured(self, *words: str) -> str:
+        said = support.run_tool("bench", words[0], str(support.program()), *words[1:])
+        self.assertEqual(said.returncode, 0, said.stderr)
+        return said.stdout
+
+    def test_worth(self) -> None:
+        self.assertIn("80 schedules of the ways judged legal", self.measured("worth", "--scripts", "20", "--check", "20", "--limit", "20000"))
+
+    def test_early(self) -> None:
+        said = self.measured("early", "--small", "3", "--scripts", "2", "--slack", "0", "20")
+        self.assertIn("seed 1, 3 small problems, each against all its schedules", said)
+        self.assertEqual(len(re.findall(r"(?m)^\| (?:0|20) \| \d+ \| \d+ \|", said)), 2)
+        self.assertEqual(len(re.findall(r"(?m)^\| (?:0|20) \|(?: -?\d+\.\d % \|){4}$", said)), 2)
+
+    def test_chains_of_batches(self) -> None:
+        said = self.measured("remember", "5", "--scripts", "4", "--chains", "2", "--few")
+        self.assertIn("2 chains of 6 rolling batches: 12", said)
+        self.assertRegex(said, r"\n\| 65,536 \| \d+\.\d % \|")
