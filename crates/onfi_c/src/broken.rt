@@ -7,7 +7,7 @@ use crate::channel::PlainChannel;
 use crate::lengths::PlainLengths;
 use crate::lun::{PlainLun, PlainWant};
 use crate::schedule::PlainSchedule;
-use crate::stand::{Stand, said_by, said_of};
+use crate::stand::{Stand, read_stand, read_stand_by};
 use crate::status::Status;
 use onfi_schedule::{Breach, Difference, Owner, Part, PhaseName, find_breach};
 use std::alloc::Global;
@@ -108,7 +108,7 @@ fn too_soon(condition: u8, name: PhaseName, lun: u8, start: u64, earliest: u64) 
 }
 
 /// A LUN, or a request, of which there are so many in place of so many.
-fn counted(condition: u8, lun: u8, want: u64, count: usize, right: usize) -> PlainBroken
+fn count_broken(condition: u8, lun: u8, want: u64, count: usize, right: usize) -> PlainBroken
     ensures { result ≡ spec.counted condition lun want count right }
 {
     PlainBroken {
@@ -122,7 +122,7 @@ fn counted(condition: u8, lun: u8, want: u64, count: usize, right: usize) -> Pla
 }
 
 /// A request beside another one.
-fn paired(condition: u8, other_want: u64, want: u64, difference: u8) -> PlainBroken
+fn pair_requests(condition: u8, other_want: u64, want: u64, difference: u8) -> PlainBroken
     ensures { result ≡ spec.paired condition other_want want difference }
 {
     PlainBroken {
@@ -182,14 +182,14 @@ fn in_the_way(breach: Breach) -> PlainBroken
         } => PlainBroken {
             start,
             earliest: end,
-            ..paired(19, earlier, later, 0)
+            ..pair_requests(19, earlier, later, 0)
         },
         _ => UNBROKEN,
     }
 }
 
 /// That the bus or a LUN isn't free or ready, or something is in the way.
-fn timed(breach: Breach) -> PlainBroken
+fn time_broken(breach: Breach) -> PlainBroken
     ensures { result ≡ spec.timed breach }
 {
     match breach {
@@ -221,7 +221,7 @@ fn timed(breach: Breach) -> PlainBroken
 }
 
 /// That a phase starts too soon after the one before it in its group, or any condition of times.
-fn waited(breach: Breach) -> PlainBroken
+fn wait_broken(breach: Breach) -> PlainBroken
     ensures { result ≡ spec.waited breach }
 {
     match breach {
@@ -235,7 +235,7 @@ fn waited(breach: Breach) -> PlainBroken
             other: plain_name(before),
             ..too_soon(15, phase, lun, start, ready)
         },
-        _ => timed(breach),
+        _ => time_broken(breach),
     }
 }
 
@@ -245,25 +245,25 @@ fn plain_breach(breach: Breach) -> PlainBroken
     ensures { result ≡ spec.written_breach breach }
 {
     match breach {
-        Breach::ForeignLun { last } => counted(1, last as u8, 0, 0, 0),
-        Breach::MissingLun { lun } => counted(2, lun as u8, 0, 0, 0),
-        Breach::RestOfFreeLun { lun } => counted(3, lun, 0, 0, 0),
-        Breach::RestCount { lun, starts, left } => counted(4, lun, 0, starts, left),
+        Breach::ForeignLun { last } => count_broken(1, last as u8, 0, 0, 0),
+        Breach::MissingLun { lun } => count_broken(2, lun as u8, 0, 0, 0),
+        Breach::RestOfFreeLun { lun } => count_broken(3, lun, 0, 0, 0),
+        Breach::RestCount { lun, starts, left } => count_broken(4, lun, 0, starts, left),
         Breach::StartCount {
             request,
             starts,
             phases,
-        } => counted(5, 0, request, starts, phases),
-        Breach::UnknownRequest { request } => counted(6, 0, request, 0, 0),
-        Breach::MissingRequest { request } => counted(7, 0, request, 0, 0),
-        Breach::RepeatedRequest { request, times } => counted(8, 0, request, times, 0),
+        } => count_broken(5, 0, request, starts, phases),
+        Breach::UnknownRequest { request } => count_broken(6, 0, request, 0, 0),
+        Breach::MissingRequest { request } => count_broken(7, 0, request, 0, 0),
+        Breach::RepeatedRequest { request, times } => count_broken(8, 0, request, times, 0),
         Breach::MixedGroup {
             first,
             request,
             difference,
-        } => { paired(9, first, request, difference_number(difference)) }
-        Breach::SinglePlane { first, request } => paired(10, first, request, 0),
-        Breach::PlaneOrder { before, request } => paired(11, before, request, 0),
+        } => { pair_requests(9, first, request, difference_number(difference)) }
+        Breach::SinglePlane { first, request } => pair_requests(10, first, request, 0),
+        Breach::PlaneOrder { before, request } => pair_requests(11, before, request, 0),
         Breach::BusNotFree { .. }
         | Breach::Overlap { .. }
         | Breach::NotReady { .. }
@@ -271,12 +271,12 @@ fn plain_breach(breach: Breach) -> PlainBroken
         | Breach::RunningGroupLeft { .. }
         | Breach::LunTaken { .. }
         | Breach::LunNotFree { .. }
-        | Breach::BlockOrder { .. } => waited(breach),
+        | Breach::BlockOrder { .. } => wait_broken(breach),
     }
 }
 
 /// The condition that a schedule breaks, if it breaks one.
-fn broken(stand: &Stand) -> Option<PlainBroken>
+fn find_broken(stand: &Stand) -> Option<PlainBroken>
     ensures some { IfSome result (λ b. spec.IsBroken stand.now.problem.problem stand.now.schedule b) }
     ensures none { IfNone result (Legal stand.now.problem.problem stand.now.schedule) }
 {
@@ -291,7 +291,7 @@ fn broken(stand: &Stand) -> Option<PlainBroken>
 fn give_broken(stand: &Stand, told: &mut PlainBroken) -> u32
     ensures { spec.IsJudged stand.now.problem.problem stand.now.schedule told.new result }
 {
-    match broken(stand) {
+    match find_broken(stand) {
         Some(breach) => {
             *told = breach;
             Status::Illegal.number()
@@ -319,7 +319,7 @@ pub extern "C" fn onfi_breach(
 ) -> u32
     ensures { spec.GivesBreach None channel.now luns.now wants.now schedule.now broken.old broken.new result }
 {
-    match said_of(alloc, channel, luns, wants, schedule) {
+    match read_stand(alloc, channel, luns, wants, schedule) {
         Ok(stand) => give_broken(&stand, broken),
         Err(status) => status.number(),
     }
@@ -341,7 +341,7 @@ pub extern "C" fn onfi_breach_by(
 ) -> u32
     ensures { spec.GivesBreach (Some lengths.now) channel.now luns.now wants.now schedule.now broken.old broken.new result }
 {
-    match said_by(alloc, lengths, channel, luns, wants, schedule) {
+    match read_stand_by(alloc, lengths, channel, luns, wants, schedule) {
         Ok(stand) => give_broken(&stand, broken),
         Err(status) => status.number(),
     }

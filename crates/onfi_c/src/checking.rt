@@ -9,7 +9,7 @@ use crate::channel::PlainChannel;
 use crate::lun::{PlainLun, PlainWant};
 use crate::refusal::Refusal;
 use crate::schedule::{PlainSchedule, PlainVerdict};
-use crate::stand::{Stand, said_of};
+use crate::stand::{Stand, read_stand};
 use onfi_check::check_text;
 use std::alloc::Global;
 
@@ -62,7 +62,7 @@ pub extern "C" fn onfi_check(
 ) -> u32
     ensures { GivesVerdict (IsProved Plain) IsFaultTold None channel.now luns.now wants.now schedule.now certificate.now verdict.new result }
 {
-    match said_of(alloc, channel, luns, wants, schedule) {
+    match read_stand(alloc, channel, luns, wants, schedule) {
         Ok(stand) => give_verdict(judge(alloc, &stand, certificate), verdict),
         Err(status) => give_verdict(Err(Refusal::whole(status)), verdict),
     }

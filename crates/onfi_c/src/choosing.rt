@@ -11,7 +11,7 @@ ghost use Rattle.onfi_c.specs.Said.{has_bad_count};
 use crate::channel::PlainChannel;
 use crate::lengths::PlainLengths;
 use crate::lun::{PlainLun, PlainWant};
-use crate::said::{rules, states_of, timing_said, wants_of};
+use crate::said::{read_timing, rules, states_of, wants_of};
 use crate::said_lengths::timing_by;
 use crate::status::Status;
 use arrayvec::ArrayVec;
@@ -50,7 +50,7 @@ pub fn are_rising(wants: &[PlainWant], accepted: u64) -> bool
 }
 
 /// The oldest of these items, up to a batch.
-fn oldest(items: &[Want], batch: u8) -> ArrayVec<Want, 8>
+fn take_oldest(items: &[Want], batch: u8) -> ArrayVec<Want, 8>
     requires { batch ≤ 8 }
     ensures { result.items ≡ take batch items.now }
 {
@@ -75,7 +75,7 @@ fn choose_of(
     ensures { IfOk result (λ chosen. spec.ChoosesBy choice batch accepted items.now chosen.items) }
 {
     match choice {
-        Choice::InOrder => Ok(oldest(items, batch)),
+        Choice::InOrder => Ok(take_oldest(items, batch)),
         Choice::ByLun | Choice::ReadsFirst | Choice::WholeGroups => {
             let chosen = choose(
                 alloc, timing, rules, choice, bus_free, luns, items, accepted, batch,
@@ -204,7 +204,7 @@ fn choose_said(
     ensures few { IfOk result (λ places. length places.items ≤ 8) }
     ensures none { IfErr result (spec.IsUnchosen None channel.now luns.now wants.now accepted choice batch) }
 {
-    match timing_said(channel, luns, wants) {
+    match read_timing(channel, luns, wants) {
         Ok(timing) => choose_of_said(
             alloc, &timing, channel, luns, wants, accepted, choice, batch,
         ),

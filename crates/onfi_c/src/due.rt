@@ -188,7 +188,7 @@ fn due_of(
 }
 
 /// The same of a channel whose lengths are all that is said of them.
-fn due_said(
+fn find_due(
     alloc: Global,
     channel: &PlainChannel,
     luns: &[PlainLun],
@@ -243,7 +243,7 @@ pub extern "C" fn onfi_due(
 ) -> u32
     ensures { GivesDue None channel.now luns.now wants.now geometry.now schedule.now phase.old phase.new result }
 {
-    match due_said(alloc, channel, luns, wants, geometry, schedule) {
+    match find_due(alloc, channel, luns, wants, geometry, schedule) {
         Ok(due) => {
             *phase = due;
             0

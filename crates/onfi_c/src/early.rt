@@ -8,7 +8,7 @@ use crate::lengths::PlainLengths;
 use crate::lun::{PlainLun, PlainWant};
 use crate::planning::{give_told, problem_posed, problem_posed_by};
 use crate::schedule::PlainWithin;
-use crate::within::tell;
+use crate::within::find_plan;
 use onfi_early::Weights;
 use std::alloc::Global;
 
@@ -52,7 +52,7 @@ pub extern "C" fn onfi_plan_early(
 {
     match problem_posed(alloc, channel, luns, wants, limit) {
         Ok(problem) => give_told(
-            tell(alloc, &problem, &weights.weights(), Some(slack), limit),
+            find_plan(alloc, &problem, &weights.weights(), Some(slack), limit),
             plan,
             certificate,
             bytes,
@@ -83,7 +83,7 @@ pub extern "C" fn onfi_plan_early_by(
 {
     match problem_posed_by(alloc, lengths, channel, luns, wants, limit) {
         Ok(posed) => give_told(
-            tell(alloc, &posed, &weights.weights(), Some(slack), limit),
+            find_plan(alloc, &posed, &weights.weights(), Some(slack), limit),
             plan,
             certificate,
             bytes,

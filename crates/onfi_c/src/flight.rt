@@ -12,7 +12,7 @@ ghost use Rattle.onfi_c.specs.Said as spec;
 
 use crate::channel::PlainChannel;
 use crate::lun::{PlainLun, PlainWant};
-use crate::said::{few_wants_of, state_of, timing_said};
+use crate::said::{few_wants_of, read_timing, state_of};
 use crate::said_schedule::{is_bad_schedule, schedule_of};
 use crate::schedule::PlainSchedule;
 use crate::status::Status;
@@ -52,7 +52,7 @@ pub fn timing_of(
     ensures few { IfOk result (λ _. (length luns.now ≤ 8) × (length wants.now ≤ 8)) }
     ensures none { (schedule : Plan) → IfErr result (IsNoFlight None channel.now luns.now wants.now schedule) }
 {
-    let timing = timing_said(channel, luns, wants)?;
+    let timing = read_timing(channel, luns, wants)?;
     if are_many(luns, wants) {
         return Err(Status::TooMany);
     }

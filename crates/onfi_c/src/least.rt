@@ -26,7 +26,7 @@ pub enum Least {
 }
 
 /// The sooner of that start and the first of these, which stand at that place; of equals the one that was there.
-fn sooner_of(least: Option<Start>, at: usize, starts: &[u64]) -> Option<Start>
+fn choose_sooner(least: Option<Start>, at: usize, starts: &[u64]) -> Option<Start>
     ensures { SoonerOf (some_start least) at starts.now (some_start result) }
 {
     if starts.is_empty() {
@@ -44,19 +44,19 @@ fn sooner_of(least: Option<Start>, at: usize, starts: &[u64]) -> Option<Start>
 }
 
 /// The sooner of that start and the first of what is left of what runs on that LUN.
-fn sooner_rest(least: Option<Start>, at: usize, rest: &PlainRest) -> Option<Start>
+fn choose_sooner_rest(least: Option<Start>, at: usize, rest: &PlainRest) -> Option<Start>
     requires { is_odd_rest rest.now ≡ false }
     ensures { SoonerOf (some_start least) at (spec.rest_of rest.now) (some_start result) }
 {
-    sooner_of(least, at, &rest.start[..usize::from(rest.starts)])
+    choose_sooner(least, at, &rest.start[..usize::from(rest.starts)])
 }
 
 /// The sooner of that start and the first of the group at that place.
-fn sooner_group(least: Option<Start>, at: usize, group: &PlainGroup) -> Option<Start>
+fn choose_sooner_group(least: Option<Start>, at: usize, group: &PlainGroup) -> Option<Start>
     requires { is_odd_group group.now ≡ false }
     ensures { SoonerOf (some_start least) at (spec.starts_of group.now) (some_start result) }
 {
-    sooner_of(least, at, &group.start[..2 * usize::from(group.members)])
+    choose_sooner(least, at, &group.start[..2 * usize::from(group.members)])
 }
 
 /// Of what runs the least start.
@@ -66,7 +66,7 @@ fn least_rest(rests: &[PlainRest]) -> Option<Start>
 {
     let mut least = None;
     for (at, rest) in rests.iter().enumerate() {
-        least = sooner_rest(least, at, rest);
+        least = choose_sooner_rest(least, at, rest);
     }
     least
 }
@@ -78,7 +78,7 @@ fn least_group(groups: &[PlainGroup]) -> Option<Start>
 {
     let mut least = None;
     for (at, group) in groups.iter().enumerate() {
-        least = sooner_group(least, at, group);
+        least = choose_sooner_group(least, at, group);
     }
     least
 }

@@ -58,7 +58,7 @@ fn too_soon(condition: u8, lun: u8, start: u64, earliest: u64) -> PlainLogBroken
 }
 
 /// Two requests that don't go together.
-fn paired(condition: u8, other_want: u64, want: u64) -> PlainLogBroken
+fn pair_requests(condition: u8, other_want: u64, want: u64) -> PlainLogBroken
     ensures { result ≡ spec.paired condition other_want want }
 {
     PlainLogBroken {
@@ -92,8 +92,8 @@ pub fn plain_log_breach(breach: LogBreach) -> PlainLogBroken
             block,
             ..of_lun(4, lun)
         },
-        LogBreach::BlockOrder { earlier, later } => paired(5, earlier, later),
-        LogBreach::NotGrouped { first, request } => paired(6, first, request),
+        LogBreach::BlockOrder { earlier, later } => pair_requests(5, earlier, later),
+        LogBreach::NotGrouped { first, request } => pair_requests(6, first, request),
         LogBreach::BusNotFree { start, bus_free } => too_soon(7, 0, start, bus_free),
         LogBreach::LunNotFree { lun, start, since } => too_soon(8, lun, start, since),
         LogBreach::NotReady { lun, start, ready } => too_soon(9, lun, start, ready),

@@ -10,7 +10,7 @@ use crate::due::{over_status, phase_on};
 use crate::lun::PlainLun;
 use crate::phase::PlainPhase;
 use crate::queue::{PlainQueue, list_waiting};
-use crate::said::{few_states_of, rules, timing_said};
+use crate::said::{few_states_of, read_timing, rules};
 use crate::status::Status;
 use arrayvec::ArrayVec;
 use onfi_flight::Due;
@@ -105,7 +105,7 @@ pub fn next_due(
     ensures next { IfOk result (λ next. MatchOption next (IsIdleSaid channel.now luns.now queue.now now) (IsNextDue channel.now luns.now queue.now now)) }
     ensures none { IfErr result (IsNoneDue channel.now luns.now queue.now now) }
 {
-    let timing = match timing_said(channel, luns, &[]) {
+    let timing = match read_timing(channel, luns, &[]) {
         Ok(timing) => timing,
         Err(status) => return Err(status),
     };

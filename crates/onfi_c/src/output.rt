@@ -61,7 +61,7 @@ fn output_in(geometry: &Geometry, phase: &PlainPhase, kind: Kind) -> PlainOutput
 }
 
 /// The same on the device that is said.
-fn output_said(
+fn find_output(
     said: &PlainGeometry,
     sector_bytes: u16,
     phase: &PlainPhase,
@@ -99,7 +99,7 @@ pub extern "C" fn onfi_output_of(
 ) -> u32
     ensures { spec.GivesOutput geometry.now sector_bytes phase.now first output.old output.new result }
 {
-    match output_said(geometry, sector_bytes, phase, first) {
+    match find_output(geometry, sector_bytes, phase, first) {
         Ok(told) => {
             *output = told;
             0

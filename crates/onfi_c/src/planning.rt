@@ -100,7 +100,7 @@ fn certificate(alloc: Global, strict: bool, planned: &Planned) -> Result<Vec<u8>
 }
 
 /// A plan, as it is given.
-pub fn tell(alloc: Global, problem: &Problem, limit: u32) -> Result<Told<PlainPlan>, Status>
+pub fn find_plan(alloc: Global, problem: &Problem, limit: u32) -> Result<Told<PlainPlan>, Status>
     ensures plan { IfOk result (λ t. IsPlan problem.now.problem limit t.plan t.text.items) }
     ensures none { IfErr result (λ status. IsUnplanned problem.now.problem limit status) }
 {
@@ -142,7 +142,7 @@ pub extern "C" fn onfi_plan(
     ensures { GivesPlan IsPlan IsUnplanned None channel.now luns.now wants.now limit plan.old plan.new certificate.old certificate.new bytes.new result }
 {
     match problem_posed(alloc, channel, luns, wants, limit) {
-        Ok(problem) => give_told(tell(alloc, &problem, limit), plan, certificate, bytes),
+        Ok(problem) => give_told(find_plan(alloc, &problem, limit), plan, certificate, bytes),
         Err(status) => give_told(Err(status), plan, certificate, bytes),
     }
 }

@@ -147,7 +147,7 @@ fn has_number(members: &[Want], id: u64) -> bool
 }
 
 /// How often it was passed over once the group began on the LUN: once more where it is of the LUN and a member is later.
-fn passed_by(lun: u8, last: u64, waiter: &PlainWaiter) -> u16
+fn count_passed(lun: u8, last: u64, waiter: &PlainWaiter) -> u16
     ensures { result ≡ spec.passed_of lun last waiter.now }
 {
     if waiter.want.lun == lun && waiter.want.id < last {
@@ -171,7 +171,7 @@ fn put_left(
     if !begins_with(lun, members, waiter) {
         list.push(PlainWaiter {
             want: waiter.want,
-            passed: passed_by(lun, last, waiter),
+            passed: count_passed(lun, last, waiter),
         });
     }
 }

@@ -11,7 +11,7 @@ use crate::channel::PlainChannel;
 use crate::lun::PlainLun;
 use crate::next::{LATE, NextDue, next_due};
 use crate::queue::{PlainQueue, leave};
-use crate::ran::{is_due, lun_in, telling};
+use crate::ran::{is_due, lun_in, name_group};
 use crate::status::Status;
 use onfi_flight::Due;
 use onfi_group::{Group, phase_length, wait_before};
@@ -51,7 +51,7 @@ fn lun_after(timing: &Timing, group: &Group, phase: u8, ended: u64) -> LunState
 }
 
 /// Leaves in a queue what waits after the phase: where it is the first of a group, its requests wait no more.
-fn leave_behind(queue: &mut PlainQueue, due: &Due)
+fn leave_waiting(queue: &mut PlainQueue, due: &Due)
     requires { queue.old.count ≤ 64 }
     ensures waiting { waiting_in queue.new ≡ left_behind due.now (waiting_in queue.old) }
     ensures newest { newest_of queue.new ≡ newest_of queue.old }
@@ -62,7 +62,7 @@ fn leave_behind(queue: &mut PlainQueue, due: &Due)
 }
 
 /// What stands after the due phase, once it ran from then on.
-fn behind_of(timing: &Timing, luns: &[PlainLun], due: Due, started: u64) -> NextBehind
+fn stand_after(timing: &Timing, luns: &[PlainLun], due: Due, started: u64) -> NextBehind
     requires there { due.lun < length luns.now }
     requires within { due.phase < 2 * length due.group }
     requires time { started < 2 ^ 62 }
@@ -72,7 +72,7 @@ fn behind_of(timing: &Timing, luns: &[PlainLun], due: Due, started: u64) -> Next
 {
     let ended = started + phase_length(timing, due.group.members(), usize::from(due.phase));
     let state = lun_after(timing, &due.group, due.phase, ended);
-    let lun = lun_in(&state, &telling(luns, &due));
+    let lun = lun_in(&state, &name_group(luns, &due));
     NextBehind {
         bus_free: ended,
         lun,
@@ -81,7 +81,7 @@ fn behind_of(timing: &Timing, luns: &[PlainLun], due: Due, started: u64) -> Next
 }
 
 /// What stands after the phase that is next of what is said, if it is this one.
-fn ran_said(
+fn run_said(
     alloc: Global,
     channel: &PlainChannel,
     luns: &[PlainLun],
@@ -111,7 +111,7 @@ fn ran_said(
     if started >= LATE {
         return Err(Status::Clock);
     }
-    Ok(behind_of(&timing, luns, due, started))
+    Ok(stand_after(&timing, luns, due, started))
 }
 
 /// What stands after the phase that is next, as [`onfi_next`](crate::next::onfi_next) gives it where it is `now`, once it ran from
@@ -136,11 +136,11 @@ pub extern "C" fn onfi_queue_ran(
         (record { channel = channel.new; luns = luns.new; queue = queue.new })
         now lun number started result }
 {
-    match ran_said(alloc, channel, luns, queue, now, lun, number, started) {
+    match run_said(alloc, channel, luns, queue, now, lun, number, started) {
         Ok(behind) => {
             channel.bus_free = behind.bus_free;
             luns[usize::from(lun)] = behind.lun;
-            leave_behind(queue, &behind.due);
+            leave_waiting(queue, &behind.due);
             0
         }
         Err(status) => status.number(),

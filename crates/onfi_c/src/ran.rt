@@ -19,7 +19,7 @@ use crate::flight::{fault_of, fill, timing_of};
 use crate::in_order::HALF;
 use crate::lengths::PlainLengths;
 use crate::lun::{PlainLun, PlainWant};
-use crate::ran_plain::{delay_schedule, lun_behind, wants_left};
+use crate::ran_plain::{delay_schedule, lun_after, wants_left};
 use crate::said::rules;
 use crate::said_lengths::timing_in_flight;
 use crate::schedule::PlainSchedule;
@@ -68,7 +68,7 @@ pub fn plain_members(wants: &[Want]) -> [PlainWant; 4]
 }
 
 /// The LUN as it names its group: as before, or with the group that the due phase begins.
-pub fn telling(luns: &[PlainLun], due: &Due) -> PlainLun
+pub fn name_group(luns: &[PlainLun], due: &Due) -> PlainLun
     requires { due.now.lun < length luns.now }
     ensures { result ≡ spec.telling luns.now due.now.place due.now.lun due.now.group }
 {
@@ -104,7 +104,7 @@ pub fn lun_in(state: &LunState, lun: &PlainLun) -> PlainLun
 }
 
 /// What is left after a phase, as plain structs.
-fn behind_of(flight: &Flight, luns: &[PlainLun], due: &Due) -> Behind
+fn stand_after(flight: &Flight, luns: &[PlainLun], due: &Due) -> Behind
     requires there { due.now.lun < length luns.now }
     requires same { length flight.now.now.luns ≡ length luns.now }
     requires few { length flight.now.left.rest ≤ 8 }
@@ -113,7 +113,7 @@ fn behind_of(flight: &Flight, luns: &[PlainLun], due: &Due) -> Behind
     let state = &flight.luns()[usize::from(due.lun)];
     Behind {
         bus_free: flight.bus_free(),
-        lun: lun_in(state, &telling(luns, due)),
+        lun: lun_in(state, &name_group(luns, due)),
         wants: plain_wants(flight.wants()),
         schedule: written::schedule(flight.left()),
     }
@@ -144,7 +144,7 @@ pub fn is_due(due: &Due, lun: u8, number: u8) -> bool
 }
 
 /// What stands after the phase that is due of what is said, with these lengths of all that is put out, if it is this one.
-fn ran_said(
+fn run_said(
     alloc: Global,
     timing: &Timing,
     channel: &PlainChannel,
@@ -186,7 +186,7 @@ fn ran_said(
         return Err(Status::TooSoon);
     }
     match run_late(alloc, &mut flight, &due, started) {
-        Ok(()) => Ok(behind_of(&flight, luns, &due)),
+        Ok(()) => Ok(stand_after(&flight, luns, &due)),
         Err(status) => Err(status),
     }
 }
@@ -233,7 +233,7 @@ fn step_in_order(
         return None;
     }
     let ended = started + phase_length(timing, due.group.members(), usize::from(due.phase));
-    let lun = lun_behind(timing, luns, &due, ended);
+    let lun = lun_after(timing, luns, &due, ended);
     Some(Step { due, ended, lun })
 }
 
@@ -262,7 +262,7 @@ fn run_in_flight(
         (record { lengths = by; channel = channel.new; luns = luns.new; wants = take count.new wants.new; schedule = schedule.new })
         wants.old wants.new count.old count.new lun number started result }
 {
-    match ran_said(
+    match run_said(
         alloc,
         timing,
         channel,

@@ -13,7 +13,7 @@ ghost use Rattle.onfi_c.specs.SaidSchedule.{groups_of, rest_of, rests_of, schedu
 ghost use Rattle.onfi_c.specs.Written.{filled, no_group, no_rest, written_rest, written_schedule};
 
 use crate::lun::{PlainLun, PlainWant};
-use crate::ran::telling;
+use crate::ran::name_group;
 use crate::schedule::{PlainGroup, PlainRest, PlainSchedule};
 use crate::written::{NO_GROUP, NO_REST};
 use arrayvec::ArrayVec;
@@ -78,7 +78,7 @@ fn delay_one(by: u64, rest: &PlainRest) -> PlainRest
 }
 
 /// The same of starts but the first.
-fn delay_behind(by: u64, starts: &[u64]) -> PlainRest
+fn delay_after_first(by: u64, starts: &[u64]) -> PlainRest
     requires few { length starts.now ≤ 8 }
     requires early { list_any is_half starts.now ≡ false }
     requires less { by < 2 ^ 61 }
@@ -199,7 +199,7 @@ fn delay_left(by: u64, said: &[PlainRest], groups: &[PlainGroup], due: &Due) -> 
     ensures { (wants : List AWant) → result ≡ spec.written_rests by (left_behind (spec.said_by wants said.now groups.now) due.now) }
 {
     let mut rest = delay_rests(by, said);
-    rest[usize::from(due.lun)] = delay_behind(by, starts_due(said, groups, due));
+    rest[usize::from(due.lun)] = delay_after_first(by, starts_due(said, groups, due));
     rest
 }
 
@@ -270,13 +270,13 @@ pub fn wants_left(due: &Due, wants: &[PlainWant]) -> ArrayVec<PlainWant, 8>
 }
 
 /// What the LUN of the due phase says once that has ended: it goes on with its group, or is free.
-pub fn lun_behind(timing: &Timing, luns: &[PlainLun], due: &Due, ended: u64) -> PlainLun
+pub fn lun_after(timing: &Timing, luns: &[PlainLun], due: &Due, ended: u64) -> PlainLun
     requires there { due.now.lun < length luns.now }
     requires within { due.now.phase < 2 * length due.now.group }
     requires ended { ended < 2 ^ 62 }
     ensures { result ≡ lun_in (lun_after timing.now due.now.group due.now.phase ended) (telling luns.now due.now.place due.now.lun due.now.group) }
 {
-    let lun = telling(luns, due);
+    let lun = name_group(luns, due);
     let member = lun.member;
     let (members, next) = (due.group.len(), usize::from(due.phase) + 1);
     if next >= 2 * members {

@@ -12,7 +12,7 @@ use crate::lun::{PlainLun, PlainWant};
 use crate::planning::{give_told, problem_posed};
 use crate::refusal::Refusal;
 use crate::schedule::{PlainPlan, PlainSchedule, PlainVerdict};
-use crate::stand::{Stand, said_of};
+use crate::stand::{Stand, read_stand};
 use crate::status::Status;
 use crate::told::Told;
 use crate::written;
@@ -23,7 +23,7 @@ use onfi_problem::Problem;
 use std::alloc::Global;
 
 /// A plan by a search that remembers states, as it is given.
-pub fn tell(alloc: Global, problem: &Problem, limit: u32) -> Result<Told<PlainPlan>, Status>
+pub fn find_plan(alloc: Global, problem: &Problem, limit: u32) -> Result<Told<PlainPlan>, Status>
     requires some { 1 ≤ limit }
     requires few { limit ≤ 1048576 }
     requires begun { problem.now.all ≡ problem.now.problem.wants }
@@ -74,7 +74,7 @@ pub extern "C" fn onfi_plan_known(
     ensures { GivesPlan IsRecalled IsUnplanned None channel.now luns.now wants.now limit plan.old plan.new certificate.old certificate.new bytes.new result }
 {
     match problem_posed(alloc, channel, luns, wants, limit) {
-        Ok(problem) => give_told(tell(alloc, &problem, limit), plan, certificate, bytes),
+        Ok(problem) => give_told(find_plan(alloc, &problem, limit), plan, certificate, bytes),
         Err(status) => give_told(Err(status), plan, certificate, bytes),
     }
 }
@@ -108,7 +108,7 @@ pub extern "C" fn onfi_check_known(
 ) -> u32
     ensures { GivesVerdict (IsProved Remembering) IsKnownFaultTold None channel.now luns.now wants.now schedule.now certificate.now verdict.new result }
 {
-    match said_of(alloc, channel, luns, wants, schedule) {
+    match read_stand(alloc, channel, luns, wants, schedule) {
         Ok(stand) => give_verdict(judge(alloc, &stand, certificate), verdict),
         Err(status) => give_verdict(Err(Refusal::whole(status)), verdict),
     }

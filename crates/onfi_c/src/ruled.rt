@@ -21,7 +21,7 @@ use std::alloc::Global;
 /// The plan by the rule, as it is given.
 // A plan has some thousand bytes, and each call that isn't inlined hands it on by a copy.
 #[inline(always)]
-fn tell(alloc: Global, problem: &Problem) -> Result<Told<PlainWithin>, Status>
+fn find_plan(alloc: Global, problem: &Problem) -> Result<Told<PlainWithin>, Status>
     requires begun { problem.now.all ≡ problem.now.problem.wants }
     ensures plan { IfOk result (λ t. IsPlanByRule problem.now.problem t.plan t.text.items) }
     ensures none { IfErr result (λ status. status ≡ Memory) }
@@ -68,7 +68,7 @@ pub extern "C" fn onfi_plan_rule(
     ensures { GivesByRule None channel.now luns.now wants.now plan.old plan.new certificate.old certificate.new bytes.new result }
 {
     match problem_of(alloc, channel, luns, wants) {
-        Ok(problem) => give_told(tell(alloc, &problem), plan, certificate, bytes),
+        Ok(problem) => give_told(find_plan(alloc, &problem), plan, certificate, bytes),
         Err(status) => give_told(Err(status), plan, certificate, bytes),
     }
 }
@@ -91,7 +91,7 @@ pub extern "C" fn onfi_plan_rule_by(
     ensures { GivesByRule (Some lengths.now) channel.now luns.now wants.now plan.old plan.new certificate.old certificate.new bytes.new result }
 {
     match problem_by(alloc, lengths, channel, luns, wants) {
-        Ok(posed) => give_told(tell(alloc, &posed), plan, certificate, bytes),
+        Ok(posed) => give_told(find_plan(alloc, &posed), plan, certificate, bytes),
         Err(refused) => give_told(Err(refused), plan, certificate, bytes),
     }
 }

@@ -273,7 +273,7 @@ pub fn open_said(
 }
 
 /// The lengths of a channel, where all numbers of what is said are in their ranges.
-pub fn timing_said(
+pub fn read_timing(
     channel: &PlainChannel,
     luns: &[PlainLun],
     wants: &[PlainWant],
@@ -310,7 +310,7 @@ pub fn problem_of(
     ensures begun { IfOk result (λ p. p.all ≡ p.problem.wants) }
     ensures refused { IfErr result (IsRefused None channel.now luns.now wants.now) }
 {
-    match timing_said(channel, luns, wants) {
+    match read_timing(channel, luns, wants) {
         Ok(timing) => open_said(alloc, &timing, channel, luns, wants),
         Err(status) => Err(status),
     }

@@ -7,7 +7,7 @@ ghost use Rattle.onfi_script.specs.declared.command.Command.TheVariants.{Check, 
 ghost use Rattle.onfi_c.specs.Answered.{answer_of};
 ghost use Rattle.onfi_c.specs.Script.{GivesAnswer, GivesPlanText, output_of, requests_of as spec_requests_of};
 
-use crate::answered::Answered;
+use crate::answer_script::Answered;
 use crate::room::give;
 use onfi_plan::Limit;
 use onfi_planners::ChosenPlanner;
@@ -21,7 +21,7 @@ const BAD_LIMIT: u32 = 5;
 const MEMORY: u32 = 4;
 
 /// The answer to a script; nothing where memory ran out.
-fn answered(alloc: Global, command: Command, script: &[u8]) -> Option<Answered>
+fn answer_script(alloc: Global, command: Command, script: &[u8]) -> Option<Answered>
     requires limit { IsLimited command }
     ensures { IfSome result (λ a. IsAnswer command script.now (answer_of a)) }
 {
@@ -44,7 +44,7 @@ fn give_answer(
     requires limit { IsLimited command }
     ensures { GivesAnswer command script.now answer.old answer.new bytes.new result }
 {
-    match answered(alloc, command, script) {
+    match answer_script(alloc, command, script) {
         Some(answered) => give(
             answered.text.as_slice(),
             u32::from(answered.status),

@@ -38,7 +38,7 @@ fn with_schedule(alloc: Global, problem: Problem, schedule: &PlainSchedule) -> R
 }
 
 /// The problem that a caller says, and the schedule of it.
-pub fn said_of(
+pub fn read_stand(
     alloc: Global,
     channel: &PlainChannel,
     luns: &[PlainLun],
@@ -56,7 +56,7 @@ pub fn said_of(
 }
 
 /// The same with lengths of reads of some sectors.
-pub fn said_by(
+pub fn read_stand_by(
     alloc: Global,
     lengths: &PlainLengths,
     channel: &PlainChannel,

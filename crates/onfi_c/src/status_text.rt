@@ -7,7 +7,7 @@ use crate::room::give;
 use crate::status::{ALL, Status};
 
 /// What has this number.
-fn named(number: u32) -> Option<Status>
+fn find_status(number: u32) -> Option<Status>
     ensures { result ≡ spec_named number }
 {
     ALL.iter().copied().find(|status| status.number() == number)
@@ -17,7 +17,7 @@ fn named(number: u32) -> Option<Status>
 fn text_of(number: u32) -> &'static str
     ensures { result.now ≡ text_at number }
 {
-    match named(number) {
+    match find_status(number) {
         Some(status) => status.text(),
         None => "",
     }

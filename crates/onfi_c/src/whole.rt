@@ -7,7 +7,7 @@ ghost use Rattle.onfi_c.specs.WholeChosen as spec;
 use crate::channel::PlainChannel;
 use crate::choosing::{are_rising, places_of, put};
 use crate::lun::{PlainLun, PlainWant};
-use crate::said::{rules, states_of, timing_said, want_of, wants_of};
+use crate::said::{read_timing, rules, states_of, want_of, wants_of};
 use crate::status::Status;
 use arrayvec::ArrayVec;
 use onfi_core::choose_whole;
@@ -91,7 +91,7 @@ fn choose_said(
     ensures few { IfOk result (λ places. length places.items ≤ 8) }
     ensures none { IfErr result (λ status. spec.IsNoneWhole channel.now luns.now wants.now batch status) }
 {
-    let timing = timing_said(channel, luns, wants)?;
+    let timing = read_timing(channel, luns, wants)?;
     if batch == 0 || batch > 8 {
         return Err(Status::BadBatch);
     }

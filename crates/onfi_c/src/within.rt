@@ -15,7 +15,7 @@ use crate::lun::{PlainLun, PlainWant};
 use crate::planning::{give_told, problem_posed, problem_posed_by};
 use crate::refusal::Refusal;
 use crate::schedule::{PlainSchedule, PlainVerdict, PlainWithin};
-use crate::stand::{Stand, said_by, said_of};
+use crate::stand::{Stand, read_stand, read_stand_by};
 use crate::status::Status;
 use crate::told::Told;
 use crate::written;
@@ -34,7 +34,7 @@ const EQUAL: Weights = Weights {
 };
 
 /// The best plan within a limit of nodes, made better where a slack is named, in thousandths; as it is given.
-pub fn tell(
+pub fn find_plan(
     alloc: Global,
     problem: &Problem,
     weights: &Weights,
@@ -97,7 +97,7 @@ pub extern "C" fn onfi_plan_within(
 {
     match problem_posed(alloc, channel, luns, wants, limit) {
         Ok(problem) => give_told(
-            tell(alloc, &problem, &EQUAL, None, limit),
+            find_plan(alloc, &problem, &EQUAL, None, limit),
             plan,
             certificate,
             bytes,
@@ -127,7 +127,7 @@ pub extern "C" fn onfi_plan_within_by(
 {
     match problem_posed_by(alloc, lengths, channel, luns, wants, limit) {
         Ok(posed) => give_told(
-            tell(alloc, &posed, &EQUAL, None, limit),
+            find_plan(alloc, &posed, &EQUAL, None, limit),
             plan,
             certificate,
             bytes,
@@ -170,7 +170,7 @@ pub extern "C" fn onfi_check_within(
     ensures { GivesVerdict (λ p s. IsShown BestSoFar p s below) (λ p s. IsWithinFaultTold p s below) None channel.now luns.now wants.now schedule.now certificate.now
         verdict.new result }
 {
-    match said_of(alloc, channel, luns, wants, schedule) {
+    match read_stand(alloc, channel, luns, wants, schedule) {
         Ok(stand) => give_verdict(judge(alloc, &stand, below, certificate), verdict),
         Err(status) => give_verdict(Err(Refusal::whole(status)), verdict),
     }
@@ -195,7 +195,7 @@ pub extern "C" fn onfi_check_within_by(
     ensures { GivesVerdict (λ p s. IsShown BestSoFar p s below) (λ p s. IsWithinFaultTold p s below) (Some lengths.now) channel.now luns.now wants.now schedule.now certificate.now
         verdict.new result }
 {
-    match said_by(alloc, lengths, channel, luns, wants, schedule) {
+    match read_stand_by(alloc, lengths, channel, luns, wants, schedule) {
         Ok(stand) => give_verdict(judge(alloc, &stand, below, certificate), verdict),
         Err(status) => give_verdict(Err(Refusal::whole(status)), verdict),
     }

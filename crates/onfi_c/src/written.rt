@@ -37,7 +37,7 @@ pub fn plain_wants(wants: &[Want]) -> ArrayVec<PlainWant, 8>
 }
 
 /// Starts, and 0 in the places past them.
-fn filled(starts: &[u64]) -> [u64; 8]
+fn fill_starts(starts: &[u64]) -> [u64; 8]
     requires { length starts.now ≤ 8 }
     ensures { result ≡ spec.filled 8 0 starts.now }
 {
@@ -65,7 +65,7 @@ fn rest(starts: &Starts) -> PlainRest
     let starts = starts.as_slice();
     PlainRest {
         starts: starts.len() as u8,
-        start: filled(starts),
+        start: fill_starts(starts),
     }
 }
 
@@ -77,7 +77,7 @@ fn group(placed: &Placed) -> PlainGroup
     PlainGroup {
         members: members.len() as u8,
         want: numbers(members),
-        start: filled(placed.starts().as_slice()),
+        start: fill_starts(placed.starts().as_slice()),
     }
 }
 
@@ -95,7 +95,7 @@ pub const NO_GROUP: PlainGroup = PlainGroup {
 };
 
 /// What is left of running groups, and nothing in the places past them.
-fn rests(of: &[Starts]) -> [PlainRest; 8]
+fn fill_rests(of: &[Starts]) -> [PlainRest; 8]
     requires { length of.now ≤ 8 }
     ensures { result ≡ spec.filled 8 spec.no_rest (map spec.written_rest of.now) }
 {
@@ -126,7 +126,7 @@ pub fn schedule(of: &Schedule) -> PlainSchedule
     PlainSchedule {
         luns: of.rest().len() as u8,
         groups: of.groups().len() as u8,
-        rest: rests(of.rest()),
+        rest: fill_rests(of.rest()),
         group: groups(of.groups()),
     }
 }

@@ -1,5 +1,5 @@
 //! Numbers of what a script or its device doesn't have.
-use crate::fields::{field, named_number};
+use crate::fields::{field, read_named_number};
 use csv::ByteRecord;
 use onfi_script::{Purpose, device_of, page_device, read_rows};
 use std::alloc::Global;
@@ -19,7 +19,7 @@ struct Counts {
 /// How many channels or hosts the rows of this name set up.
 fn count_in(records: &[ByteRecord], name: &[u8]) -> u64 {
     let row = records.iter().find(|record| field(record, 0) == name);
-    row.and_then(|record| named_number(record, "N"))
+    row.and_then(|record| read_named_number(record, "N"))
         .unwrap_or(1)
 }
 
@@ -53,8 +53,8 @@ fn problem_counts(alloc: Global, text: &[u8]) -> Counts {
 }
 
 /// The number of a field where it is none of so many.
-fn beyond(record: &ByteRecord, name: &str, count: Option<u64>) -> Option<u64> {
-    let number = named_number(record, name)?;
+fn find_beyond(record: &ByteRecord, name: &str, count: Option<u64>) -> Option<u64> {
+    let number = read_named_number(record, name)?;
     match count {
         Some(count) if number >= count => Some(count),
         _ => None,
@@ -62,7 +62,7 @@ fn beyond(record: &ByteRecord, name: &str, count: Option<u64>) -> Option<u64> {
 }
 
 /// The first field of a row that names what isn't there, and how many there are.
-pub fn absent_field(
+pub fn find_absent_field(
     alloc: Global,
     purpose: Purpose,
     text: &[u8],
@@ -80,7 +80,7 @@ pub fn absent_field(
         ("BLOCK", counts.blocks),
     ];
     for (name, count) in of {
-        if let Some(count) = beyond(record, name, count) {
+        if let Some(count) = find_beyond(record, name, count) {
             return Some((name, count));
         }
     }

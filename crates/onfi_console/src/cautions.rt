@@ -70,7 +70,7 @@ fn push_beyond(
     let records = read_records(alloc, script)?;
     let name = input.script_name();
     for (at, record) in records.iter().enumerate() {
-        if let Some((what, count)) = beyond(record, geometry) {
+        if let Some((what, count)) = find_beyond(record, geometry) {
             let (row, line, text) = (
                 at.saturating_add(1),
                 line_of(input.text, record),
@@ -86,7 +86,7 @@ fn push_beyond(
 }
 
 /// What of a request or a running group lies beyond the device.
-fn beyond(record: &ByteRecord, geometry: &Geometry) -> Option<(&'static str, u64)> {
+fn find_beyond(record: &ByteRecord, geometry: &Geometry) -> Option<(&'static str, u64)> {
     let name = field(record, 0);
     if name != b"want".as_slice() && name != b"running".as_slice() {
         return None;

@@ -100,7 +100,7 @@ const MOST_WORKERS: u64 = 8;
 const MOST_SLACK: u64 = 1_000;
 
 /// The limit that is named, in its range.
-fn named_limit(matches: &ArgMatches<'_>) -> Result<Option<u32>, ValueFault>
+fn read_limit(matches: &ArgMatches<'_>) -> Result<Option<u32>, ValueFault>
     ensures range { IfOk result (λ limit. IfSome limit (λ n. (1 ≤ n) × (n ≤ 1048576))) }
     ensures value { IfOk result (λ limit. spec.IsNamedLimit (first_value (found_of matches.now) (codes "limit")) limit) }
     ensures refused { IfErr result (λ fault. spec.IsOutside 1 1048576 (first_value (found_of matches.now) (codes "limit"))) }
@@ -122,7 +122,7 @@ fn limit_of(matches: &ArgMatches<'_>, usual: u32) -> Result<u32, ValueFault>
     ensures value { IfOk result (λ n. spec.IsLimit usual (first_value (found_of matches.now) (codes "limit")) n) }
     ensures refused { IfErr result (λ fault. spec.IsOutside 1 1048576 (first_value (found_of matches.now) (codes "limit"))) }
 {
-    let named = named_limit(matches)?;
+    let named = read_limit(matches)?;
     Ok(named.unwrap_or(usual))
 }
 
@@ -154,7 +154,7 @@ fn is_given(matches: &ArgMatches<'_>, flag: &str) -> bool
 }
 
 /// The slack that is named, in thousandths, in its range.
-fn named_slack(matches: &ArgMatches<'_>) -> Result<Option<u16>, ValueFault>
+fn read_slack(matches: &ArgMatches<'_>) -> Result<Option<u16>, ValueFault>
     ensures value { IfOk result (λ slack. spec.IsSlack (first_value (found_of matches.now) (codes "slack")) slack) }
     ensures refused { IfErr result (λ fault. spec.IsOutside 0 1000 (first_value (found_of matches.now) (codes "slack"))) }
 {
@@ -220,7 +220,7 @@ fn better_of(used: &ArgMatches<'_>, early: bool) -> Result<Option<u16>, ValueFau
     if !early {
         return Ok(None);
     }
-    let slack = named_slack(used)?;
+    let slack = read_slack(used)?;
     Ok(Some(slack.unwrap_or(0)))
 }
 
@@ -446,8 +446,8 @@ fn run_of(used: &ArgMatches<'_>) -> Result<Named, ValueFault>
     let plain = is_given(used, "plain");
     let within = is_given(used, "within");
     let search = search_of(plain, within)?;
-    let limit = named_limit(used)?;
-    let slack = named_slack(used)?;
+    let limit = read_limit(used)?;
+    let slack = read_slack(used)?;
     let clocked = clock_of(used)?;
     let slack = slack.unwrap_or(0);
     let limit = limit.unwrap_or(usual_of(search, slack));
@@ -505,7 +505,7 @@ fn audit_of(used: &ArgMatches<'_>) -> Result<Named, ValueFault>
 }
 
 /// What a command with these arguments names.
-fn named_of(name: &str, used: &ArgMatches<'_>) -> Result<Named, ValueFault>
+fn read_named(name: &str, used: &ArgMatches<'_>) -> Result<Named, ValueFault>
     ensures range { IfOk result (λ named. spec.IsInRange named) }
     ensures named { IfOk result (λ named. spec.IsNamed named name.now (rows_of (found_of used.now))) }
 {
@@ -570,7 +570,7 @@ pub fn read_words<'a>(alloc: Global, words: &'a [String]) -> Result<Parsed<'a>, 
     let Some((name, used)) = matches.subcommand() else {
         return Err(refused(alloc, ValueFault::NoCommand));
     };
-    let named = match named_of(name, used) {
+    let named = match read_named(name, used) {
         Ok(named) => named,
         Err(fault) => return Err(refused(alloc, fault)),
     };
@@ -592,7 +592,7 @@ fn refused(alloc: Global, fault: ValueFault) -> Untaken {
 }
 
 /// The words with what isn't printable escaped, so that what is said of them is safe to show.
-fn shown_words(alloc: Global, words: &[String]) -> Result<Vec<String>, AllocError> {
+fn escape_words(alloc: Global, words: &[String]) -> Result<Vec<String>, AllocError> {
     let mut shown = Vec::new(alloc);
     for word in words {
         shown.push(escaped(alloc, word.as_str())?)?;
@@ -616,8 +616,8 @@ fn without_tip(alloc: Global, text: &str) -> Result<String, AllocError> {
 }
 
 /// What is said of words in which nothing was found.
-fn said(alloc: Global, words: &[String], error: &Error) -> Result<String, AllocError> {
-    let shown = shown_words(alloc, words)?;
+fn describe_unfound(alloc: Global, words: &[String], error: &Error) -> Result<String, AllocError> {
+    let shown = escape_words(alloc, words)?;
     let text = match matches_of(alloc, shown.as_slice()) {
         Err(again) => format!(in alloc; "{again}")?,
         Ok(_) => format!(in alloc; "{error}")?,
@@ -632,7 +632,7 @@ fn fault_of(alloc: Global, words: &[String], error: &Error) -> Untaken
     if error.kind() == ErrorKind::OutOfMemory {
         return Untaken::Memory;
     }
-    match said(alloc, words, error) {
+    match describe_unfound(alloc, words, error) {
         Ok(text) if error.kind() == ErrorKind::DisplayVersion => Untaken::Version(text),
         Ok(text) => Untaken::Refused(text),
         Err(AllocError) => Untaken::Memory,

@@ -40,7 +40,7 @@ fn flag<'a>(alloc: Global, name: &'a str, about: &'a str) -> Arg<'a>
 }
 
 /// `--quiet`, `-q`
-fn quiet<'a>(alloc: Global) -> Arg<'a>
+fn quiet_flag<'a>(alloc: Global) -> Arg<'a>
     ensures rule { rule_of result ≡ spec.quiet }
     ensures local { result.global ≡ false }
 {
@@ -111,7 +111,7 @@ fn plan<'a>(alloc: Global) -> Result<Command<'a>, AllocError>
     ensures app { IfOk result (λ a. app_of a ≡ spec.plan) }
     ensures local { IfOk result (λ a. (fields_of a).has_globals ≡ false) }
 {
-    let plan = with(plan_early(alloc)?, quiet(alloc))?;
+    let plan = with(plan_early(alloc)?, quiet_flag(alloc))?;
     with(plan, file(alloc, "FILE", help::FILE))
 }
 
@@ -131,7 +131,7 @@ fn check<'a>(alloc: Global) -> Result<Command<'a>, AllocError>
     ensures app { IfOk result (λ a. app_of a ≡ spec.check) }
     ensures local { IfOk result (λ a. (fields_of a).has_globals ≡ false) }
 {
-    let check = with(check_judging(alloc)?, quiet(alloc))?;
+    let check = with(check_judging(alloc)?, quiet_flag(alloc))?;
     let check = with(check, file(alloc, "FILE", help::FILE))?;
     with(check, file(alloc, "PLAN", help::PLAN_FILE))
 }
@@ -163,7 +163,7 @@ fn run<'a>(alloc: Global) -> Result<Command<'a>, AllocError>
 {
     let clock = value(alloc, "clock", "CLOCK", help::CLOCK_RUN);
     let run = with(run_planning(alloc)?, clock)?;
-    let run = with(run, quiet(alloc))?;
+    let run = with(run, quiet_flag(alloc))?;
     with(run, file(alloc, "FILE", help::FILE))
 }
 
@@ -173,7 +173,7 @@ fn device<'a>(alloc: Global) -> Result<Command<'a>, AllocError>
     ensures local { IfOk result (λ a. (fields_of a).has_globals ≡ false) }
 {
     let device = command(alloc, "device", help::DEVICE, help::DEVICE_MORE);
-    let device = with(device, quiet(alloc))?;
+    let device = with(device, quiet_flag(alloc))?;
     with(device, file(alloc, "FILE", help::FILE))
 }
 
@@ -203,7 +203,7 @@ fn audit<'a>(alloc: Global) -> Result<Command<'a>, AllocError>
     ensures app { IfOk result (λ a. app_of a ≡ spec.audit) }
     ensures local { IfOk result (λ a. (fields_of a).has_globals ≡ false) }
 {
-    let audit = with(audit_measuring(alloc)?, quiet(alloc))?;
+    let audit = with(audit_measuring(alloc)?, quiet_flag(alloc))?;
     let audit = with(audit, file(alloc, "FILE", help::FILE))?;
     with(audit, file(alloc, "LOG", help::LOG_FILE))
 }

@@ -267,7 +267,7 @@ fn put_rows(
 }
 
 /// What is written of a page, and of the device that it describes with its sheet.
-fn described(
+fn describe_device(
     alloc: Global,
     page: &ParamPage,
     device: &Result<Device, ScriptFault>,
@@ -330,7 +330,7 @@ fn answer_rows(alloc: Global, rows: &[Row]) -> Result<Answer, AllocError>
     match page_of(alloc, rows) {
         Ok(page) => {
             let device = device_in(alloc, rows)?;
-            described(alloc, &page, &device)
+            describe_device(alloc, &page, &device)
         }
         Err(RowStop::Fault(fault)) => refused_for(alloc, fault),
         Err(RowStop::Memory) => Err(AllocError),

@@ -25,7 +25,7 @@ pub fn escaped(alloc: Global, text: &str) -> Result<String, AllocError> {
 ///
 /// # Errors
 /// Where memory was refused.
-pub fn shown(alloc: Global, bytes: &[u8]) -> Result<String, AllocError> {
+pub fn escape_bytes(alloc: Global, bytes: &[u8]) -> Result<String, AllocError> {
     let mut shown = String::new(alloc);
     for byte in bytes.iter().take(MOST) {
         if *byte == b'\'' || *byte == b'"' {

@@ -190,7 +190,7 @@ fn field_of(row: &[u8], at: usize) -> Option<FieldRange> {
 }
 
 /// The first field of a row in which something else stands than may, and what that is.
-pub fn wrong_field(record: &ByteRecord) -> Option<(FieldRange, &[u8])> {
+pub fn find_wrong_field(record: &ByteRecord) -> Option<(FieldRange, &[u8])> {
     let row = field(record, 0);
     for at in 1..record.len() {
         match field_of(row, at) {
@@ -204,7 +204,7 @@ pub fn wrong_field(record: &ByteRecord) -> Option<(FieldRange, &[u8])> {
 }
 
 /// The number in the field of a row that is called so.
-pub fn named_number(record: &ByteRecord, name: &str) -> Option<u64> {
+pub fn read_named_number(record: &ByteRecord, name: &str) -> Option<u64> {
     let row = field(record, 0);
     for at in 1..record.len() {
         match field_of(row, at) {

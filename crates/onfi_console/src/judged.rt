@@ -1,5 +1,5 @@
 //! Why a plan text or its certificate is refused.
-use crate::escaping::shown;
+use crate::escaping::escape_bytes;
 use crate::guess::{OtherText, guess};
 use crate::input::{Input, line_at, line_start};
 use crate::lines::{last_of_text, line_fault, token_at, token_text_fault};
@@ -7,7 +7,7 @@ use onfi_cert::CertTextFault;
 use onfi_check::{CertFault, TextFault};
 use onfi_known_check::{KnownFault, KnownTextFault};
 use onfi_planners::ChosenPlanner;
-use onfi_script::{Command, Why, behind_end, script_len};
+use onfi_script::{Command, Why, after_end, script_len};
 use std::alloc::{AllocError, Global};
 
 /// What a certificate has to prove for a command.
@@ -80,7 +80,7 @@ fn tokens_message(
 /// The text after the line `end`.
 fn plan_text<'a>(input: &Input<'a>) -> &'a [u8] {
     match script_len(input.text) {
-        Some(size) => behind_end(&input.text[size..]),
+        Some(size) => after_end(&input.text[size..]),
         None => b"",
     }
 }
@@ -95,13 +95,13 @@ fn plan_line_message(
     let start = line_start(text, above);
     let before = input.text.len().saturating_sub(text.len());
     let (name, line) = input.place(before.saturating_add(start));
-    let found = shown(alloc, line_at(text, above))?;
+    let found = escape_bytes(alloc, line_at(text, above))?;
     let place = if line == number {
         format!(in alloc; "onfi_sim: {name}:{line}: '{found}'")?
     } else {
         format!(in alloc; "onfi_sim: {name}:{line}: line {number} of the plan text '{found}'")?
     };
-    let expected = expected(number);
+    let expected = name_expected(number);
     match line_cause(text.get(start..).unwrap_or(b""), number) {
         Some(cause) => { format!(in alloc; "{place}: {cause}\n  expected: {expected}\n") }
         None => format!(in alloc; "{place}: expected {expected}\n"),
@@ -131,7 +131,7 @@ fn line_cause(text: &[u8], number: usize) -> Option<&'static str> {
 }
 
 /// What stands in a line of a plan text, counted from 1.
-fn expected(number: usize) -> &'static str {
+fn name_expected(number: usize) -> &'static str {
     match number {
         1 => "'ONFIPLAN 1', with a line end",
         2 => "'finish N', N in ns without leading zeros, with a line end",
@@ -169,7 +169,7 @@ fn bad_token_message(alloc: Global, input: &Input<'_>, at: usize) -> Result<Stri
     let text = certificate(plan_text(input));
     let behind = text.get(line_start(text, 1)..).unwrap_or(b"");
     let (token, why) = (
-        shown(alloc, token_at(behind, at))?,
+        escape_bytes(alloc, token_at(behind, at))?,
         token_text_fault(behind, at),
     );
     format!(in alloc;

@@ -1,5 +1,5 @@
 //! Where rows of a script stand, and how they are shown.
-use crate::escaping::shown;
+use crate::escaping::escape_bytes;
 use crate::input::lines_in;
 use csv::ByteRecord;
 use std::alloc::{AllocError, Global};
@@ -31,5 +31,5 @@ pub fn row_text(alloc: Global, record: &ByteRecord) -> Result<String, AllocError
         }
         bytes.extend_from_slice(field)?;
     }
-    shown(alloc, bytes.as_slice())
+    escape_bytes(alloc, bytes.as_slice())
 }

@@ -1,7 +1,7 @@
 //! Why a script is refused, and where.
-use crate::absent::{absent_field, is_op_too_many};
-use crate::escaping::shown;
-use crate::fields::{field, number_fault, wrong_field};
+use crate::absent::{find_absent_field, is_op_too_many};
+use crate::escaping::escape_bytes;
+use crate::fields::{field, find_wrong_field, number_fault};
 use crate::guess::{OtherText, guess};
 use crate::input::{Input, line_at, lines_in, word_at};
 use crate::parsed::CommandName;
@@ -90,7 +90,7 @@ fn row_message(alloc: Global, refused: &Refused<'_, '_>, row: usize) -> Result<S
 /// What was expected in place of a row.
 fn hint(alloc: Global, refused: &Refused<'_, '_>, name: &[u8]) -> Result<String, AllocError> {
     if matches!(refused.fault, ScriptFault::NotHere) {
-        let rows = taken(refused.command, name);
+        let rows = name_taken_rows(refused.command, name);
         return format!(in alloc; "  expected: {rows}\n");
     }
     if let Some(form) = form_of(name) {
@@ -160,9 +160,9 @@ fn plain_fault(fault: ScriptFault) -> &'static str {
 
 /// Which field isn't a number, and why.
 fn not_a_number(alloc: Global, record: &ByteRecord) -> Result<String, AllocError> {
-    match wrong_field(record) {
+    match find_wrong_field(record) {
         Some((found, text)) => {
-            let (name, shown, why) = (found.name, shown(alloc, text)?, number_fault(text));
+            let (name, shown, why) = (found.name, escape_bytes(alloc, text)?, number_fault(text));
             format!(in alloc; "{name} is '{shown}', which isn't a number: {why}")
         }
         None => String::from_str(alloc, "a field isn't a number: digits alone"),
@@ -176,8 +176,8 @@ fn out_of_range(
     record: &ByteRecord,
     row: usize,
 ) -> Result<String, AllocError> {
-    if let Some((found, text)) = wrong_field(record) {
-        let (name, shown, told) = (found.name, shown(alloc, text)?, found.told);
+    if let Some((found, text)) = find_wrong_field(record) {
+        let (name, shown, told) = (found.name, escape_bytes(alloc, text)?, found.told);
         return format!(in alloc; "{name} is '{shown}', and has to be {told}");
     }
     if is_op_too_many(refused.records, row) {
@@ -190,7 +190,7 @@ fn out_of_range(
         return String::from_str(alloc, "NS is less than that of an 'at' row above");
     }
     let (purpose, text) = (purpose_of(refused.command), refused.input.text);
-    match absent_field(alloc, purpose, text, refused.records, record) {
+    match find_absent_field(alloc, purpose, text, refused.records, record) {
         Some((name, count)) => {
             format!(in alloc; "{name} has to be below {count}: so many there are, counted from 0")
         }
@@ -294,7 +294,7 @@ fn not_here(alloc: Global, refused: &Refused<'_, '_>, name: &[u8]) -> Result<Str
 }
 
 /// Which rows are taken where one of this name isn't.
-fn taken(command: CommandName, name: &[u8]) -> &'static str {
+fn name_taken_rows(command: CommandName, name: &[u8]) -> &'static str {
     match command {
         CommandName::Run if name == b"at".as_slice() =>
             "--clock simulated, or a script without 'at' rows",
@@ -315,7 +315,7 @@ fn whole_message(alloc: Global, refused: &Refused<'_, '_>) -> Result<String, All
     match refused.fault {
         ScriptFault::NoEnd => no_end(alloc, input),
         ScriptFault::Missing => {
-            let what = missing(refused.command, refused.records);
+            let what = name_missing_row(refused.command, refused.records);
             format!(in alloc; "onfi_sim: {name}: the script lacks {what}\n")
         }
         ScriptFault::Sheet(SheetFault::Missing(_)) => {
@@ -336,14 +336,14 @@ fn whole_message(alloc: Global, refused: &Refused<'_, '_>) -> Result<String, All
         ScriptFault::Problem(ProblemFault::NoLengths) => no_lengths(alloc, refused),
         fault => {
             let what = whole_fault(refused.command, fault);
-            let more = advice(refused.command, fault);
+            let more = give_advice(refused.command, fault);
             format!(in alloc; "onfi_sim: {name}: {what}{more}\n")
         }
     }
 }
 
 /// The line of a text, counted from 0, that closes a script but for capitals and blanks.
-fn near_end(text: &[u8]) -> Option<usize> {
+fn find_near_end(text: &[u8]) -> Option<usize> {
     text.split(|byte| *byte == b'\n')
         .position(|line| line.trim_ascii().eq_ignore_ascii_case(b"end"))
 }
@@ -357,8 +357,11 @@ fn no_end(alloc: Global, input: &Input<'_>) -> Result<String, AllocError> {
             return format!(in alloc; "onfi_sim: {name}:1: {what}\n");
         }
     }
-    if let Some(at) = near_end(input.text) {
-        let (line, found) = (at.saturating_add(1), shown(alloc, line_at(input.text, at))?);
+    if let Some(at) = find_near_end(input.text) {
+        let (line, found) = (
+            at.saturating_add(1),
+            escape_bytes(alloc, line_at(input.text, at))?,
+        );
         return format!(in alloc;
             "onfi_sim: {name}:{line}: '{found}' doesn't close the script; the line 'end' does, in small letters and without blanks\n"
         );
@@ -422,7 +425,7 @@ fn has_row(records: &[ByteRecord], name: &[u8], kind: &[u8]) -> bool {
 }
 
 /// Which row of its device a script lacks.
-fn missing(command: CommandName, records: &[ByteRecord]) -> &'static str {
+fn name_missing_row(command: CommandName, records: &[ByteRecord]) -> &'static str {
     if command == CommandName::Device {
         return "the device's 'page' rows";
     }
@@ -502,7 +505,7 @@ fn geometry_fault(fault: GeometryFault) -> &'static str {
 }
 
 /// What else may be done where a page doesn't show a command that the device may have.
-fn advice(command: CommandName, fault: ScriptFault) -> &'static str {
+fn give_advice(command: CommandName, fault: ScriptFault) -> &'static str {
     match fault {
         ScriptFault::Geometry(
             GeometryFault::NoStatusEnhanced
@@ -575,7 +578,7 @@ fn unstated_row(alloc: Global, rows: &[Row]) -> Option<(usize, Kind)> {
     let device = device_of(alloc, rows).ok()?;
     let setup = set_up(alloc, rows, &device).ok()?;
     for (at, row) in rows.iter().enumerate() {
-        if let Some(kind) = unstated(&setup, row) {
+        if let Some(kind) = find_unstated(&setup, row) {
             return Some((at, kind));
         }
     }
@@ -583,7 +586,7 @@ fn unstated_row(alloc: Global, rows: &[Row]) -> Option<(usize, Kind)> {
 }
 
 /// The kind of what this row has put out sectors without a length.
-fn unstated(setup: &Setup, row: &Row) -> Option<Kind> {
+fn find_unstated(setup: &Setup, row: &Row) -> Option<Kind> {
     match row {
         Row::Sectors { request, count } => {
             let id = u64::from(*request);

@@ -28,7 +28,7 @@ impl Arrivals {
     }
 
     /// With one item more, which has that place.
-    pub fn counting(&self, place: u64, item: &Item) -> Arrivals
+    pub fn with_item(&self, place: u64, item: &Item) -> Arrivals
         requires few { (accepted : List AnItem) × AreArrivals accepted self.now × (length accepted ≤ 2 ^ 34) }
         requires lun { item.now.request.place.lun < 8 }
         ensures { (accepted : List AnItem) → AreArrivals accepted self.now → place ≡ length accepted → AreArrivals (accepted ++ item.now ∷ []) result }

@@ -115,7 +115,7 @@ impl<C: Chip> Channel<C> {
             serial,
             request,
         };
-        self.traffic = self.traffic.accepting(&item);
+        self.traffic = self.traffic.with_accepted(&item);
         self.hosts[at].sent += 1;
         self.waiting.push_back_reserved(item);
         Outcome::Submitted(serial)
@@ -205,7 +205,7 @@ impl<C: Chip> Channel<C> {
         if at >= self.hosts.len() {
             return Outcome::NoSuch(None);
         }
-        let Some(reply) = self.half.held(host) else {
+        let Some(reply) = self.half.take_held(host) else {
             return Outcome::NothingToPost;
         };
         if self.hosts[at].completions.len() >= usize::from(self.half.setup().post_cap) {
@@ -213,7 +213,7 @@ impl<C: Chip> Channel<C> {
             return Outcome::PostFull;
         }
         let place = reply.place;
-        self.half.posted(host);
+        self.half.note_posted(host);
         self.hosts[at].completions.push_back_reserved(reply);
         Outcome::Posted(place)
     }
@@ -230,7 +230,7 @@ impl<C: Chip> Channel<C> {
         let Some(reply) = self.hosts[at].completions.pop_front() else {
             return Outcome::NothingToCollect;
         };
-        self.traffic = self.traffic.collecting(&reply);
+        self.traffic = self.traffic.with_collected(&reply);
         Outcome::Collected(reply)
     }
 

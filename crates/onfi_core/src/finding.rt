@@ -53,14 +53,14 @@ pub fn next_place(slots: &Slab<Slot>, from: u64) -> Option<u64>
     let mut least = None;
     for key in 0..slots.capacity() {
         if let Some(slot) = slots.get(key) {
-            least = nearer(least, from, slot.place);
+            least = choose_nearer(least, from, slot.place);
         }
     }
     least
 }
 
 // Of one place so far and another, the lesser that isn't below the first.
-fn nearer(least: Option<u64>, from: u64, place: u64) -> Option<u64>
+fn choose_nearer(least: Option<u64>, from: u64, place: u64) -> Option<u64>
     ensures { result ≡ nearer least from place }
 {
     if place < from {

@@ -195,8 +195,8 @@ impl Half {
     {
         let place = self.accepted;
         let nth = self.arrivals.by_lun[usize::from(item.request.place.lun)];
-        self.history = self.history.accepting(&item);
-        self.arrivals = self.arrivals.counting(place, &item);
+        self.history = self.history.with_accepted(&item);
+        self.arrivals = self.arrivals.with_item(place, &item);
         self.slots.insert_reserved(Slot { place, nth, item });
         self.accepted += 1;
         place
@@ -310,9 +310,9 @@ impl Half {
         }
     }
 
-    /// Moves out the oldest reply that is held for the host. What follows is [`Half::keep`] or [`Half::posted`]; until
+    /// Moves out the oldest reply that is held for the host. What follows is [`Half::keep`] or [`Half::note_posted`]; until
     /// then the state is as before. It takes no memory.
-    pub fn held(&mut self, host: u8) -> Option<Reply>
+    pub fn take_held(&mut self, host: u8) -> Option<Reply>
         requires settled { self.old.lent ≡ None }
         ensures none { IfNone result ((held_for host self.old.state ≡ []) × (self.new ≡ self.old)) }
         ensures oldest { IfSome result (λ r. IsOldest host self.old.state.held r) }
@@ -320,7 +320,7 @@ impl Half {
     {
         let at = oldest_for(host, self.held.as_slice())?;
         let reply = self.held.remove(at);
-        self.history = self.history.lending(&reply);
+        self.history = self.history.with_lent(&reply);
         self.lent = Some(Lent {
             at,
             place: reply.place,
@@ -328,7 +328,7 @@ impl Half {
         Some(reply)
     }
 
-    /// Puts back the reply that [`Half::held`] gave: nothing happened. It takes no memory.
+    /// Puts back the reply that [`Half::take_held`] gave: nothing happened. It takes no memory.
     pub fn keep(&mut self, reply: Reply)
         requires lent { self.old.lent ≡ Some reply }
         ensures { self.new ≡ record self.old { lent = None } }
@@ -336,13 +336,13 @@ impl Half {
         let Some(lent) = self.lent else {
             unreachable!();
         };
-        self.history = self.history.keeping();
+        self.history = self.history.without_lent();
         self.lent = None;
         self.held.insert(lent.at, reply).unwrap();
     }
 
-    /// The reply that [`Half::held`] gave for the host was posted. It takes no memory.
-    pub fn posted(&mut self, host: u8)
+    /// The reply that [`Half::take_held`] gave for the host was posted. It takes no memory.
+    pub fn note_posted(&mut self, host: u8)
         requires lent { (r : AReply) × (self.old.lent ≡ Some r) × (r.host ≡ host) }
         ensures posted { IfSome self.old.lent (λ r. GoesOut self.old.state self.new.state host r) }
         ensures settled { self.new.lent ≡ None }
@@ -355,7 +355,7 @@ impl Half {
             unreachable!();
         };
         self.slots.try_remove(key);
-        self.history = self.history.posting(&self.held);
+        self.history = self.history.with_posted(&self.held);
         self.lent = None;
     }
 

@@ -44,42 +44,42 @@ impl History {
     }
 
     /// With one item more.
-    pub fn accepting(&self, item: &Item) -> History
+    pub fn with_accepted(&self, item: &Item) -> History
         ensures { (result.accepted ≡ self.now.accepted ++ item.now ∷ []) × (result.held ≡ self.now.held) × (result.posted ≡ self.now.posted) × (result.lent ≡ self.now.lent) }
     {
         History::of(self, item)
     }
 
     /// With one reply more that is held, if there is one.
-    pub fn holding(&self, reply: &Option<Reply>) -> History
+    pub fn with_held(&self, reply: &Option<Reply>) -> History
         ensures { (result.accepted ≡ self.now.accepted) × (result.held ≡ self.now.held ++ option_to_list reply.now) × (result.posted ≡ self.now.posted) × (result.lent ≡ self.now.lent) }
     {
         History::of(self, reply)
     }
 
     /// A held reply is on its way out.
-    pub fn lending(&self, reply: &Reply) -> History
+    pub fn with_lent(&self, reply: &Reply) -> History
         ensures { (result.accepted ≡ self.now.accepted) × (result.held ≡ self.now.held) × (result.posted ≡ self.now.posted) × (result.lent ≡ Some reply.now) }
     {
         History::of(self, reply)
     }
 
     /// The reply that was on its way out is held as before.
-    pub fn keeping(&self) -> History
+    pub fn without_lent(&self) -> History
         ensures { (result.accepted ≡ self.now.accepted) × (result.held ≡ self.now.held) × (result.posted ≡ self.now.posted) × (result.lent ≡ None) }
     {
         History::of(self, &())
     }
 
     /// The reply that was on its way out is posted; these are held.
-    pub fn posting(&self, held: &Vec<Reply>) -> History
+    pub fn with_posted(&self, held: &Vec<Reply>) -> History
         ensures { (result.accepted ≡ self.now.accepted) × (result.held ≡ held.now.items) × (result.posted ≡ self.now.posted ++ option_to_list self.now.lent) × (result.lent ≡ None) }
     {
         History::of(self, held)
     }
 
     /// With one reply more that went out.
-    pub fn collecting(&self, reply: &Reply) -> History
+    pub fn with_collected(&self, reply: &Reply) -> History
         ensures { (result.accepted ≡ self.now.accepted) × (result.held ≡ self.now.held) × (result.posted ≡ self.now.posted ++ reply.now ∷ []) × (result.lent ≡ self.now.lent) }
     {
         History::of(self, reply)

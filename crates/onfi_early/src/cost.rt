@@ -68,7 +68,7 @@ fn cost_left(problem: &Problem, timing: &Timing, lun: u8, weights: &[u16], start
             let lengths = GroupLengths::of(timing, operation, members, next, &sectors);
             let commands = members.saturating_sub(next) as usize;
             let first = next.saturating_sub(members) as usize;
-            cost_behind(lengths.posts(), weights, first, commands, starts)
+            cost_after(lengths.posts(), weights, first, commands, starts)
         }
     }
 }
@@ -96,11 +96,11 @@ fn cost_of_group(timing: &Timing, wants: &[Want], weights: &[u16; 8], group: &Pl
     let posts = posts_of(timing, members.members());
     let own = weights_of(wants, weights, members.members());
     let starts = group.starts();
-    cost_behind(posts.as_slice(), own.as_slice(), 0, members.len(), starts)
+    cost_after(posts.as_slice(), own.as_slice(), 0, members.len(), starts)
 }
 
 // What the posts after so many commands cost; the first of them is that of member `first`.
-fn cost_behind(
+fn cost_after(
     posts: &[u64],
     weights: &[u16],
     first: usize,

@@ -174,10 +174,10 @@ impl Floor {
         let rest = self.rest_of(phase.step.lun());
         let (posts, busy) = match phase.step {
             Move::Next { .. } if rest.posts.is_next() => {
-                (rest.posts.behind_first(aim, rest.phase), rest.busy)
+                (rest.posts.skip_first(aim, rest.phase), rest.busy)
             }
             Move::Next { .. } => (rest.posts, rest.busy),
-            Move::Start { place, .. } => started(problem, aim, place),
+            Move::Start { place, .. } => list_started(problem, aim, place),
         };
         self.line_up(posts, phase.start);
         phase.start.wrapping_add(busy)
@@ -257,7 +257,7 @@ fn shorter(before: Option<Spans>, aim: &Aim, want: &Want) -> Option<Spans> {
 }
 
 // The posts of a group that starts, and how long the whole group takes, in ns.
-fn started(problem: &Problem, aim: &Aim, place: u8) -> (Posts, u64) {
+fn list_started(problem: &Problem, aim: &Aim, place: u8) -> (Posts, u64) {
     let Some(group) = problem.groups().get(place as usize) else {
         return (Posts::none(), 0);
     };

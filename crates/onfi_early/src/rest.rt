@@ -135,7 +135,7 @@ impl Posts {
     }
 
     /// Those after the first one, from when that starts.
-    pub fn behind_first(self, aim: &Aim, post: u64) -> Posts {
+    pub fn skip_first(self, aim: &Aim, post: u64) -> Posts {
         let (member, left) = (self.member.saturating_add(1), self.left.saturating_sub(1));
         Posts {
             left,

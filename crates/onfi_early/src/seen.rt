@@ -126,13 +126,13 @@ fn key_of(problem: &Problem) -> u64 {
         } else {
             state.place as u64 * 8 + state.next as u64
         };
-        key = mixed(key, code);
+        key = mix_code(key, code);
     }
-    mixed(key, marked(problem.waiting()))
+    mix_code(key, pack_marks(problem.waiting()))
 }
 
 // The marks as the bits of a number.
-fn marked(marks: &[bool; 8]) -> u64 {
+fn pack_marks(marks: &[bool; 8]) -> u64 {
     let mut number = 0u64;
     for mark in marks {
         number = number.wrapping_mul(2) | *mark as u64;
@@ -140,7 +140,7 @@ fn marked(marks: &[bool; 8]) -> u64 {
     number
 }
 
-fn mixed(key: u64, code: u64) -> u64 {
+fn mix_code(key: u64, code: u64) -> u64 {
     let key = (key ^ code).wrapping_mul(0x9E37_79B9_7F4A_7C15);
     key ^ key >> 29
 }

@@ -63,7 +63,7 @@ pub(crate) fn lun_after(timing: &Timing, group: &Group, phase: u8, ended: u64) -
 }
 
 // The starts after the first one.
-pub(crate) fn behind_first(starts: &Starts) -> Starts
+pub(crate) fn skip_first(starts: &Starts) -> Starts
     requires { 1 ≤ length starts.now }
     ensures { result ≡ drop 1 starts.now }
 {

@@ -16,7 +16,7 @@ pub(crate) fn delay_schedule(alloc: Global, by: u64, schedule: &Schedule) -> Sch
 {
     Schedule::new(
         later_rest(by, schedule.rest()),
-        later_groups(alloc, by, schedule.groups()),
+        delay_groups(alloc, by, schedule.groups()),
     )
 }
 
@@ -34,20 +34,20 @@ fn later_rest(by: u64, rest: &[Starts]) -> ArrayVec<Starts, 9>
 }
 
 // New groups, later by so much.
-fn later_groups(alloc: Global, by: u64, groups: &[Placed]) -> ArrayVec<Placed, 8, Global>
+fn delay_groups(alloc: Global, by: u64, groups: &[Placed]) -> ArrayVec<Placed, 8, Global>
     requires few { length groups.now ≤ 8 }
     requires early { Each (λ g. Each (λ t. t + by < 2 ^ 63) g.starts) groups.now }
     ensures { result.items ≡ map (later_group by) groups.now }
 {
     let mut later = ArrayVec::new_in(alloc);
     for placed in groups {
-        later.push(later_group(by, placed));
+        later.push(delay_group(by, placed));
     }
     later
 }
 
 // A group, later by so much.
-fn later_group(by: u64, placed: &Placed) -> Placed
+fn delay_group(by: u64, placed: &Placed) -> Placed
     requires { Each (λ t. t + by < 2 ^ 63) placed.now.starts }
     ensures { result ≡ later_group by placed.now }
 {

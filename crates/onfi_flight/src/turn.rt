@@ -48,7 +48,7 @@ fn least_rest(rest: &[Starts]) -> Option<Start>
 {
     let mut least = None;
     for (at, starts) in rest.iter().enumerate() {
-        least = sooner_of(least, at, starts);
+        least = choose_sooner_of(least, at, starts);
     }
     least
 }
@@ -60,13 +60,13 @@ fn least_group(groups: &[Placed]) -> Option<Start>
 {
     let mut least = None;
     for (at, placed) in groups.iter().enumerate() {
-        least = sooner_of(least, at, placed.starts());
+        least = choose_sooner_of(least, at, placed.starts());
     }
     least
 }
 
 // The sooner of that start and the first of these, which stand at that place.
-fn sooner_of(least: Option<Start>, at: usize, starts: &Starts) -> Option<Start>
+fn choose_sooner_of(least: Option<Start>, at: usize, starts: &Starts) -> Option<Start>
     requires { IfSome least (λ s. s.time < 2 ^ 63) }
     ensures sooner { SoonerOf least at starts.now result }
     ensures time { IfSome result (λ s. s.time < 2 ^ 63) }
@@ -75,7 +75,7 @@ fn sooner_of(least: Option<Start>, at: usize, starts: &Starts) -> Option<Start>
     if starts.is_empty() {
         return least;
     }
-    sooner(
+    choose_sooner(
         least,
         Start {
             at,
@@ -85,7 +85,7 @@ fn sooner_of(least: Option<Start>, at: usize, starts: &Starts) -> Option<Start>
 }
 
 // The sooner of the two; of equals the first.
-fn sooner(least: Option<Start>, start: Start) -> Option<Start>
+fn choose_sooner(least: Option<Start>, start: Start) -> Option<Start>
     ensures { SoonerIs least start result }
 {
     match least {

@@ -59,12 +59,12 @@ pub fn best_of_rules(
     ensures by_rule { IfOk result (λ best. EndsByRule problem.old.problem best.finish) }
 {
     let best = best_of_own_rules(alloc, problem, loads, first)?;
-    sooner_by_rule(alloc, problem, loads, best)
+    choose_by_rule(alloc, problem, loads, best)
 }
 
 // The best among a schedule and that of the rule of `onfi_steady`, which isn't made where a bound shows that nothing ends
 // sooner.
-fn sooner_by_rule(
+fn choose_by_rule(
     alloc: Global,
     problem: &Problem,
     loads: &Loads,
@@ -81,7 +81,7 @@ fn sooner_by_rule(
         return Ok(best);
     }
     let ruled = run_by_rule(alloc, problem)?;
-    Ok(sooner(best, ruled))
+    Ok(choose_sooner(best, ruled))
 }
 
 // The best among a schedule and those of the rules here.
@@ -98,13 +98,13 @@ fn best_of_own_rules(
     ensures sooner { IfOk result (λ best. best.finish ≤ first.finish) }
 {
     let luns_first = schedule_by(alloc, problem, loads, Rule::LunsFirst)?;
-    let mut best = sooner(luns_first, first);
+    let mut best = choose_sooner(luns_first, first);
     for rule in RULES {
         if loads.closing(problem, best.finish).is_some() {
             return Ok(best);
         }
         let other = schedule_by(alloc, problem, loads, rule)?;
-        best = sooner(best, other);
+        best = choose_sooner(best, other);
     }
     Ok(best)
 }
@@ -125,7 +125,7 @@ fn schedule_by(
 }
 
 // The one of two that ends first; the first of equals.
-fn sooner(best: Best, other: Best) -> Best
+fn choose_sooner(best: Best, other: Best) -> Best
     ensures run { (problem : Position) → IsRunOf problem best → IsRunOf problem other → IsRunOf problem result }
     ensures sooner { result.finish ≤ best.finish }
     ensures no_later { result.finish ≤ other.finish }

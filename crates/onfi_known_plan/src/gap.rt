@@ -69,7 +69,7 @@ pub fn narrow_gap(
     let opened = walked.opened;
     let Gap { best, shown, .. } = gap;
     let shown = shown_by_walk(shown, aim.finish, walked);
-    let best = found_or(best, aim, half);
+    let best = choose_found(best, aim, half);
     Ok(Gap {
         best,
         shown,
@@ -93,7 +93,7 @@ fn shown_by_walk(shown: ShownBefore, finish: u64, walked: Walked) -> ShownBefore
 }
 
 // The one that was aimed at, where it ends before the middle.
-fn found_or(best: Best, aim: Best, middle: u64) -> Best
+fn choose_found(best: Best, aim: Best, middle: u64) -> Best
     ensures found { aim.finish < middle → result ≡ aim }
     ensures kept { middle ≤ aim.finish → result ≡ best }
 {

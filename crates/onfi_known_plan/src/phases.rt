@@ -177,7 +177,7 @@ impl Phases {
     fn spellable(&self, e: u64) -> Option<Window>
         ensures { IfSome result (λ w. w.start < 2 ^ 63 × w.tail < 2 ^ 63) }
     {
-        let window = self.seeming(e)?;
+        let window = self.find_seeming(e)?;
         if window.start >= 1 << 63 || window.tail >= 1 << 63 {
             return None;
         }
@@ -185,7 +185,7 @@ impl Phases {
     }
 
     // The first window that reaches `e` by the phases that are listed.
-    fn seeming(&self, e: u64) -> Option<Window> {
+    fn find_seeming(&self, e: u64) -> Option<Window> {
         for tail in self.tails.as_slice() {
             if let Some(window) = self.reaching_with(*tail, e) {
                 return Some(window);

@@ -34,7 +34,7 @@ pub struct Shown {
 
 impl Shown {
     // Of a node that the walk gives up: it asks for nothing.
-    fn given_up(improved: bool) -> Shown
+    fn give_up(improved: bool) -> Shown
         ensures demand { IsKept result.demand (of_bus 0) }
         ensures improved { result.improved ≡ improved }
     {
@@ -61,7 +61,7 @@ pub fn search(
 {
     if notes.opened == notes.limit {
         notes.cut = true;
-        return Ok(Shown::given_up(false));
+        return Ok(Shown::give_up(false));
     }
     notes.opened += 1;
     let found = find_closing(
@@ -116,7 +116,7 @@ fn search_open(
         search_child(problem, loads, *step, &soonest, best, &mut standing, notes)?;
     }
     if notes.cut {
-        return Ok(Shown::given_up(standing.improved));
+        return Ok(Shown::give_up(standing.improved));
     }
     soonest.raise(problem, &standing.yielded, &mut standing.asked);
     notes.records.keep(problem, standing.asked)?;

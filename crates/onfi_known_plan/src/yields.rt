@@ -72,13 +72,13 @@ impl Soonest {
         problem.in_limits();
         let behind = self.wait(problem, asked);
         for own in 0..8usize {
-            asked[own] = later(yielded[own], behind, asked[own]);
+            asked[own] = choose_later(yielded[own], behind, asked[own]);
         }
     }
 }
 
 // The later of what is asked of a LUN and of what it waits for, where it does.
-fn later(waits: bool, behind: u64, asked: u64) -> u64
+fn choose_later(waits: bool, behind: u64, asked: u64) -> u64
     ensures { result ≡ later_of waits behind asked }
 {
     if waits { asked.max(behind) } else { asked }

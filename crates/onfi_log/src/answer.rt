@@ -70,7 +70,7 @@ pub(crate) fn put_breach(
 }
 
 /// Lines of conditions that are broken.
-pub(crate) fn broken(found: String) -> LogAnswer
+pub(crate) fn answer_broken(found: String) -> LogAnswer
     ensures { spec.answer_of result ≡ spec.broken (string_bytes found) }
 {
     LogAnswer {
@@ -80,20 +80,24 @@ pub(crate) fn broken(found: String) -> LogAnswer
 }
 
 /// .. before line `number`, which says nothing.
-pub(crate) fn wrong(alloc: Global, mut found: String, number: u64) -> Result<LogAnswer, AllocError>
+pub(crate) fn answer_wrong(
+    alloc: Global,
+    mut found: String,
+    number: u64,
+) -> Result<LogAnswer, AllocError>
     ensures { IfOk result (λ a. spec.answer_of a ≡ spec.wrong number (string_bytes found)) }
 {
     let line = format!(in alloc; "refused log {number}\n")?;
     found.push_str(line.as_str())?;
-    Ok(broken(found))
+    Ok(answer_broken(found))
 }
 
 /// .. where the log ends after so many phases.
-fn ended_by(alloc: Global, found: String, phases: u64) -> Result<LogAnswer, AllocError>
+fn write_end(alloc: Global, found: String, phases: u64) -> Result<LogAnswer, AllocError>
     ensures { IfOk result (λ a. spec.answer_of a ≡ spec.ended_by phases (string_bytes found)) }
 {
     if !found.is_empty() {
-        return Ok(broken(found));
+        return Ok(answer_broken(found));
     }
     let text = format!(in alloc; "legal {phases}\n")?;
     Ok(LogAnswer {
@@ -103,7 +107,7 @@ fn ended_by(alloc: Global, found: String, phases: u64) -> Result<LogAnswer, Allo
 }
 
 /// .. where the log ends after so many phases and `last`, which has no line end and would be line `number`.
-pub(crate) fn ended(
+pub(crate) fn answer_end(
     alloc: Global,
     found: String,
     number: u64,
@@ -113,8 +117,8 @@ pub(crate) fn ended(
     ensures { IfOk result (λ a. spec.answer_of a ≡ spec.ended number phases (string_bytes found) last.now) }
 {
     if last.is_empty() {
-        ended_by(alloc, found, phases)
+        write_end(alloc, found, phases)
     } else {
-        wrong(alloc, found, number)
+        answer_wrong(alloc, found, number)
     }
 }

@@ -57,7 +57,7 @@ fn takes_page(operation: Operation, page: u16) -> bool
 }
 
 /// Why a command can't be of request `number` where that one waits first on its block.
-fn misnamed_among(line: &Line, number: u64, first: Option<Want>) -> Option<LogBreach>
+fn find_misnamed_among(line: &Line, number: u64, first: Option<Want>) -> Option<LogBreach>
     ensures { result ≡ spec.misnamed_among line.now number first }
 {
     let first = first?.id;
@@ -69,19 +69,19 @@ fn misnamed_among(line: &Line, number: u64, first: Option<Want>) -> Option<LogBr
             later: number,
         })
     } else {
-        Some(unknown(line))
+        Some(report_unknown(line))
     }
 }
 
 /// Why a command can't be of request `number` after requests of which the greatest number is one less than that.
-fn misnamed_after(line: &Line, number: u64, greatest: u64) -> Option<LogBreach>
+fn find_misnamed_after(line: &Line, number: u64, greatest: u64) -> Option<LogBreach>
     requires { number < 2 ^ 63 }
     ensures { result ≡ spec.misnamed_after line.now number greatest }
 {
     if greatest <= number {
         None
     } else if greatest == number + 1 {
-        Some(unknown(line))
+        Some(report_unknown(line))
     } else {
         Some(LogBreach::BlockOrder {
             earlier: number,
@@ -91,7 +91,7 @@ fn misnamed_after(line: &Line, number: u64, greatest: u64) -> Option<LogBreach>
 }
 
 /// No request that waits is the line's.
-fn unknown(line: &Line) -> LogBreach
+fn report_unknown(line: &Line) -> LogBreach
     ensures { result ≡ UnknownRequest line.now.lun line.now.block }
 {
     LogBreach::UnknownRequest {
@@ -189,7 +189,7 @@ impl Judged {
     }
 
     /// Why the command that begins a request, where `begins` says so, can't be of the one that the line names.
-    fn misnamed(&self, begins: bool, line: &LogLine) -> Option<LogBreach>
+    fn find_misnamed(&self, begins: bool, line: &LogLine) -> Option<LogBreach>
         requires begins { begins ≡ spec.begins self.now.audit line.now.phase }
         requires small { IfSome line.now.request (λ number. number < 2 ^ 63) }
         ensures { result ≡ spec.misnamed self.now line.now }
@@ -200,12 +200,12 @@ impl Judged {
         let number = line.request?;
         let phase = &line.phase;
         match self.requests {
-            Requests::Accepted => misnamed_among(
+            Requests::Accepted => find_misnamed_among(
                 phase,
                 number,
                 self.audit.first_on(phase.lun, phase.block),
             ),
-            Requests::Mentioned => misnamed_after(phase, number, self.greatest_at(phase)),
+            Requests::Mentioned => find_misnamed_after(phase, number, self.greatest_at(phase)),
         }
     }
 
@@ -294,7 +294,7 @@ impl Judged {
         ensures { IfOk result (λ breach. spec.Steps self.old line.now breach self.new) }
     {
         let begins = self.begins(&line.phase);
-        let misnamed = self.misnamed(begins, line);
+        let misnamed = self.find_misnamed(begins, line);
         let brought = self.bring(begins, &line.phase)?;
         let breach = self.find_breach(misnamed, &line.phase);
         match breach {
@@ -305,7 +305,7 @@ impl Judged {
     }
 
     /// Why the LUN's status can't have reported it ready then.
-    fn misreported(&self, lun: u8, moment: u64) -> Option<LogBreach>
+    fn find_misreport(&self, lun: u8, moment: u64) -> Option<LogBreach>
         ensures { result ≡ spec.misreported self.now.audit lun moment }
     {
         if usize::from(lun) >= self.audit.luns().len() {
@@ -333,7 +333,7 @@ impl Judged {
         ensures breach { result ≡ spec.misreported self.old.audit lun moment }
         ensures after { self.new ≡ spec.after_report self.old lun moment result }
     {
-        let breach = self.misreported(lun, moment);
+        let breach = self.find_misreport(lun, moment);
         if breach.is_none() {
             self.ready(lun, moment);
         }

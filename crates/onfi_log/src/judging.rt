@@ -2,7 +2,7 @@
 ghost use Rattle.std.specs.Prelude.{◌≡◌, IfOk};
 ghost use Rattle.onfi_log.specs.Text.{AnswersLog, AnswersLogBy, answer_of};
 
-use crate::answer::{LogAnswer, broken, ended, put_breach, wrong};
+use crate::answer::{LogAnswer, answer_broken, answer_end, answer_wrong, put_breach};
 use crate::entry::read_entry;
 use crate::judged::Judged;
 use crate::parts::cut;
@@ -59,17 +59,17 @@ pub fn judge_log_by(
     let mut left = text;
     while let Some((line, behind)) = cut(left, b'\n') {
         let Some(entry) = read_entry(readies, line) else {
-            return wrong(alloc, found, number);
+            return answer_wrong(alloc, found, number);
         };
         if let Some(breach) = judged.take(&entry)? {
             put_breach(alloc, &mut found, number, entry.lun(), breach)?;
             if !all {
-                return Ok(broken(found));
+                return Ok(answer_broken(found));
             }
         }
         phases += entry.phases();
         number += 1;
         left = behind;
     }
-    ended(alloc, found, number, phases, left)
+    answer_end(alloc, found, number, phases, left)
 }

@@ -43,7 +43,7 @@ impl Lun<Idle> {
         ensures lun { IfErr result (λ refused. refused.lun ≡ self) }
     {
         match give(alloc, chip, target, now, request, closer) {
-            Ok(ready) => Ok(commanded(self.number(), 1, ready, closer)),
+            Ok(ready) => Ok(make_commanded(self.number(), 1, ready, closer)),
             Err(fault) => Err(Refused { fault, lun: self }),
         }
     }
@@ -79,14 +79,14 @@ impl Lun<Queuing> {
     {
         let commands = self.state().commands;
         match give(alloc, chip, target, now, request, closer) {
-            Ok(ready) => Ok(commanded(self.number(), commands + 1, ready, closer)),
+            Ok(ready) => Ok(make_commanded(self.number(), commands + 1, ready, closer)),
             Err(fault) => Err(Refused { fault, lun: self }),
         }
     }
 }
 
 // The LUN that took so many commands, the last with that closer.
-fn commanded(number: u8, commands: u8, ready: u64, closer: Closer) -> Commanded
+fn make_commanded(number: u8, commands: u8, ready: u64, closer: Closer) -> Commanded
     requires some { 1 ≤ commands }
     requires few { commands ≤ 4 }
     ensures { IsMade closer number commands ready result }

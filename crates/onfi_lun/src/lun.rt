@@ -82,7 +82,7 @@ impl Lun<Working> {
     }
 
     /// The chip said at `now`, in ns, that the array is done: the posts may come from then on, or from when they might before.
-    pub(crate) fn sooner(self, now: u64) -> Lun<Working>
+    pub(crate) fn bring_forward(self, now: u64) -> Lun<Working>
         ensures number { result.number ≡ self.number }
         ensures members { result.state.members ≡ self.state.members }
         ensures ready { result.state.ready ≡ min self.state.ready now }

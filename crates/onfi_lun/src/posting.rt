@@ -48,14 +48,14 @@ impl Lun<Posting> {
     {
         let ready = now + target.timing.spans(fetch.kind()).post;
         match self.read(chip, target, now, fetch) {
-            Ok(answer) => Ok((behind(self.number(), self.state().left, ready), answer)),
+            Ok(answer) => Ok((after_post(self.number(), self.state().left, ready), answer)),
             Err(fault) => Err(Refused { fault, lun: self }),
         }
     }
 }
 
 // The LUN after a post, of which so many were left before it.
-fn behind(number: u8, left: u8, ready: u64) -> Posted
+fn after_post(number: u8, left: u8, ready: u64) -> Posted
     requires some { 1 ≤ left }
     requires few { left ≤ 4 }
     ensures { IsBehind number left ready result }

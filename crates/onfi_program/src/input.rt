@@ -37,7 +37,7 @@ pub fn read<'a, R: Files + Input>(
     let script = read_file(rt, alloc, parsed.script)?;
     match parsed.plan {
         None => Ok((script, 0)),
-        Some(plan) => joined(script, read_file(rt, alloc, Some(plan))?.as_slice()),
+        Some(plan) => join_plan(script, read_file(rt, alloc, Some(plan))?.as_slice()),
     }
 }
 
@@ -66,7 +66,7 @@ fn is_directory(file: &impl OpenFile) -> bool {
 }
 
 /// A script, and a plan text after it, in a line of its own; and where that begins.
-fn joined<'a>(mut script: Vec<u8>, plan: &[u8]) -> Result<(Vec<u8>, usize), Unread<'a>> {
+fn join_plan<'a>(mut script: Vec<u8>, plan: &[u8]) -> Result<(Vec<u8>, usize), Unread<'a>> {
     if !script.is_empty() && !script.ends_with(b"\n") {
         push(&mut script, b"\n")?;
     }

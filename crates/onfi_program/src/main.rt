@@ -9,7 +9,7 @@ mod input;
 
 use input::{Unread, read};
 use onfi_console::{
-    Input, Named, Parsed, Untaken, describe, escaped, is_quiet, message, read_words, shown,
+    Input, Named, Parsed, Untaken, describe, escape_bytes, escaped, is_quiet, message, read_words,
 };
 use onfi_run::{Limit, run_freely};
 use onfi_script::{Answer, Why, answer_by, audit_by, audit_gaps, write_text};
@@ -21,11 +21,13 @@ use std::sync::Wait;
 use std::thread::Threads;
 
 /// The words of the command line, or the status of one that can't be read.
-fn given(rt: &(impl std::rt::Env + AllocGlobal + Print + Eprint)) -> Result<Vec<String>, u8> {
+fn collect_words(
+    rt: &(impl std::rt::Env + AllocGlobal + Print + Eprint),
+) -> Result<Vec<String>, u8> {
     let args = match std::env::args(rt) {
         Ok(args) => args,
         Err(fault) if fault.kind() == ErrorKind::OutOfMemory => return Err(out_of_memory(rt)),
-        Err(_) => return Err(tell_word(rt)),
+        Err(_) => return Err(report_word(rt)),
     };
     match args.collect::<Vec<String>>(rt.alloc()) {
         Ok(given) => Ok(given),
@@ -43,14 +45,14 @@ fn wrong_word(rt: &(impl std::rt::Env + AllocGlobal)) -> Option<String> {
         let size = rt.arg(number, &mut word).ok()?;
         let bytes = &word[..size];
         if std::str::from_utf8(bytes).is_err() {
-            return shown(rt.alloc(), bytes).ok();
+            return escape_bytes(rt.alloc(), bytes).ok();
         }
     }
     None
 }
 
 /// Says which word isn't text; the status of a refused command line.
-fn tell_word(rt: &(impl std::rt::Env + AllocGlobal + Eprint)) -> u8 {
+fn report_word(rt: &(impl std::rt::Env + AllocGlobal + Eprint)) -> u8 {
     if let Some(word) = wrong_word(rt) {
         let _ = rt.eprint("error: this word of the command line isn't UTF-8 text: '");
         let _ = rt.eprint(word.as_str());
@@ -66,7 +68,7 @@ fn out_of_memory(rt: &impl Print) -> u8 {
 }
 
 /// What the command line asks for, or the status of one that isn't taken.
-fn parsed<'a>(
+fn parse_words<'a>(
     rt: &(impl AllocGlobal + Print + Eprint),
     given: &'a [String],
 ) -> Result<Parsed<'a>, u8>
@@ -89,17 +91,21 @@ fn parsed<'a>(
 }
 
 /// Says why an input can't be read; its status.
-fn unread(rt: &(impl AllocGlobal + Print + Eprint), parsed: &Parsed<'_>, fault: &Unread<'_>) -> u8 {
+fn report_unread(
+    rt: &(impl AllocGlobal + Print + Eprint),
+    parsed: &Parsed<'_>,
+    fault: &Unread<'_>,
+) -> u8 {
     match fault {
         Unread::File(name, error) => {
             if !parsed.quiet {
-                tell_unread(rt, name, error);
+                report_unread_file(rt, name, error);
             }
             5
         }
         Unread::Directory(name) => {
             if !parsed.quiet {
-                tell_unread(rt, name, "it is a directory");
+                report_unread_file(rt, name, "it is a directory");
             }
             5
         }
@@ -109,7 +115,7 @@ fn unread(rt: &(impl AllocGlobal + Print + Eprint), parsed: &Parsed<'_>, fault: 
 }
 
 /// Says which file can't be read, and why.
-fn tell_unread(rt: &(impl AllocGlobal + Eprint), name: &str, why: impl Display + Drop) {
+fn report_unread_file(rt: &(impl AllocGlobal + Eprint), name: &str, why: impl Display + Drop) {
     let alloc = rt.alloc();
     if let Ok(name) = escaped(alloc, name) {
         if let Ok(text) = format!(in alloc; "error: the file '{name}' can't be read: {why}\n") {
@@ -144,17 +150,17 @@ fn answer_to<R: Threads + Wait + Sync + AllocGlobal>(
 }
 
 fn main(rt: HostRuntime) -> ExitCode {
-    let given = match given(&rt) {
+    let given = match collect_words(&rt) {
         Ok(given) => given,
         Err(status) => return ExitCode::from(status),
     };
-    let parsed = match parsed(&rt, given.as_slice()) {
+    let parsed = match parse_words(&rt, given.as_slice()) {
         Ok(parsed) => parsed,
         Err(status) => return ExitCode::from(status),
     };
     let (text, at) = match read(&rt, rt.alloc(), &parsed) {
         Ok(read) => read,
-        Err(fault) => return ExitCode::from(unread(&rt, &parsed, &fault)),
+        Err(fault) => return ExitCode::from(report_unread(&rt, &parsed, &fault)),
     };
     let input = Input {
         text: text.as_slice(),

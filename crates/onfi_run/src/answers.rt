@@ -46,7 +46,7 @@ fn suits(kind: Kind, answer: &Answer) -> bool
 
 impl Completion {
     /// Nothing yet, of an operation of that kind that arrives then.
-    fn awaited(kind: Kind, arrives: Option<u64>) -> Completion
+    fn await_answer(kind: Kind, arrives: Option<u64>) -> Completion
         ensures { result ≡ spec.awaited (expected arrives kind) }
     {
         Completion {
@@ -87,13 +87,13 @@ fn put_awaited(
     ensures { OnOk result (places.new.items ≡ places.old.items ++ cons_option (option_map (λ k. spec.awaited (expected arrives k)) kind) []) }
 {
     if let Some(kind) = kind {
-        places.push(Completion::awaited(kind, arrives))?;
+        places.push(Completion::await_answer(kind, arrives))?;
     }
     Ok(())
 }
 
 /// Places for the answers to a host's operations on a channel, in the order of their rows.
-fn awaited_on(
+fn await_answers_on(
     alloc: Global,
     rows: &[Row],
     host: u8,
@@ -133,7 +133,7 @@ impl Answers {
     ///
     /// # Errors
     /// Where memory was refused.
-    pub(crate) fn awaiting(
+    pub(crate) fn await_answers(
         alloc: Global,
         rows: &[Row],
         host: u8,
@@ -141,7 +141,7 @@ impl Answers {
     ) -> Result<Answers, AllocError>
         ensures { IfOk result (λ answers. answers ≡ spec.awaiting (expected_on rows.now host channel)) }
     {
-        let by_serial = awaited_on(alloc, rows, host, channel)?;
+        let by_serial = await_answers_on(alloc, rows, host, channel)?;
         Ok(Answers { by_serial })
     }
 

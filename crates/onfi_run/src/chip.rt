@@ -21,7 +21,7 @@ fn fault_on(row: &Row, channel: u8) -> Option<Fault>
 }
 
 /// The failing call of the channel's chip that a row gives.
-fn failing_on(row: &Row, channel: u8) -> Option<u32>
+fn read_failing(row: &Row, channel: u8) -> Option<u32>
     ensures { result ≡ spec.failing_on channel row.now }
 {
     match row {
@@ -34,7 +34,7 @@ fn failing_on(row: &Row, channel: u8) -> Option<u32>
 }
 
 /// The status call of the channel's chip that says that a LUN isn't ready, as a row gives it.
-fn unready_on(row: &Row, channel: u8) -> Option<u32>
+fn read_unready(row: &Row, channel: u8) -> Option<u32>
     ensures { result ≡ spec.unready_on channel row.now }
 {
     match row {
@@ -75,20 +75,20 @@ fn faults(alloc: Global, rows: &[Row], channel: u8) -> Result<Vec<Fault>, AllocE
 }
 
 /// All failing calls of the channel's chip.
-fn failing(alloc: Global, rows: &[Row], channel: u8) -> Result<Vec<u32>, AllocError>
+fn list_failing(alloc: Global, rows: &[Row], channel: u8) -> Result<Vec<u32>, AllocError>
     ensures { IfOk result (λ v. v.items ≡ spec.all_on (spec.failing_on channel) rows.now) }
 {
     rows.iter()
-        .filter_map(|row| failing_on(row, channel))
+        .filter_map(|row| read_failing(row, channel))
         .collect(alloc)
 }
 
 /// All status calls of the channel's chip that say that a LUN isn't ready.
-fn unready(alloc: Global, rows: &[Row], channel: u8) -> Result<Vec<u32>, AllocError>
+fn list_unready(alloc: Global, rows: &[Row], channel: u8) -> Result<Vec<u32>, AllocError>
     ensures { IfOk result (λ v. v.items ≡ spec.all_on (spec.unready_on channel) rows.now) }
 {
     rows.iter()
-        .filter_map(|row| unready_on(row, channel))
+        .filter_map(|row| read_unready(row, channel))
         .collect(alloc)
 }
 
@@ -122,8 +122,8 @@ pub fn chip_of(
         setup.geometry,
         setup.timing,
         faults(alloc, rows, channel)?,
-        failing(alloc, rows, channel)?,
-        unready(alloc, rows, channel)?,
+        list_failing(alloc, rows, channel)?,
+        list_unready(alloc, rows, channel)?,
     )?;
     Ok(chip.with_array_times(array_times(alloc, rows, channel)?))
 }

@@ -13,7 +13,7 @@ use crate::channel_end::ChannelEnd;
 use crate::lane::Lane;
 use crate::port::Port;
 use crate::report::Report;
-use crate::station::{Station, apart};
+use crate::station::{Station, split_hosts};
 use onfi_queue::Host;
 use onfi_reply::Inbox;
 use std::alloc::{AllocError, Global};
@@ -179,7 +179,7 @@ fn take_ports(stations: [Station; 4]) -> ([Station; 4], [Port; 4])
     requires { Each (λ s. 1 ≤ length s.ports.items) stations }
     ensures { ports_of stations ≡ with_each (ports_of result.0) result.1 }
 {
-    let (s0, s1, s2, s3) = apart(stations);
+    let (s0, s1, s2, s3) = split_hosts(stations);
     let (s0, p0) = take_port(s0);
     let (s1, p1) = take_port(s1);
     let (s2, p2) = take_port(s2);
@@ -217,8 +217,8 @@ impl Report {
             short_of_memory,
             clock,
         } = self;
-        let (g0, g1, g2, g3) = apart(got);
-        let (a0, a1, a2, a3) = apart(finished.got);
+        let (g0, g1, g2, g3) = split_hosts(got);
+        let (a0, a1, a2, a3) = split_hosts(finished.got);
         ends.push(finished.end)?;
         Ok(Report {
             got: [g0.with(a0)?, g1.with(a1)?, g2.with(a2)?, g3.with(a3)?],

@@ -80,7 +80,7 @@ fn latencies(alloc: Global, operation: Operation, all: &[Got]) -> Result<Vec<u64
 }
 
 /// What is said of latencies; nothing of none.
-fn told(latencies: Vec<u64>) -> Option<Latency>
+fn summarize_latencies(latencies: Vec<u64>) -> Option<Latency>
     ensures { spec.IsLatencyOf latencies.items result }
 {
     let mut latencies = latencies;
@@ -108,5 +108,5 @@ pub(crate) fn latency_of(
 ) -> Result<Option<Latency>, AllocError>
     ensures { IfOk result (λ latency. spec.IsLatencyOf (spec.latencies operation all.now) latency) }
 {
-    Ok(told(latencies(alloc, operation, all)?))
+    Ok(summarize_latencies(latencies(alloc, operation, all)?))
 }

@@ -18,7 +18,7 @@ use crate::pace::Pace;
 use crate::port::Port;
 use crate::setup::setup_of;
 use crate::stated::StatedDevice;
-use crate::station::{Station, apart};
+use crate::station::{Station, split_hosts};
 use onfi_core::Setup;
 use onfi_plan::{Limit, Planner};
 use onfi_queue::{Host, Intake};
@@ -82,10 +82,10 @@ fn places(alloc: Global, rows: &[Row], channel: u8) -> Result<[Answers; 4], Allo
     ensures { IfOk result (λ all. all ≡ map (λ host. awaiting (expected_on rows.now host channel)) host_numbers) }
 {
     Ok([
-        Answers::awaiting(alloc, rows, 0, channel)?,
-        Answers::awaiting(alloc, rows, 1, channel)?,
-        Answers::awaiting(alloc, rows, 2, channel)?,
-        Answers::awaiting(alloc, rows, 3, channel)?,
+        Answers::await_answers(alloc, rows, 0, channel)?,
+        Answers::await_answers(alloc, rows, 1, channel)?,
+        Answers::await_answers(alloc, rows, 2, channel)?,
+        Answers::await_answers(alloc, rows, 3, channel)?,
     ])
 }
 
@@ -166,8 +166,8 @@ fn with_ports(stations: [Station; 4], ports: [Port; 4]) -> Result<[Station; 4], 
     ensures numbers { IfOk result (λ all. map (λ s. s.number) all ≡ map (λ s. s.number) stations) }
     ensures more { IfOk result (λ all. ports_of all ≡ with_each (ports_of stations) ports) }
 {
-    let (s0, s1, s2, s3) = apart(stations);
-    let (p0, p1, p2, p3) = apart(ports);
+    let (s0, s1, s2, s3) = split_hosts(stations);
+    let (p0, p1, p2, p3) = split_hosts(ports);
     Ok([
         s0.with_port(p0)?,
         s1.with_port(p1)?,

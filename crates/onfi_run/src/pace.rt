@@ -29,7 +29,7 @@ pub(crate) fn least(other: Option<u64>, due: u64) -> u64
 }
 
 /// From when on a turn may do something after one that came to this, where an array is done early at the moment `ready`.
-fn wakes_behind(progress: Progress, ready: Option<u64>) -> u64
+fn wake_after(progress: Progress, ready: Option<u64>) -> u64
     ensures { result ≡ spec.wakes_behind progress ready }
 {
     match progress {
@@ -68,7 +68,7 @@ impl Pace {
     )
         ensures { self.new ≡ spec.pace_behind now free ready progress is_last self.old }
     {
-        self.wakes = wakes_behind(progress, ready);
+        self.wakes = wake_after(progress, ready);
         self.has_ended = is_last;
         self.bus.turn(now, free);
     }

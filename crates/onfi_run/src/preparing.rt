@@ -7,7 +7,7 @@ ghost use Rattle.onfi_run.specs.Setup.{channels_in, hosts_in};
 
 use crate::request::request_fault;
 use crate::setup::{channel_count, host_count};
-use crate::stated::{StatedDevice, stated_device};
+use crate::stated::{StatedDevice, read_stated_device};
 use onfi_addr::Geometry;
 use onfi_script::{
     Operation, PageDevice, Purpose, Refusal, Row, RowStop, ScriptFault, Stop, read_rows,
@@ -30,7 +30,7 @@ struct Bounds {
 }
 
 /// Out of range, unless that is there.
-fn unless_there(there: bool) -> Option<ScriptFault>
+fn refuse_absent(there: bool) -> Option<ScriptFault>
     ensures { result ≡ spec.unless_there there }
 {
     if there {
@@ -64,18 +64,18 @@ fn row_fault(alloc: Global, bounds: &Bounds, row: &Row) -> Result<Option<ScriptF
 {
     match row {
         Row::Op(operation) => op_fault(alloc, bounds, operation),
-        Row::Fault { channel, fault } => Ok(unless_there(
+        Row::Fault { channel, fault } => Ok(refuse_absent(
             *channel < bounds.channels
                 && fault.lun < bounds.geometry.lun_count
                 && u32::from(fault.block) < bounds.geometry.blocks_per_lun,
         )),
         Row::ChipFail { channel, .. } | Row::NotReady { channel, .. } => {
-            Ok(unless_there(*channel < bounds.channels))
+            Ok(refuse_absent(*channel < bounds.channels))
         }
-        Row::Array { channel, lun, .. } => Ok(unless_there(
+        Row::Array { channel, lun, .. } => Ok(refuse_absent(
             *channel < bounds.channels && *lun < bounds.geometry.lun_count,
         )),
-        Row::Sector { bytes } => Ok(unless_there(*bytes <= bounds.geometry.page_bytes())),
+        Row::Sector { bytes } => Ok(refuse_absent(*bytes <= bounds.geometry.page_bytes())),
         _ => Ok(None),
     }
 }
@@ -136,7 +136,7 @@ pub fn prepare_for(alloc: Global, purpose: Purpose, input: &[u8]) -> Result<Prep
     ensures { MatchResult result (λ p. IsPrepared purpose input.now p.rows.items p.device.chips) (λ stop. IfRefused stop (λ refusal. IsRefused purpose input.now refusal)) }
 {
     let rows = read_rows(alloc, purpose, input)?;
-    match stated_device(alloc, rows.as_slice()) {
+    match read_stated_device(alloc, rows.as_slice()) {
         Ok(device) => match refusal_on(alloc, rows.as_slice(), &device.chips) {
             Ok(None) => Ok(Prepared { rows, device }),
             Ok(Some(refusal)) => Err(Stop::Refused(refusal)),

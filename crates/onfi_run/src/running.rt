@@ -22,7 +22,9 @@ use crate::simulation::{Settled, buses_of, simulate};
 use crate::text::report_answer;
 use crate::threads::run_threads;
 use onfi_plan::{Limit, PlainPlanner, Planner};
-use onfi_script::{Answer, EngineFault, InputFault, Purpose, Stop, read_all, refused, tell};
+use onfi_script::{
+    Answer, EngineFault, InputFault, Purpose, Stop, read_all, refused, write_with_status,
+};
 use onfi_seq::Gate;
 use std::alloc::{AllocError, Global};
 use std::io::{Read, Write};
@@ -196,11 +198,11 @@ pub fn run_script_by<
     let input = match read_all(alloc, reader) {
         Ok(input) => input,
         Err(InputFault::Read) => return Err(EngineFault::Read),
-        Err(InputFault::Memory) => return tell(writer, b"memory\n", 4),
+        Err(InputFault::Memory) => return write_with_status(writer, b"memory\n", 4),
     };
     match answer(rt, alloc, planner, limit, clocked, gates, input.as_slice()) {
-        Ok(answer) => tell(writer, answer.text.as_slice(), answer.status),
-        Err(AllocError) => tell(writer, b"memory\n", 4),
+        Ok(answer) => write_with_status(writer, answer.text.as_slice(), answer.status),
+        Err(AllocError) => write_with_status(writer, b"memory\n", 4),
     }
 }
 

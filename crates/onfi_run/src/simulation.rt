@@ -129,7 +129,7 @@ fn settle<R: Wait, C: Channel>(
 }
 
 /// The least of the moments after `now` so far, and of the one at which a channel is due, if that is after it.
-fn sooner(now: u64, other: Option<u64>, due: u64) -> Option<u64>
+fn choose_sooner(now: u64, other: Option<u64>, due: u64) -> Option<u64>
     ensures { (dues : List ℕ) → IsNext now dues other → IsNext now (dues ++ due ∷ []) result }
 {
     if due <= now {
@@ -147,7 +147,7 @@ fn next_turn<C: Channel>(lanes: &[Lane<C>], now: u64) -> Option<u64>
 {
     let mut next = None;
     for lane in lanes {
-        next = sooner(now, next, lane.due());
+        next = choose_sooner(now, next, lane.due());
     }
     next
 }
@@ -164,7 +164,7 @@ fn next_moment<C: Channel>(
 {
     let mut next = next_turn(lanes, now);
     for station in stations {
-        next = sooner(now, next, comes_at(rows, station.passed));
+        next = choose_sooner(now, next, comes_at(rows, station.passed));
     }
     next
 }

@@ -18,7 +18,7 @@ pub struct StatedDevice {
 ///
 /// # Errors
 /// As [`page_device`].
-pub(crate) fn stated_device(alloc: Global, rows: &[Row]) -> Result<StatedDevice, RowStop>
+pub(crate) fn read_stated_device(alloc: Global, rows: &[Row]) -> Result<StatedDevice, RowStop>
     ensures { MatchResult result (λ device. TellsChips rows.now (Ok device.chips)) (λ stop. IfFault stop (λ fault. TellsChips rows.now (Err fault))) }
 {
     let chips = page_device(alloc, rows)?;

@@ -35,7 +35,7 @@ pub(crate) struct Station {
 }
 
 /// The elements of an array with one for each host, apart.
-pub(crate) fn apart<T>(of: [T; 4]) -> (T, T, T, T)
+pub(crate) fn split_hosts<T>(of: [T; 4]) -> (T, T, T, T)
     ensures { of ≡ result.0 ∷ result.1 ∷ result.2 ∷ result.3 ∷ [] }
 {
     let [first, second, third, fourth] = of;

@@ -12,7 +12,7 @@ use onfi_schedule::{Schedule, find_breach, finish};
 use std::alloc::{AllocError, Global};
 
 /// The text, with a line after it that closes its schedule where no certificate does.
-fn closed(alloc: Global, text: &[u8]) -> Result<Vec<u8>, AllocError>
+fn close_schedule(alloc: Global, text: &[u8]) -> Result<Vec<u8>, AllocError>
     ensures { IfOk result (λ v. v.items ≡ text.now ++ codes "ONFICERT\n") }
 {
     let mut closed = Vec::new(alloc);
@@ -22,7 +22,11 @@ fn closed(alloc: Global, text: &[u8]) -> Result<Vec<u8>, AllocError>
 }
 
 /// Whether a schedule is legal, and when it ends.
-fn told(alloc: Global, problem: &Problem, schedule: &Schedule) -> Result<Answer, AllocError>
+fn report_schedule(
+    alloc: Global,
+    problem: &Problem,
+    schedule: &Schedule,
+) -> Result<Answer, AllocError>
     ensures { IfOk result (λ a. TellsLegal problem.now.problem schedule.now (answer_of a)) }
 {
     let breach = find_breach(problem, schedule);
@@ -33,14 +37,14 @@ fn told(alloc: Global, problem: &Problem, schedule: &Schedule) -> Result<Answer,
 }
 
 /// The answer to the schedule of a plan text.
-fn judged(alloc: Global, problem: &Problem, text: &[u8]) -> Result<Answer, AllocError>
+fn judge_text(alloc: Global, problem: &Problem, text: &[u8]) -> Result<Answer, AllocError>
     requires begun { problem.now.all ≡ problem.now.problem.wants }
     ensures { IfOk result (λ a. AnswersAlone problem.now.problem text.now (answer_of a)) }
 {
     match read_plan_within(alloc, problem.wants(), text) {
         Ok(PlanWithin { plan, .. }) => {
             let schedule = plan.schedule(problem.lun_count());
-            told(alloc, problem, &schedule)
+            report_schedule(alloc, problem, &schedule)
         }
         Err(number) => line_refused(alloc, number),
     }
@@ -48,10 +52,10 @@ fn judged(alloc: Global, problem: &Problem, text: &[u8]) -> Result<Answer, Alloc
 
 /// The answer to the schedule of a plan text, in which a certificate may be missing; what a line `below` claims isn't looked
 /// at.
-pub fn judged_alone(alloc: Global, problem: &Problem, text: &[u8]) -> Result<Answer, AllocError>
+pub fn judge_alone(alloc: Global, problem: &Problem, text: &[u8]) -> Result<Answer, AllocError>
     requires begun { problem.now.all ≡ problem.now.problem.wants }
     ensures { IfOk result (λ a. AnswersLegal problem.now.problem text.now (answer_of a)) }
 {
-    let closed = closed(alloc, text)?;
-    judged(alloc, problem, closed.as_slice())
+    let closed = close_schedule(alloc, text)?;
+    judge_text(alloc, problem, closed.as_slice())
 }

@@ -5,15 +5,15 @@ ghost use Rattle.onfi_script.specs.Answer.{AnswersCommand, AnswersPlan, IsAnswer
 ghost use Rattle.onfi_script.specs.AnswerOf.{answer_of, told_of};
 ghost use Rattle.onfi_script.specs.Limit.{IsLimit, IsLimited};
 
-use crate::alone::judged_alone;
-use crate::checking::checked;
+use crate::alone::judge_alone;
+use crate::checking::check_plan;
 use crate::command::{Command, Output, PlanOptions};
 use crate::fault::Stop;
-use crate::planning::{plan_by, plan_by_workers, printed};
+use crate::planning::{plan_by, plan_by_workers, print_plan};
 use crate::reading::{Script, read_script};
 use crate::script::plan_text_of;
-use crate::text::{Answer, over, refused};
-use crate::transfer::{EngineFault, InputFault, read_all, tell};
+use crate::text::{Answer, refused, report_over};
+use crate::transfer::{EngineFault, InputFault, read_all, write_with_status};
 use onfi_plan::PlanFault;
 use onfi_planners::ChosenPlanner;
 use std::alloc::{AllocError, Global};
@@ -21,15 +21,15 @@ use std::io::{Read, Write};
 use std::thread::Threads;
 
 /// The answer that plans a problem.
-fn planned(alloc: Global, options: PlanOptions, script: &Script) -> Result<Answer, AllocError>
+fn plan_script(alloc: Global, options: PlanOptions, script: &Script) -> Result<Answer, AllocError>
     requires limit { IsLimit options.limit }
     requires begun { script.now.problem.all ≡ script.now.problem.problem.wants }
     ensures { IfOk result (λ a. AnswersPlan OneTells options script.now.problem.problem (answer_of a)) }
 {
     let problem = &script.problem;
     match plan_by(alloc, problem, &script.weights, options) {
-        Ok(plan) => printed(alloc, problem, plan, options.output),
-        Err(PlanFault::Over { opened }) => over(alloc, opened),
+        Ok(plan) => print_plan(alloc, problem, plan, options.output),
+        Err(PlanFault::Over { opened }) => report_over(alloc, opened),
         Err(PlanFault::Memory) => Err(AllocError),
     }
 }
@@ -50,8 +50,8 @@ fn planned_by_workers<T: Threads + Sync>(
 {
     let problem = &script.problem;
     match plan_by_workers(rt, alloc, problem, &script.weights, options, workers) {
-        Ok(best) => printed(alloc, problem, best, options.output),
-        Err(PlanFault::Over { opened: parts }) => over(alloc, parts),
+        Ok(best) => print_plan(alloc, problem, best, options.output),
+        Err(PlanFault::Over { opened: parts }) => report_over(alloc, parts),
         Err(PlanFault::Memory) => Err(AllocError),
     }
 }
@@ -68,7 +68,7 @@ fn output_of(trace: bool) -> Output
 }
 
 /// What the command asks for; `text` comes after the script.
-fn commanded(
+fn answer_command(
     alloc: Global,
     command: Command,
     text: &[u8],
@@ -82,12 +82,12 @@ fn commanded(
     match command {
         Command::Plan { limit, trace } => {
             let options = PlanOptions::new(ChosenPlanner::Plain, limit, output_of(trace));
-            planned(alloc, options, script)
+            plan_script(alloc, options, script)
         }
-        Command::Check => checked(alloc, ChosenPlanner::Plain, problem, text),
-        Command::PlanBy(options) => planned(alloc, options, script),
-        Command::CheckBy(planner) => checked(alloc, planner, problem, text),
-        Command::Legal => judged_alone(alloc, problem, text),
+        Command::Check => check_plan(alloc, ChosenPlanner::Plain, problem, text),
+        Command::PlanBy(options) => plan_script(alloc, options, script),
+        Command::CheckBy(planner) => check_plan(alloc, planner, problem, text),
+        Command::Legal => judge_alone(alloc, problem, text),
     }
 }
 
@@ -97,7 +97,7 @@ fn answer(alloc: Global, command: Command, input: &[u8]) -> Result<Answer, Alloc
     ensures { IfOk result (λ a. IsAnswerBy OneTells command input.now (answer_of a)) }
 {
     match read_script(alloc, input) {
-        Ok(script) => commanded(alloc, command, plan_text_of(input), &script),
+        Ok(script) => answer_command(alloc, command, plan_text_of(input), &script),
         Err(Stop::Refused(refusal)) => refused(alloc, refusal),
         Err(Stop::Memory) => Err(AllocError),
     }
@@ -124,7 +124,7 @@ fn answer_by_workers<T: Threads + Sync>(
 }
 
 /// Writes an answer, or that memory was refused.
-fn tell_answer<W: Write>(
+fn write_answer<W: Write>(
     writer: &mut W,
     answered: Result<Answer, AllocError>,
 ) -> Result<u8, EngineFault>
@@ -132,8 +132,8 @@ fn tell_answer<W: Write>(
     ensures part { IfErr result (λ e. (e ≡ EngineFault.Write) × (n : ℕ) × Appends (W.contents writer.old) (W.contents writer.new) (take n (told_of answered).text)) }
 {
     match answered {
-        Ok(answer) => tell(writer, answer.text.as_slice(), answer.status),
-        Err(AllocError) => tell(writer, b"memory\n", 4),
+        Ok(answer) => write_with_status(writer, answer.text.as_slice(), answer.status),
+        Err(AllocError) => write_with_status(writer, b"memory\n", 4),
     }
 }
 
@@ -158,9 +158,9 @@ pub fn engine<R: Read, W: Write>(
     ensures unwritten { result ≡ Err EngineFault.Write → BeginsAnswer command (R.remaining reader.old) (W.contents writer.old) (W.contents writer.new) }
 {
     match read_all(alloc, reader) {
-        Ok(input) => tell_answer(writer, answer(alloc, command, input.as_slice())),
+        Ok(input) => write_answer(writer, answer(alloc, command, input.as_slice())),
         Err(InputFault::Read) => Err(EngineFault::Read),
-        Err(InputFault::Memory) => tell_answer(writer, Err(AllocError)),
+        Err(InputFault::Memory) => write_answer(writer, Err(AllocError)),
     }
 }
 
@@ -215,10 +215,10 @@ pub fn engine_split_by<T: Threads + Sync, R: Read, W: Write>(
     match read_all(alloc, reader) {
         Ok(input) => {
             let answered = answer_by_workers(rt, alloc, options, workers, input.as_slice());
-            tell_answer(writer, answered)
+            write_answer(writer, answered)
         }
         Err(InputFault::Read) => Err(EngineFault::Read),
-        Err(InputFault::Memory) => tell_answer(writer, Err(AllocError)),
+        Err(InputFault::Memory) => write_answer(writer, Err(AllocError)),
     }
 }
 

@@ -11,11 +11,11 @@ ghost use Rattle.onfi_script.specs.Stop.{IfRefused};
 use crate::fault::{RowStop, ScriptFault, Stop};
 use crate::forms::device_of;
 use crate::purpose::Purpose;
-use crate::reading::{made, read_rows, refused as problem_refused};
+use crate::reading::{make_problem, read_rows, refused as problem_refused};
 use crate::row::Row;
 use crate::script::plan_text_of;
 use crate::sectors::asks_amiss;
-use crate::setup::{Setup, beyond, set_up};
+use crate::setup::{Setup, find_beyond, set_up};
 use crate::text::{Answer, refused};
 use arrayvec::ArrayVec;
 use onfi_audit::{AcceptFault, Audit};
@@ -29,7 +29,7 @@ use onfi_schedule::{Schedule, no_starts};
 use std::alloc::{AllocError, Global};
 
 /// The channel of a problem, of which nothing waits yet.
-fn opened(alloc: Global, problem: &Problem) -> Audit
+fn open_audit(alloc: Global, problem: &Problem) -> Audit
     ensures { result ≡ opening problem.now.problem }
 {
     let none = Schedule::new(no_starts(problem.luns().len()), ArrayVec::new_in(alloc));
@@ -72,7 +72,7 @@ fn requests_of(wants: &[Want]) -> Requests
 }
 
 /// What a log begins with: the channel, and the requests of its script.
-fn begun(alloc: Global, rows: &[Row], setup: Setup) -> Result<(Audit, Requests), Stop>
+fn begin_audit(alloc: Global, rows: &[Row], setup: Setup) -> Result<(Audit, Requests), Stop>
     ensures { MatchResult result (λ b. spec.TellsBegun rows.now (problem_of setup) (Ok b.0) × (b.1 ≡ spec.requests_of setup.wants.items)) (λ stop. IfRefused stop (λ refusal. spec.TellsBegun rows.now (problem_of setup) (Err refusal))) }
 {
     let wants = setup.wants;
@@ -83,8 +83,8 @@ fn begun(alloc: Global, rows: &[Row], setup: Setup) -> Result<(Audit, Requests),
         luns: setup.luns,
         wants: Vec::new(alloc),
     };
-    let problem = made(alloc, rows, &bare)?;
-    let mut audit = opened(alloc, &problem);
+    let problem = make_problem(alloc, rows, &bare)?;
+    let mut audit = open_audit(alloc, &problem);
     accept_all(&mut audit, wants.as_slice())?;
     if asks_amiss(rows, wants.as_slice()) {
         return Err(problem_refused(ProblemFault::NoLengths));
@@ -93,20 +93,20 @@ fn begun(alloc: Global, rows: &[Row], setup: Setup) -> Result<(Audit, Requests),
 }
 
 /// .. by the rows of a script, each in order.
-fn begun_by(alloc: Global, rows: &[Row]) -> Result<(Audit, Requests), Stop>
+fn begin_audit_by(alloc: Global, rows: &[Row]) -> Result<(Audit, Requests), Stop>
     ensures { MatchResult result (λ b. spec.TellsOpening rows.now (Ok b)) (λ stop. IfRefused stop (λ refusal. spec.TellsOpening rows.now (Err refusal))) }
 {
     let device = match device_of(alloc, rows) {
         Ok(device) => device,
         Err(stop) => return Err(stop.at(0)),
     };
-    if let Some(at) = beyond(rows, &device) {
+    if let Some(at) = find_beyond(rows, &device) {
         return Err(RowStop::Fault(ScriptFault::OutOfRange).at(at as u64 + 1));
     }
     let Ok(setup) = set_up(alloc, rows, &device) else {
         return Err(Stop::Memory);
     };
-    begun(alloc, rows, setup)
+    begin_audit(alloc, rows, setup)
 }
 
 /// .. by an input.
@@ -114,7 +114,7 @@ fn read_begun(alloc: Global, input: &[u8]) -> Result<(Audit, Requests), Stop>
     ensures { MatchResult result (λ b. spec.TellsLog input.now (Ok b)) (λ stop. IfRefused stop (λ refusal. spec.TellsLog input.now (Err refusal))) }
 {
     let rows = read_rows(alloc, Purpose::Problem, input)?;
-    begun_by(alloc, rows.as_slice())
+    begin_audit_by(alloc, rows.as_slice())
 }
 
 /// From when on LUNs are ready.
@@ -183,7 +183,7 @@ pub struct GapOptions {
 }
 
 /// The answer to a log of that opening, by its pieces.
-fn measured(
+fn measure_log(
     alloc: Global,
     options: GapOptions,
     audit: Audit,
@@ -206,7 +206,7 @@ pub fn audit_gaps(alloc: Global, options: GapOptions, input: &[u8]) -> Result<An
     ensures { IfOk result (λ a. AnswersGaps options input.now (answer_of a)) }
 {
     match read_begun(alloc, input) {
-        Ok((audit, requests)) => measured(alloc, options, audit, requests, plan_text_of(input)),
+        Ok((audit, requests)) => measure_log(alloc, options, audit, requests, plan_text_of(input)),
         Err(Stop::Refused(refusal)) => refused(alloc, refusal),
         Err(Stop::Memory) => Err(AllocError),
     }

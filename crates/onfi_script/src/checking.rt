@@ -8,7 +8,7 @@ ghost use Rattle.onfi_script.specs.Text.{known_text_refused, refused_at as spec_
 
 use crate::plan_text::read_plan;
 use crate::plan_within::{PlanWithin, read_plan_within};
-use crate::text::{Answer, accepted, refuse, within};
+use crate::text::{Answer, accept_end, refuse, within};
 use crate::why::Why;
 use onfi_check::{CertFault, TextFault, check_text};
 use onfi_known_check::{KnownFault, KnownTextFault, check_known_text, check_known_within};
@@ -57,7 +57,7 @@ fn why_known(
 }
 
 /// The answer to a schedule that is said to end at `ends`, in ns, and the text of its plain certificate.
-fn judged(
+fn judge_plain(
     alloc: Global,
     problem: &Problem,
     schedule: &Schedule,
@@ -67,14 +67,14 @@ fn judged(
     ensures { IfOk result (λ a. AnswersSchedule by.Plain problem.now.problem schedule.now ends (finish problem.now.problem schedule.now) certificate.now (answer_of a)) }
 {
     match check_text(alloc, problem, schedule, certificate) {
-        Ok(finish) if finish == ends => accepted(alloc, ends),
+        Ok(finish) if finish == ends => accept_end(alloc, ends),
         Ok(is) => refuse(alloc, Why::Finish { said: ends, is }),
         Err(fault) => refuse(alloc, why_plain(problem, schedule, fault)),
     }
 }
 
 /// .. of its certificate, which remembers states.
-fn judged_known(
+fn judge_known(
     alloc: Global,
     problem: &Problem,
     schedule: &Schedule,
@@ -85,14 +85,14 @@ fn judged_known(
     ensures { IfOk result (λ a. AnswersSchedule by.Remembering problem.now.problem schedule.now ends (finish problem.now.problem schedule.now) certificate.now (answer_of a)) }
 {
     match check_known_text(alloc, problem, schedule, certificate) {
-        Ok(end) if end == ends => accepted(alloc, ends),
+        Ok(end) if end == ends => accept_end(alloc, ends),
         Ok(is) => refuse(alloc, Why::Finish { said: ends, is }),
         Err(fault) => refuse(alloc, why_known(problem, schedule, ends, fault)),
     }
 }
 
 /// .. where nothing is said to end before `below`, in ns.
-fn judged_within(
+fn judge_within(
     alloc: Global,
     problem: &Problem,
     schedule: &Schedule,
@@ -106,7 +106,7 @@ fn judged_within(
     match check_known_within(alloc, problem, schedule, below, certificate) {
         Ok(is) if is != ends => refuse(alloc, Why::Finish { said: ends, is }),
         Ok(_) if below < ends => within(alloc, ends, below),
-        Ok(_) => accepted(alloc, ends),
+        Ok(_) => accept_end(alloc, ends),
         Err(fault) => refuse(alloc, why_known(problem, schedule, below, fault)),
     }
 }
@@ -127,9 +127,9 @@ fn checked_optimal(
             let ends = plan.finish();
             let schedule = plan.schedule(problem.lun_count());
             if remember {
-                judged_known(alloc, problem, &schedule, ends, certificate)
+                judge_known(alloc, problem, &schedule, ends, certificate)
             } else {
-                judged(alloc, problem, &schedule, ends, certificate)
+                judge_plain(alloc, problem, &schedule, ends, certificate)
             }
         }
         Err(number) => line_refused(alloc, number),
@@ -137,7 +137,7 @@ fn checked_optimal(
 }
 
 /// The answer to a plan text in which a line `below` may stand.
-fn checked_within(alloc: Global, problem: &Problem, text: &[u8]) -> Result<Answer, AllocError>
+fn check_within(alloc: Global, problem: &Problem, text: &[u8]) -> Result<Answer, AllocError>
     requires begun { problem.now.all ≡ problem.now.problem.wants }
     ensures { IfOk result (λ a. AnswersWithin problem.now.problem text.now (answer_of a)) }
 {
@@ -151,14 +151,14 @@ fn checked_within(alloc: Global, problem: &Problem, text: &[u8]) -> Result<Answe
         ) => {
             let ends = plan.finish();
             let schedule = plan.schedule(problem.lun_count());
-            judged_within(alloc, problem, &schedule, ends, below, certificate)
+            judge_within(alloc, problem, &schedule, ends, below, certificate)
         }
         Err(number) => line_refused(alloc, number),
     }
 }
 
 /// The answer to a plan text as this planner's are.
-pub fn checked(
+pub fn check_plan(
     alloc: Global,
     planner: ChosenPlanner,
     problem: &Problem,
@@ -170,7 +170,7 @@ pub fn checked(
     match planner {
         ChosenPlanner::Plain => checked_optimal(alloc, false, problem, text),
         ChosenPlanner::Remembering => checked_optimal(alloc, true, problem, text),
-        ChosenPlanner::BestSoFar => checked_within(alloc, problem, text),
-        ChosenPlanner::ByRule => checked_within(alloc, problem, text),
+        ChosenPlanner::BestSoFar => check_within(alloc, problem, text),
+        ChosenPlanner::ByRule => check_within(alloc, problem, text),
     }
 }

@@ -7,7 +7,7 @@ ghost use Rattle.onfi_script.specs.Stop.{Gives, IfFault};
 ghost use Rattle.onfi_script.specs.Device.{HasLengths};
 
 use crate::fault::{RowStop, ScriptFault};
-use crate::field::{field, flag, hex_bytes, kind, small, span};
+use crate::field::{field, flag, hex_bytes, kind, read_small, read_span};
 use crate::row::Row;
 use csv::ByteRecord;
 use onfi_timing::{Kind, Sheet, Spans, Strobes};
@@ -134,8 +134,8 @@ fn lengths(cmd: u64, gap: u64, array: u64, post: u64) -> Spans
 pub fn shape_row(row: &ByteRecord) -> Result<Row, ScriptFault>
     ensures { result ≡ spec.shape_row (fields_of row.now) }
 {
-    let luns = small(field(row, 1), 1, 8)?;
-    let plane_bits = small(field(row, 2), 0, 2)?;
+    let luns = read_small(field(row, 1), 1, 8)?;
+    let plane_bits = read_small(field(row, 2), 0, 2)?;
     let read = flag(field(row, 3))?;
     let write = flag(field(row, 4))?;
     Ok(Row::Shape(ShapeRow {
@@ -151,10 +151,10 @@ pub fn spans_row(row: &ByteRecord) -> Result<Row, ScriptFault>
     ensures { result ≡ spec.spans_row (fields_of row.now) }
 {
     let kind = kind(field(row, 1))?;
-    let cmd = span(field(row, 2), 1)?;
-    let gap = span(field(row, 3), 0)?;
-    let array = span(field(row, 4), 0)?;
-    let post = span(field(row, 5), 1)?;
+    let cmd = read_span(field(row, 2), 1)?;
+    let gap = read_span(field(row, 3), 0)?;
+    let array = read_span(field(row, 4), 0)?;
+    let post = read_span(field(row, 5), 1)?;
     let spans = lengths(cmd, gap, array, post);
     Ok(Row::Spans(SpansRow { kind, spans }))
 }

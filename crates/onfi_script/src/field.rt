@@ -42,7 +42,7 @@ pub fn number(text: &[u8], least: u64, most: u64) -> Result<u64, ScriptFault>
 }
 
 /// A number from `least` to `most`, both small.
-pub fn small(text: &[u8], least: u8, most: u8) -> Result<u8, ScriptFault>
+pub fn read_small(text: &[u8], least: u8, most: u8) -> Result<u8, ScriptFault>
     ensures value { result ≡ spec.number least most text.now }
     ensures range { IfOk result (λ n. (least ≤ n) × (n ≤ most)) }
 {
@@ -51,7 +51,7 @@ pub fn small(text: &[u8], least: u8, most: u8) -> Result<u8, ScriptFault>
 }
 
 /// A number from `least` to `most` in two bytes.
-fn short(text: &[u8], least: u16, most: u16) -> Result<u16, ScriptFault>
+fn read_short(text: &[u8], least: u16, most: u16) -> Result<u16, ScriptFault>
     ensures { result ≡ spec.number least most text.now }
 {
     let value = number(text, u64::from(least), u64::from(most))?;
@@ -62,7 +62,7 @@ fn short(text: &[u8], least: u16, most: u16) -> Result<u16, ScriptFault>
 fn some_short(text: &[u8]) -> Result<u16, ScriptFault>
     ensures { result ≡ spec.number 1 65535 text.now }
 {
-    short(text, 1, 65535)
+    read_short(text, 1, 65535)
 }
 
 /// 0 or 1.
@@ -92,21 +92,21 @@ pub fn kind(text: &[u8]) -> Result<Kind, ScriptFault>
 pub fn lun(text: &[u8]) -> Result<u8, ScriptFault>
     ensures { result ≡ spec.lun text.now }
 {
-    small(text, 0, 7)
+    read_small(text, 0, 7)
 }
 
 /// A block number, from 0.
 pub fn block(text: &[u8]) -> Result<u16, ScriptFault>
     ensures { result ≡ spec.block text.now }
 {
-    short(text, 0, 65535)
+    read_short(text, 0, 65535)
 }
 
 /// A page number, from 0.
 pub fn page(text: &[u8]) -> Result<u16, ScriptFault>
     ensures { result ≡ spec.page text.now }
 {
-    short(text, 0, 4095)
+    read_short(text, 0, 4095)
 }
 
 /// The weight of a request, at least 1.
@@ -127,25 +127,25 @@ pub fn sector_bytes(text: &[u8]) -> Result<u16, ScriptFault>
 pub fn sectors(text: &[u8]) -> Result<u8, ScriptFault>
     ensures { result ≡ spec.sectors text.now }
 {
-    small(text, 0, 7)
+    read_small(text, 0, 7)
 }
 
 /// .. one at least.
 pub fn some_sectors(text: &[u8]) -> Result<u8, ScriptFault>
     ensures { result ≡ spec.some_sectors text.now }
 {
-    small(text, 1, 7)
+    read_small(text, 1, 7)
 }
 
 /// The sector that is put out first, from 0.
 pub fn first_sector(text: &[u8]) -> Result<u8, ScriptFault>
     ensures { result ≡ spec.first_sector text.now }
 {
-    small(text, 0, 255)
+    read_small(text, 0, 255)
 }
 
 /// A length or a wait in ns, below 2^50.
-pub fn span(text: &[u8], least: u64) -> Result<u64, ScriptFault>
+pub fn read_span(text: &[u8], least: u64) -> Result<u64, ScriptFault>
     ensures value { result ≡ spec.span least text.now }
     ensures range { IfOk result (λ n. (least ≤ n) × (n < 2 ^ 50)) }
 {

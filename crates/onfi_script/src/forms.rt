@@ -146,7 +146,7 @@ fn sector_bytes(rows: &[Row]) -> u16
 }
 
 /// The phase lengths by page and sheet, and by strobes where there are any, for sectors of so many bytes.
-fn timed(
+fn time_phases(
     page: &ParamPage,
     geometry: &Geometry,
     sheet: &Sheet,
@@ -175,7 +175,7 @@ fn geometry_of(page: &ParamPage, sector: u16) -> Result<Geometry, GeometryFault>
 }
 
 /// The chips that page, sheet and strobes describe.
-fn described(
+fn describe_chips(
     bytes: &[u8],
     sheet: &Sheet,
     strobes: Option<Strobes>,
@@ -191,7 +191,7 @@ fn described(
         Ok(geometry) => geometry,
         Err(fault) => return Err(ScriptFault::Geometry(fault)),
     };
-    match timed(&page, &geometry, sheet, strobes, sector) {
+    match time_phases(&page, &geometry, sheet, strobes, sector) {
         Ok(timing) => Ok(PageDevice { geometry, timing }),
         Err(StrobeFault::Sheet(fault)) => Err(ScriptFault::Sheet(fault)),
         Err(fault) => Err(ScriptFault::Strobe(fault)),
@@ -199,7 +199,7 @@ fn described(
 }
 
 /// The chips that page, sheet and strobes of rows describe, which show this.
-fn paged_chips(alloc: Global, rows: &[Row], seen: &Seen) -> Result<PageDevice, RowStop>
+fn describe_paged_chips(alloc: Global, rows: &[Row], seen: &Seen) -> Result<PageDevice, RowStop>
     requires { seen.now ≡ spec_seen rows.now }
     ensures { Tells IfFault (λ device. device) result (spec.TellsPaged rows.now) }
 {
@@ -210,12 +210,12 @@ fn paged_chips(alloc: Global, rows: &[Row], seen: &Seen) -> Result<PageDevice, R
         return Err(RowStop::Memory);
     };
     let sector = sector_bytes(rows);
-    let device = described(bytes.as_slice(), &seen.sheet, seen.strobes, sector)?;
+    let device = describe_chips(bytes.as_slice(), &seen.sheet, seen.strobes, sector)?;
     Ok(device)
 }
 
 /// The chips of a run of the first form.
-fn spanned_chips(rows: &[Row]) -> Result<PageDevice, ScriptFault>
+fn describe_spanned_chips(rows: &[Row]) -> Result<PageDevice, ScriptFault>
     ensures { spec.TellsSpanned rows.now result }
 {
     let Some(shape) = shape(rows) else {
@@ -243,8 +243,8 @@ pub fn page_device(alloc: Global, rows: &[Row]) -> Result<PageDevice, RowStop>
 {
     let seen = Seen::of(rows);
     match seen.form {
-        Some(Form::First) => Ok(spanned_chips(rows)?),
-        None | Some(Form::Second) => paged_chips(alloc, rows, &seen),
+        Some(Form::First) => Ok(describe_spanned_chips(rows)?),
+        None | Some(Form::Second) => describe_paged_chips(alloc, rows, &seen),
     }
 }
 
@@ -253,7 +253,7 @@ fn second_form(alloc: Global, rows: &[Row], seen: &Seen) -> Result<Device, RowSt
     requires { seen.now ≡ spec_seen rows.now }
     ensures { Tells IfFault (λ device. device) result (spec.TellsSecond rows.now) }
 {
-    let PageDevice { geometry, timing } = paged_chips(alloc, rows, seen)?;
+    let PageDevice { geometry, timing } = describe_paged_chips(alloc, rows, seen)?;
     Ok(Device {
         luns: geometry.lun_count,
         plane_bits: geometry.plane_address_bits,

@@ -136,7 +136,7 @@ fn starts_on(lines: &[RestLine], lun: u64) -> Starts
 
 /// The starts of each LUN.
 #[tactic(auto, unfolding(crate::specs::PlanText::rests))]
-fn rests(lines: &[RestLine], luns: usize) -> ArrayVec<Starts, 9>
+fn collect_rests(lines: &[RestLine], luns: usize) -> ArrayVec<Starts, 9>
     requires { luns ≤ 8 }
     ensures value { result.items ≡ spec.rests lines.now luns }
     ensures count { length result.items ≡ luns }
@@ -160,7 +160,7 @@ fn rest_on(lines: &[RestLine], luns: usize) -> ArrayVec<Starts, 9>
     requires { luns ≤ 8 }
     ensures { result.items ≡ spec.rest_on luns lines.now }
 {
-    let mut rest = rests(lines, luns);
+    let mut rest = collect_rests(lines, luns);
     if names_absent(lines, luns) {
         rest.push(Starts::new());
     }

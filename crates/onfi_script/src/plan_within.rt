@@ -20,7 +20,7 @@ pub struct PlanWithin<'a> {
 
 /// The number of a line `below` in front of a text, and what follows it.
 #[tactic(auto, using(crate::proofs::PlanLemmas::below_taken, onfi_log::proofs::PartsLemmas::some_parts))]
-fn below_first(text: &[u8]) -> Option<(u64, &[u8])>
+fn split_below(text: &[u8]) -> Option<(u64, &[u8])>
     ensures { MatchOption result (spec.below_first (parts 10 text.now) ≡ None) (λ r. spec.below_first (parts 10 text.now) ≡ Some (r.0, parts 10 r.1.now)) }
 {
     let (line, behind) = cut(text, b'\n')?;
@@ -80,7 +80,7 @@ pub fn read_plan_within<'a>(
     ensures { MatchResult result (λ r. spec.plan_within_of wants.now text.now ≡ Ok (r.plan, r.below, r.certificate.now)) (λ number. spec.plan_within_of wants.now text.now ≡ Err number) }
 {
     let (finish, behind) = opening(text)?;
-    match below_first(behind) {
+    match split_below(behind) {
         Some((below, rest)) => read_below(alloc, wants, finish, below, rest),
         None => read_optimal(alloc, wants, finish, behind),
     }

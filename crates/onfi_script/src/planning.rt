@@ -37,7 +37,7 @@ pub fn plan_by(
 {
     let limit = Limit::of(options.limit).unwrap();
     let plan = options.planner.plan(alloc, problem, limit)?;
-    let better = maybe_better(alloc, problem, weights, options, plan)?;
+    let better = improve_plan(alloc, problem, weights, options, plan)?;
     Ok(better)
 }
 
@@ -65,7 +65,7 @@ pub fn plan_by_workers<R: Threads + Sync>(
         ChosenPlanner::Plain => {
             let planned = plan_split(rt, alloc, problem, options.limit, workers, &NoGate)?;
             let plan = Plan::of(planned, 0);
-            let better = maybe_better(alloc, problem, weights, options, plan)?;
+            let better = improve_plan(alloc, problem, weights, options, plan)?;
             Ok(better)
         }
         ChosenPlanner::Remembering => plan_by(alloc, problem, weights, options),
@@ -75,7 +75,7 @@ pub fn plan_by_workers<R: Threads + Sync>(
 }
 
 /// A plan of the options' planner, made better where they say so.
-fn maybe_better(
+fn improve_plan(
     alloc: Global,
     problem: &Problem,
     weights: &Weights,
@@ -110,7 +110,7 @@ fn trace_of(
 }
 
 /// A plan as it is printed.
-pub fn printed(
+pub fn print_plan(
     alloc: Global,
     problem: &Problem,
     plan: Plan,

@@ -7,7 +7,7 @@ ghost use Rattle.onfi_script.specs.Setup.{is_amiss, members};
 ghost use Rattle.onfi_problem.specs.declared.lun_state.LunState.TheVariants.{Running};
 
 use crate::fault::ScriptFault;
-use crate::field::{block, field, flag, kind, lun, page, small, time, weight};
+use crate::field::{block, field, flag, kind, lun, page, read_small, time, weight};
 use crate::row::Row;
 use crate::sectors::is_amiss;
 use csv::ByteRecord;
@@ -132,7 +132,7 @@ pub fn running_row(alloc: Global, row: &ByteRecord) -> Result<Row, ScriptFault>
     ensures { result ≡ spec.running_row (fields_of row.now) }
 {
     let lun = lun(field(row, 1))?;
-    let next = small(field(row, 2), 0, 7)?;
+    let next = read_small(field(row, 2), 0, 7)?;
     let ready = time(field(row, 3))?;
     let kind = kind(field(row, 4))?;
     let page = page(field(row, 5))?;
@@ -167,7 +167,7 @@ pub fn want_row(row: &ByteRecord) -> Result<Row, ScriptFault>
 pub fn weight_row(row: &ByteRecord) -> Result<Row, ScriptFault>
     ensures { result ≡ spec.weight_row (fields_of row.now) }
 {
-    let request = small(field(row, 1), 0, 7)?;
+    let request = read_small(field(row, 1), 0, 7)?;
     let weight = weight(field(row, 2))?;
     Ok(Row::Weight { request, weight })
 }

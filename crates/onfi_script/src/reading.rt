@@ -14,7 +14,7 @@ use crate::row::Row;
 use crate::rows::rows;
 use crate::script::script_len;
 use crate::sectors::asks_amiss;
-use crate::setup::{Setup, beyond, set_up};
+use crate::setup::{Setup, find_beyond, set_up};
 use crate::weights::weights;
 use onfi_early::Weights;
 use onfi_problem::{Problem, ProblemFault};
@@ -53,7 +53,7 @@ pub(crate) fn refused(fault: ProblemFault) -> Stop
 }
 
 /// The problem of what was set up.
-pub(crate) fn made(alloc: Global, rows: &[Row], setup: &Setup) -> Result<Problem, Stop>
+pub(crate) fn make_problem(alloc: Global, rows: &[Row], setup: &Setup) -> Result<Problem, Stop>
     ensures told { Tells IfRefused (λ p. p.problem) result (TellsProblem rows.now (problem_of setup.now)) }
     ensures begun { IfOk result (λ p. p.all ≡ p.problem.wants) }
 {
@@ -89,13 +89,13 @@ fn problem_in(alloc: Global, rows: &[Row]) -> Result<Problem, Stop>
         Ok(device) => device,
         Err(stop) => return Err(stop.at(0)),
     };
-    if let Some(at) = beyond(rows, &device) {
+    if let Some(at) = find_beyond(rows, &device) {
         return Err(RowStop::Fault(ScriptFault::OutOfRange).at(at as u64 + 1));
     }
     let Ok(setup) = set_up(alloc, rows, &device) else {
         return Err(Stop::Memory);
     };
-    made(alloc, rows, &setup)
+    make_problem(alloc, rows, &setup)
 }
 
 /// What the script of an input says.

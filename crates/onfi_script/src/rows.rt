@@ -27,7 +27,7 @@ use csv::ByteRecord;
 use std::alloc::{AllocError, Global};
 
 /// What row number `number` says, after rows that show that much.
-fn said(
+fn read_row(
     alloc: Global,
     name: RowName,
     seen: &Seen,
@@ -97,7 +97,7 @@ fn is_settled(row: &Row, arrays: &ArraysTold, earlier: &[Row]) -> bool
 }
 
 /// The row, where no earlier row settles the same, and where an operation may come yet.
-fn admitted(ops_left: u16, arrays: &ArraysTold, earlier: &[Row], row: Row) -> Result<Row, RowStop>
+fn admit_row(ops_left: u16, arrays: &ArraysTold, earlier: &[Row], row: Row) -> Result<Row, RowStop>
     requires { AreTold earlier.now arrays.now.names.keys }
     ensures { Gives IfFault (λ r. r) result (spec.admitted ops_left earlier.now row) }
 {
@@ -131,8 +131,8 @@ fn row_of(
     if !name.has_fields(fields) {
         return Err(RowStop::Fault(ScriptFault::FieldCount));
     }
-    let row = said(alloc, name, seen, earlier.len() + 1, fields)?;
-    admitted(seen.ops_left, arrays, earlier, row)
+    let row = read_row(alloc, name, seen, earlier.len() + 1, fields)?;
+    admit_row(seen.ops_left, arrays, earlier, row)
 }
 
 /// Keeps a row after the others, and with it the operation of an array that it names.

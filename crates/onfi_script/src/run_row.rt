@@ -9,8 +9,8 @@ use crate::choosing::Choosing;
 use crate::count::Count;
 use crate::fault::{RowStop, ScriptFault};
 use crate::field::{
-    block, field, first_sector, hex_bytes, is_word, kind, lun, number, page, small, some_sectors,
-    span,
+    block, field, first_sector, hex_bytes, is_word, kind, lun, number, page, read_small, read_span,
+    some_sectors,
 };
 use crate::operation::{Aim, Content, Operation};
 use crate::replans::Replans;
@@ -30,7 +30,7 @@ fn count<const MOST: u16>(text: &[u8]) -> Result<Count<MOST>, ScriptFault>
 }
 
 /// By what a batch is chosen.
-fn choosing(text: &[u8]) -> Result<Choosing, ScriptFault>
+fn read_choice(text: &[u8]) -> Result<Choosing, ScriptFault>
     ensures { result ≡ spec.choosing text.now }
 {
     if is_word(text, "by-lun") {
@@ -69,7 +69,7 @@ fn call_number(text: &[u8]) -> Result<u32, ScriptFault>
 fn end_number(text: &[u8]) -> Result<u8, ScriptFault>
     ensures { result ≡ spec.end_number text.now }
 {
-    small(text, 0, 3)
+    read_small(text, 0, 3)
 }
 
 /// `channels,N`
@@ -100,7 +100,7 @@ pub fn batch_row(row: &ByteRecord) -> Result<Row, ScriptFault>
 pub fn choice_row(row: &ByteRecord) -> Result<Row, ScriptFault>
     ensures { result ≡ spec.choice_row (fields_of row.now) }
 {
-    let choosing = choosing(field(row, 1))?;
+    let choosing = read_choice(field(row, 1))?;
     Ok(Row::Choice { choosing })
 }
 
@@ -167,7 +167,7 @@ pub fn array_row(row: &ByteRecord) -> Result<Row, ScriptFault>
     let channel = end_number(field(row, 1))?;
     let lun = lun(field(row, 2))?;
     let number = call_number(field(row, 3))?;
-    let length = span(field(row, 4), 0)?;
+    let length = read_span(field(row, 4), 0)?;
     Ok(Row::Array {
         channel,
         lun,
@@ -195,7 +195,7 @@ fn only(bytes: &[u8]) -> Result<u8, ScriptFault>
 }
 
 /// A page of one byte, `*HH`, without the star.
-fn filled(alloc: Global, digits: &[u8]) -> Result<Content, RowStop>
+fn fill_page(alloc: Global, digits: &[u8]) -> Result<Content, RowStop>
     ensures { Gives IfFault (λ content. content) result (spec.filled digits.now) }
 {
     let bytes = hex_bytes(alloc, digits)?;
@@ -208,13 +208,13 @@ fn content(alloc: Global, text: &[u8]) -> Result<Content, RowStop>
     ensures { Gives IfFault (λ content. content) result (spec.content text.now) }
 {
     match text.split_first() {
-        Some((mark, digits)) if *mark == b'*' => filled(alloc, digits),
+        Some((mark, digits)) if *mark == b'*' => fill_page(alloc, digits),
         _ => Ok(Content::Given(Bytes::of(hex_bytes(alloc, text)?))),
     }
 }
 
 /// Who asks which channel for what.
-fn aim(row: &ByteRecord) -> Result<Aim, ScriptFault>
+fn read_op_aim(row: &ByteRecord) -> Result<Aim, ScriptFault>
     ensures { result ≡ spec.aim (fields_of row.now) }
 {
     let host = end_number(field(row, 1))?;
@@ -235,7 +235,7 @@ fn aim(row: &ByteRecord) -> Result<Aim, ScriptFault>
 pub fn op_row(alloc: Global, row: &ByteRecord) -> Result<Row, RowStop>
     ensures { Gives IfFault (λ r. r) result (spec.op_row (fields_of row.now)) }
 {
-    let aim = aim(row)?;
+    let aim = read_op_aim(row)?;
     let content = content(alloc, field(row, 7))?;
     Ok(Row::Op(Operation { aim, content }))
 }

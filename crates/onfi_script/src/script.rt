@@ -32,7 +32,7 @@ pub fn script_len(input: &[u8]) -> Option<usize>
 }
 
 /// What follows the line `end` that a text begins with.
-pub fn behind_end(text: &[u8]) -> &[u8]
+pub fn after_end(text: &[u8]) -> &[u8]
     ensures { result.now ≡ behind_end text.now }
 {
     let len = if text.starts_with(b"end\r\n") { 5 } else { 4 };
@@ -44,7 +44,7 @@ pub fn plan_text_of(input: &[u8]) -> &[u8]
     ensures { result.now ≡ plan_text_of input.now }
 {
     match script_len(input) {
-        Some(size) => behind_end(&input[size..]),
+        Some(size) => after_end(&input[size..]),
         None => b"",
     }
 }

@@ -6,7 +6,7 @@ ghost use Rattle.onfi_script.specs.Row.{each_of};
 ghost use Rattle.onfi_script.specs.SectorRow as spec;
 
 use crate::fault::ScriptFault;
-use crate::field::{field, lun, sector_bytes, sectors, small, span};
+use crate::field::{field, lun, read_small, read_span, sector_bytes, sectors};
 use crate::row::Row;
 use csv::ByteRecord;
 use smallvec::SmallVec;
@@ -83,8 +83,8 @@ impl RunSectorsRow {
 pub fn sector_post_row(row: &ByteRecord) -> Result<Row, ScriptFault>
     ensures { result ≡ spec.sector_post_row (fields_of row.now) }
 {
-    let count = small(field(row, 1), 1, 7)?;
-    let post = span(field(row, 2), 1)?;
+    let count = read_small(field(row, 1), 1, 7)?;
+    let post = read_span(field(row, 2), 1)?;
     Ok(Row::SectorPost(SectorPostRow { count, post }))
 }
 
@@ -100,7 +100,7 @@ pub fn sector_row(row: &ByteRecord) -> Result<Row, ScriptFault>
 pub fn sectors_row(row: &ByteRecord) -> Result<Row, ScriptFault>
     ensures { result ≡ spec.sectors_row (fields_of row.now) }
 {
-    let request = small(field(row, 1), 0, 7)?;
+    let request = read_small(field(row, 1), 0, 7)?;
     let count = sectors(field(row, 2))?;
     Ok(Row::Sectors { request, count })
 }

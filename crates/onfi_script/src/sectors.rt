@@ -36,7 +36,7 @@ fn run_sectors(rows: &[Row], lun: u8) -> &[u8]
 }
 
 /// A kind that puts out so many sectors, where it is a read.
-fn putting_out(count: u8, kind: Kind) -> Kind
+fn put_out_sectors(count: u8, kind: Kind) -> Kind
     ensures { result ≡ spec.putting_out count kind }
 {
     if count == 0 {
@@ -53,7 +53,7 @@ fn with_sectors(count: u8, want: Want) -> Want
     ensures { result ≡ spec.with_sectors count want }
 {
     Want {
-        kind: putting_out(count, want.kind),
+        kind: put_out_sectors(count, want.kind),
         ..want
     }
 }
@@ -62,7 +62,7 @@ fn with_sectors(count: u8, want: Want) -> Want
 ///
 /// # Errors
 /// Where memory was refused.
-pub fn asked(alloc: Global, rows: &[Row], wants: &[Want]) -> Result<Vec<Want>, AllocError>
+pub fn ask_sectors(alloc: Global, rows: &[Row], wants: &[Want]) -> Result<Vec<Want>, AllocError>
     ensures { IfOk result (λ v. v.items ≡ map (spec.asked rows.now) wants.now) }
 {
     let mut asked = Vec::new(alloc);

@@ -8,7 +8,7 @@ ghost use Rattle.onfi_script.specs.declared.row.Subject.TheVariants as on;
 use crate::device::Device;
 use crate::forms::row_on;
 use crate::row::{Row, Subject};
-use crate::sectors::{asked, run_asked};
+use crate::sectors::{ask_sectors, run_asked};
 use onfi_group::Rules;
 use onfi_problem::LunState;
 use onfi_request::Want;
@@ -93,7 +93,7 @@ fn wants(alloc: Global, rows: &[Row], plane_bits: u8) -> Result<Vec<Want>, Alloc
 }
 
 /// The first row that names a LUN that isn't there, or a sector longer than a page, counted from 0.
-pub fn beyond(rows: &[Row], device: &Device) -> Option<usize>
+pub fn find_beyond(rows: &[Row], device: &Device) -> Option<usize>
     ensures { result ≡ position (spec.is_beyond device.now) rows.now }
 {
     rows.iter().position(|row| row.is_beyond(device))
@@ -105,7 +105,7 @@ pub fn set_up(alloc: Global, rows: &[Row], device: &Device) -> Result<Setup, All
 {
     let luns = states(alloc, rows, device.plane_bits, device.luns)?;
     let wants = wants(alloc, rows, device.plane_bits)?;
-    let wants = asked(alloc, rows, wants.as_slice())?;
+    let wants = ask_sectors(alloc, rows, wants.as_slice())?;
     Ok(Setup {
         timing: device.timing,
         rules: Rules::new(

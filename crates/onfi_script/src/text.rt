@@ -70,7 +70,7 @@ fn refused_at(alloc: Global, reason: &str, place: u64) -> Result<Answer, AllocEr
 }
 
 /// The line of a schedule that ends at `ends`, in ns, and that nothing beats.
-pub fn accepted(alloc: Global, ends: u64) -> Result<Answer, AllocError>
+pub fn accept_end(alloc: Global, ends: u64) -> Result<Answer, AllocError>
     ensures { IfOk result (λ a. answer_of a ≡ spec.accepted ends) }
 {
     line(alloc, "accepted", ends, 0)
@@ -203,7 +203,7 @@ pub fn refused(alloc: Global, refusal: Refusal) -> Result<Answer, AllocError>
 }
 
 /// .. where a search opened as many nodes as it may, and is not over.
-pub fn over(alloc: Global, opened: u32) -> Result<Answer, AllocError>
+pub fn report_over(alloc: Global, opened: u32) -> Result<Answer, AllocError>
     ensures { IfOk result (λ a. answer_of a ≡ spec.over opened) }
 {
     refuse(alloc, Why::Over(opened))

@@ -192,7 +192,7 @@ impl<C: Chip, P: Planner> Driver<C, P> {
         ensures posted { self.new.0.half.posted ≡ self.old.0.half.posted }
     {
         let came = run_due(alloc, &mut self.half, &mut self.chip, &mut self.lanes, &due);
-        ran_of(came)
+        judge_run(came)
     }
 
     /// Posts the oldest reply that is held for the host, at its poster. It takes no memory.
@@ -203,12 +203,12 @@ impl<C: Chip, P: Planner> Driver<C, P> {
         ensures offered { Offered host self.old.0.half poster.old result self.new.0.half poster.new }
         ensures same { self.new ≡ (record self.old.0 { half = self.new.0.half }, self.old.1) }
     {
-        let Some(reply) = self.half.held(host) else {
+        let Some(reply) = self.half.take_held(host) else {
             return Offer::Nothing;
         };
         match poster.post(rt, reply) {
             Ok(()) => {
-                self.half.posted(host);
+                self.half.note_posted(host);
                 Offer::Posted
             }
             Err(reply) => {
@@ -220,7 +220,7 @@ impl<C: Chip, P: Planner> Driver<C, P> {
 }
 
 // What a due phase came to.
-fn ran_of(came: Result<u64, PhaseStop>) -> Ran
+fn judge_run(came: Result<u64, PhaseStop>) -> Ran
     ensures { result ≡ ran_of came }
 {
     match came {

@@ -13,7 +13,7 @@ pub fn greatest_bound(problem: &Problem) -> BoundAt
 {
     let mut greatest = greatest_of_bus(problem);
     for lun in 0..problem.lun_count() as u8 {
-        greatest = greater(greatest, Bound::Die(lun), die(problem, lun));
+        greatest = choose_greater(greatest, Bound::Die(lun), die(problem, lun));
     }
     greatest
 }
@@ -26,15 +26,15 @@ fn greatest_of_bus(problem: &Problem) -> BoundAt
         bound: Bound::Bus,
         at: bus(problem),
     };
-    let greatest = greater(by_bus, Bound::Lead, lead(problem));
+    let greatest = choose_greater(by_bus, Bound::Lead, lead(problem));
     match trail(problem) {
-        Some(at) => greater(greatest, Bound::Trail, at),
+        Some(at) => choose_greater(greatest, Bound::Trail, at),
         None => greatest,
     }
 }
 
 // A bound where it comes to more than what was the greatest before; else that one.
-fn greater(greatest: BoundAt, bound: Bound, at: u64) -> BoundAt
+fn choose_greater(greatest: BoundAt, bound: Bound, at: u64) -> BoundAt
     ensures { result ≡ greater greatest bound at }
 {
     if at > greatest.at {

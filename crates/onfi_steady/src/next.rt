@@ -141,7 +141,7 @@ fn first_given<'a>(
     let kept = kept_from(timing, from, luns);
     let mut first = None;
     for (lun, state) in luns.iter().enumerate() {
-        let other = given(
+        let other = give_phase(
             timing,
             from,
             kept,
@@ -183,7 +183,7 @@ fn first_with<'a>(known: Option<Candidate<'a>>, other: Candidate<'a>) -> Candida
 }
 
 // The phase that a LUN gives.
-fn given<'a>(
+fn give_phase<'a>(
     timing: &Timing,
     from: u64,
     kept: Option<u64>,
@@ -208,7 +208,7 @@ fn given<'a>(
             turn: turn_of_running(timing, from, kept, group, *next, *ready),
         }),
         LunState::Free { since } => {
-            let members = given_group(offer, newest, work);
+            let members = give_group(offer, newest, work);
             begin(timing, from, kept, *since, lun, members)
         }
     }
@@ -234,7 +234,7 @@ fn begin<'a>(
 }
 
 // The group that a LUN gives: an erase in place of what is held.
-fn given_group(offer: &Offer, newest: Option<u64>, work: bool) -> &[Want]
+fn give_group(offer: &Offer, newest: Option<u64>, work: bool) -> &[Want]
     ensures members { (books : Books) (lun : ℕ) → IsOffer books.rules books.waiting lun offer.now → newest ≡ books.newest
         → result.now ≡ given_group books work (ready_on lun books.waiting) }
     ensures few { length result.now ≤ 4 }
@@ -264,7 +264,7 @@ fn first_held(from: u64, luns: &[LunState], offers: &[Offer; 8]) -> Option<NextP
         → MatchOption result (NoneBelow books luns.now (length luns.now)) (IsHeldBy from luns.now books) }
 {
     for (lun, state) in luns.iter().enumerate() {
-        if let Some(phase) = held(from, state, lun as u8, &offers[lun]) {
+        if let Some(phase) = give_held(from, state, lun as u8, &offers[lun]) {
             return Some(phase);
         }
     }
@@ -272,7 +272,7 @@ fn first_held(from: u64, luns: &[LunState], offers: &[Offer; 8]) -> Option<NextP
 }
 
 // What a LUN holds that runs nothing.
-fn held(from: u64, state: &LunState, lun: u8, offer: &Offer) -> Option<NextPhase>
+fn give_held(from: u64, state: &LunState, lun: u8, offer: &Offer) -> Option<NextPhase>
     ensures { (luns : List AnyState) (books : Books) → IsOfferedTo books luns lun offer.now → slice_get luns lun ≡ Some state.now
         → IsHeldAt from state.now lun books result }
 {

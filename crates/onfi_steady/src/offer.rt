@@ -47,7 +47,7 @@ impl Offer {
     {
         let mut ready = ArrayVec::new();
         let reads = list_ready(&mut ready, waiting, lun);
-        let head = turned_to(ready.as_slice());
+        let head = pick_request(ready.as_slice());
         let group = group_with(rules, ready.as_slice(), head);
         let is_open = may_grow(rules, head, group.as_slice());
         let erase = erase_group(rules, ready.as_slice(), is_open);
@@ -104,7 +104,7 @@ fn erase_group(rules: &Rules, ready: &[Waiter], is_asked: bool) -> ArrayVec<Want
 }
 
 // The request that a LUN turns to, of those that may begin.
-fn turned_to(ready: &[Waiter]) -> Option<Waiter>
+fn pick_request(ready: &[Waiter]) -> Option<Waiter>
     ensures { result ≡ turned_to ready.now }
 {
     if let Some(waiter) = oldest_due(ready) {

@@ -41,7 +41,7 @@ impl Audit {
         ensures broken { IfErr result (Tells self.old line.now) }
         ensures unchanged { IfErr result (λ _. self.new ≡ self.old) }
     {
-        match self.coming(line) {
+        match self.classify(line) {
             Ok(coming) => {
                 self.run(line, coming);
                 Ok(())
@@ -61,7 +61,7 @@ impl Audit {
             return false;
         }
         let last = line.at(END - 1);
-        match self.coming(&last) {
+        match self.classify(&last) {
             Ok(phase) => {
                 self.run(line, phase);
                 true
@@ -71,7 +71,7 @@ impl Audit {
     }
 
     // What the line is, if it may come.
-    fn coming(&self, line: &Line) -> Result<Coming, LogBreach>
+    fn classify(&self, line: &Line) -> Result<Coming, LogBreach>
         ensures ok { IfOk result (IsComing self.now line.now) }
         ensures broken { IfErr result (Tells self.now line.now) }
         ensures illegal { IfErr result (λ _. MayCome self.now line.now → 2 ^ 62 ≤ line.now.start) }
@@ -87,14 +87,14 @@ impl Audit {
                 if line.is_post {
                     return Err(LogBreach::NothingRuns { lun: line.lun });
                 }
-                self.joining(line, &[], *since)
+                self.classify_joining(line, &[], *since)
             }
             LunStage::Running { group, next, ready } => self.going_on(line, group, *next, *ready),
             LunStage::Open { group, more, ready } => {
                 if line.is_post {
                     return self.going_on(line, group, group.len() as u8, *ready);
                 }
-                self.joining(line, group.members(), *more)
+                self.classify_joining(line, group.members(), *more)
             }
         }
     }
@@ -141,7 +141,12 @@ impl Audit {
     }
 
     // A command that joins those members, if the line is one and may come.
-    fn joining(&self, line: &Line, members: &[Want], from: u64) -> Result<Coming, LogBreach>
+    fn classify_joining(
+        &self,
+        line: &Line,
+        members: &[Want],
+        from: u64,
+    ) -> Result<Coming, LogBreach>
         requires command { line.now.is_post ≡ false }
         requires stands { JoinStands self.now line.now members.now from }
         requires few { length members.now ≤ 4 }
@@ -154,7 +159,7 @@ impl Audit {
             Err(breach) => return Err(breach),
         };
         let alloc = self.wants.alloc();
-        let Some(group) = grown(alloc, &self.rules, members, &want) else {
+        let Some(group) = extend_group(alloc, &self.rules, members, &want) else {
             return Err(LogBreach::NotGrouped {
                 first: members[0].id,
                 request: want.id,
@@ -268,7 +273,7 @@ fn stage_after(timing: &Timing, group: &Group, phase: u8, ended: u64) -> LunStag
 }
 
 // The members and the want as one group, if they are one.
-fn grown(alloc: Global, rules: &Rules, members: &[Want], want: &Want) -> Option<Group>
+fn extend_group(alloc: Global, rules: &Rules, members: &[Want], want: &Want) -> Option<Group>
     requires { length members.now ≤ 4 }
     ensures group { IfSome result (λ g. (g ≡ members.now ++ want.now ∷ []) × IsGroup rules.now g) }
     ensures none { IfNone result (IsGroup rules.now (members.now ++ want.now ∷ []) → ⊥) }

@@ -421,14 +421,14 @@ fn take_whole_group(
     ensures grows { Grows batch items.now marks.old marks.new }
     ensures count { result ≡ marked marks.new }
 {
-    match given_by(rules, waiters, items, chains, lun, newest, work, marks) {
+    match pick_given(rules, waiters, items, chains, lun, newest, work, marks) {
         Some(at) => take_group(rules, items, chains, marks, taken, batch, at),
         None => taken,
     }
 }
 
 // The oldest item of what the LUN gives.
-fn given_by(
+fn pick_given(
     rules: &Rules,
     waiters: &[Waiter],
     items: &[Want],
@@ -647,12 +647,12 @@ fn fill_rest(
     if is_full(taken, batch) {
         return;
     }
-    let held = held_lun(rules, waiters, items, chains, newest, work, marks);
+    let held = find_held_lun(rules, waiters, items, chains, newest, work, marks);
     take_rest(items, chains, held, marks, taken, batch);
 }
 
 // The LUN whose programs are held back: that of the newest program, where its group is open.
-fn held_lun(
+fn find_held_lun(
     rules: &Rules,
     waiters: &[Waiter],
     items: &[Want],

@@ -8,7 +8,7 @@ ghost use Rattle.onfi_core.specs.declared.setup.Choice.TheVariants.{InOrder};
 use crate::choosing::{choose, choose_whole};
 use crate::finding::item_of;
 use crate::half::Half;
-use crate::merging::merged;
+use crate::merging::merge_wants;
 use crate::setup::Choice;
 use crate::wants::want_of;
 use arrayvec::ArrayVec;
@@ -141,14 +141,14 @@ impl Half {
         ensures { IfOk result (λ items. AreItems self.now.setup self.now.state items.items) }
     {
         let unplanned = self.unplanned_wants(alloc)?;
-        merged(alloc, self.flight.wants(), unplanned.as_slice())
+        merge_wants(alloc, self.flight.wants(), unplanned.as_slice())
     }
 
     // The items that no plan has taken, as wants.
     fn unplanned_wants(&self, alloc: Global) -> Result<Vec<Want>, AllocError>
         ensures { IfOk result (λ wants. wants.items ≡ unplanned self.now.setup self.now.state) }
     {
-        let mut wants = copied(alloc, self.aside.as_slice())?;
+        let mut wants = copy_wants(alloc, self.aside.as_slice())?;
         for at in 0..self.accepted - self.planned {
             let place = self.planned + at;
             let item = item_of(&self.slots, place);
@@ -159,7 +159,7 @@ impl Half {
 }
 
 // The same wants once more.
-fn copied(alloc: Global, wants: &[Want]) -> Result<Vec<Want>, AllocError>
+fn copy_wants(alloc: Global, wants: &[Want]) -> Result<Vec<Want>, AllocError>
     ensures { IfOk result (λ v. v.items ≡ wants.now) }
 {
     let mut copies = Vec::with_capacity(alloc, wants.len())?;

@@ -40,7 +40,7 @@ impl Half {
         ensures { self.new ≡ record self.old { state = after_due self.old.state due.now (replies_of self.old.state.accepted faults due.now ran) } }
     {
         let reply = reply_of(&self.slots, &self.history, due, ran, chip);
-        self.history = self.history.holding(&reply);
+        self.history = self.history.with_held(&reply);
         hold(&mut self.held, reply);
         self.flight.done(due);
     }

@@ -4,7 +4,7 @@ ghost use Rattle.std.specs.Prelude.{◌≡◌, ℕ, ◌+◌, ◌<◌, ◌≤◌,
 ghost use Rattle.onfi_problem.specs.Moves.{placed};
 ghost use Rattle.onfi_flight.specs.Flight.{IsDue, after_due, after_late, groups_left, latest_late, left_behind, move_of, starts_of, wants_behind};
 
-use crate::due::{Due, behind_first, lun_after, wants_without};
+use crate::due::{Due, lun_after, skip_first, wants_without};
 use crate::flight::Flight;
 use crate::flight::passing::{END, TooLate};
 use crate::lag::lag_of;
@@ -54,8 +54,8 @@ impl Flight {
         let members = due.group.members();
         let ended = started + phase_length(&self.timing, members, usize::from(due.phase));
         let lun = usize::from(due.lun);
-        let rest = self.rest_behind(due);
-        self.wants = self.wants_behind(due);
+        let rest = self.rest_after(due);
+        self.wants = self.wants_after(due);
         self.luns
             .set(lun, lun_after(&self.timing, &due.group, due.phase, ended));
         self.bus_free = ended;
@@ -63,18 +63,18 @@ impl Flight {
     }
 
     // The starts that are left of the group.
-    fn rest_behind(&self, due: &Due) -> Starts
+    fn rest_after(&self, due: &Due) -> Starts
         requires { IsDue self.now due.now }
         ensures { result ≡ drop 1 (starts_of self.now.left due.now.lun due.now.place) }
     {
         match due.place {
-            Some(at) => behind_first(self.left.groups()[at].starts()),
-            None => behind_first(&self.left.rest()[usize::from(due.lun)]),
+            Some(at) => skip_first(self.left.groups()[at].starts()),
+            None => skip_first(&self.left.rest()[usize::from(due.lun)]),
         }
     }
 
     // The wants that are left: those of a group that begins leave.
-    fn wants_behind(&self, due: &Due) -> ArrayVec<Want, 8>
+    fn wants_after(&self, due: &Due) -> ArrayVec<Want, 8>
         ensures { result.items ≡ wants_behind due.now.place due.now.group self.now.now.wants }
     {
         match due.place {

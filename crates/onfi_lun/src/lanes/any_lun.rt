@@ -55,11 +55,11 @@ impl AnyLun {
     {
         match self {
             AnyLun::Idle(lun) => match lun.command(alloc, chip, target, now, request, closer) {
-                Ok(commanded) => (behind_command(commanded), Ok(())),
+                Ok(commanded) => (after_command(commanded), Ok(())),
                 Err(refused) => (AnyLun::Idle(refused.lun), Err(refused.fault)),
             },
             AnyLun::Queuing(lun) => match lun.command(alloc, chip, target, now, request, closer) {
-                Ok(commanded) => (behind_command(commanded), Ok(())),
+                Ok(commanded) => (after_command(commanded), Ok(())),
                 Err(refused) => (AnyLun::Queuing(refused.lun), Err(refused.fault)),
             },
             AnyLun::Working(_) | AnyLun::Posting(_) | AnyLun::Moving => unreachable!(),
@@ -93,7 +93,7 @@ impl AnyLun {
     {
         let posting = self.into_posting(now);
         match posting.post(chip, target, now, fetch) {
-            Ok((posted, answer)) => (behind_post(posted), Ok(answer)),
+            Ok((posted, answer)) => (after_post(posted), Ok(answer)),
             Err(refused) => (AnyLun::Posting(refused.lun), Err(refused.fault)),
         }
     }
@@ -128,7 +128,7 @@ impl AnyLun {
             unreachable!();
         };
         if chip.poll(now, lun.number()) {
-            (AnyLun::Working(lun.sooner(now)), true)
+            (AnyLun::Working(lun.bring_forward(now)), true)
         } else {
             (AnyLun::Working(lun), false)
         }
@@ -150,7 +150,7 @@ impl AnyLun {
 }
 
 // The LUN after a command.
-fn behind_command(commanded: Commanded) -> AnyLun
+fn after_command(commanded: Commanded) -> AnyLun
     ensures { result ≡ behind_command commanded }
 {
     match commanded {
@@ -160,7 +160,7 @@ fn behind_command(commanded: Commanded) -> AnyLun
 }
 
 // The LUN after a post.
-fn behind_post(posted: Posted) -> AnyLun
+fn after_post(posted: Posted) -> AnyLun
     ensures { result ≡ behind_post posted }
 {
     match posted {

@@ -69,7 +69,7 @@ impl<C: Chip, P: Planner> Sequencer<C, P> {
         let mut made = 0u64;
         loop {
             if take_in_all(rt, alloc, inboxes).is_err() {
-                self.note_want_of_memory();
+                self.note_refused_memory();
                 return DrainedAt::Memory;
             }
             if let Some(end) = self.end_before_turn(hosts, made, turns) {
@@ -84,7 +84,7 @@ impl<C: Chip, P: Planner> Sequencer<C, P> {
     }
 
     // A taking in was refused.
-    fn note_want_of_memory(&mut self)
+    fn note_refused_memory(&mut self)
         ensures { seen_in C.state self.new ≡ left_by DrainedAt.Memory (seen_in C.state self.old) }
     {
         self.short = true;

@@ -4,7 +4,7 @@ use Rattle.onfi_c.proofs.planning.onfi_plan.Goals as goal
 
 pub returns-in-Ok : goal.returns-in-Ok
 returns-in-Ok c =
-    plan_given _ c.args.limit c.in-Ok.problem.problem c.tell.result c.in-Ok.ensures.posed c.tell.ensures.plan c.tell.ensures.none c.give_told.ensures.given
+    plan_given _ c.args.limit c.in-Ok.problem.problem c.find_plan.result c.in-Ok.ensures.posed c.find_plan.ensures.plan c.find_plan.ensures.none c.give_told.ensures.given
     c.give_told.ensures.refused
 
 pub returns-in-Err : goal.returns-in-Err

@@ -8,16 +8,16 @@ use Rattle.onfi_c.proofs.Standing.{plain_there}
 use Rattle.onfi_c.proofs.StepTaken.{limits_after}
 use Rattle.onfi_c.proofs.ran.step_in_order.Goals as goal
 
-pub lun_behind-lun-requires-clause-there : goal.lun_behind-lun-requires-clause-there
-lun_behind-lun-requires-clause-there c =
+pub lun_after-lun-requires-clause-there : goal.lun_after-lun-requires-clause-there
+lun_after-lun-requires-clause-there c =
     let by = c.requires.measured.0 in
     let timing = c.args.timing.now in
     let f : Flight = flight_of timing c.rules-rules.result c.args.channel.now.bus_free c.args.luns.now c.args.wants.now c.args.schedule.now in
     let said = c.in_ok-due.ensures.said by timing c.requires.measured.1 in
     plain_there by c.args.channel.now c.args.luns.now c.args.wants.now f c.in_ok-due.due c.args.started said.said.problem (c.in_ok-due.ensures.due timing)
 
-pub lun_behind-lun-requires-clause-within : goal.lun_behind-lun-requires-clause-within
-lun_behind-lun-requires-clause-within c = (c.in_ok-due.ensures.due c.args.timing.now).within
+pub lun_after-lun-requires-clause-within : goal.lun_after-lun-requires-clause-within
+lun_after-lun-requires-clause-within c = (c.in_ok-due.ensures.due c.args.timing.now).within
 
 pub returns : goal.returns
 returns c = λ by measured.
@@ -41,5 +41,5 @@ returns c = λ by measured.
       even = c.in_ok-due.ensures.even;
       limits = limits_after timing c.rules-rules.result c.args.channel.now.bus_free c.args.luns.now c.args.wants.now c.args.schedule.now due c.args.started said.limits c.in_ok-due.ensures.early is early;
       ended = ap (λ n. c.args.started + n) long;
-      lun_is = c.lun_behind-lun.ensures;
+      lun_is = c.lun_after-lun.ensures;
     }

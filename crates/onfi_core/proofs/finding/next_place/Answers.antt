@@ -10,7 +10,7 @@ loop-key-preserved c = elim c.match-get.branch [
   | in-Some w ↦ (
       let at : get c.args.slots.now c.loop-key.key ≡ Some w.in-Some.slot.now = sym c.get.ensures ∙ ap option_copied w.in-Some.is in
       let within : c.loop-key.key < c.args.slots.now.capacity = omega (arith, c.loop-key-test.true, c.capacity-key-end.ensures.value) in
-      nearest_some c.args.slots.now c.loop-key.key c.args.from c.loop-key.least c.match-get.least w.in-Some.slot.now c.loop-key.invariant at (slot_here c.args.slots.now c.loop-key.key w.in-Some.slot.now within at) (w.least-is ∙ w.nearer-least.ensures))
+      nearest_some c.args.slots.now c.loop-key.key c.args.from c.loop-key.least c.match-get.least w.in-Some.slot.now c.loop-key.invariant at (slot_here c.args.slots.now c.loop-key.key w.in-Some.slot.now within at) (w.least-is ∙ w.choose_nearer-least.ensures))
   | in_default w ↦ (
       let at : get c.args.slots.now c.loop-key.key ≡ None = sym c.get.ensures ∙ ap option_copied w.in_default.is in
       let r = nearest_none c.args.slots.now c.loop-key.key c.args.from c.loop-key.least c.loop-key.invariant at in

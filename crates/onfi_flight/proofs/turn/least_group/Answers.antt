@@ -13,6 +13,6 @@ loop-at-preserved c =
     record {
       least = so_far_one (map (λ (g : Placed). g.starts) c.args.groups.now) c.loop-at.at c.loop-at.least _ c.index-groups-at.result.starts c.loop-at.invariant.least
           (map_get (λ (x : Placed). x.starts) c.args.groups.now c.loop-at.at c.index-groups-at.result there)
-          (subst (λ xs. SoonerOf c.loop-at.least c.loop-at.at xs c.sooner_of-least.result) c.starts.ensures c.sooner_of-least.ensures.sooner);
-      time = c.sooner_of-least.ensures.time;
+          (subst (λ xs. SoonerOf c.loop-at.least c.loop-at.at xs c.choose_sooner_of-least.result) c.starts.ensures c.choose_sooner_of-least.ensures.sooner);
+      time = c.choose_sooner_of-least.ensures.time;
     }

@@ -24,7 +24,7 @@ use Rattle.onfi_known_plan.proofs.Node.{closed_shown, counted_shown, cut_shown, 
 use Rattle.onfi_known_plan.proofs.search.+search.Goals as goal
 
 pub search-returns-then-notes-clause-shown : goal.search-returns-then-notes-clause-shown
-search-returns-then-notes-clause-shown t c = full_shown c.args.problem.now c.args.best.now c.args.notes.now _ c.given_up.result c.requires.tree.limits (omega (arith, c.if-notes.true, c.requires.within)) refl refl refl refl refl c.given_up.ensures.demand c.given_up.ensures.improved
+search-returns-then-notes-clause-shown t c = full_shown c.args.problem.now c.args.best.now c.args.notes.now _ c.give_up.result c.requires.tree.limits (omega (arith, c.if-notes.true, c.requires.within)) refl refl refl refl refl c.give_up.ensures.demand c.give_up.ensures.improved
 
 pub search-search_open-requires : goal.search-search_open-requires
 search-search_open-requires t c =
@@ -128,7 +128,7 @@ search_open-returns-then-notes-clause-shown t c =
     let items = c.as_slice-listed.result.now in
     let moves = moves_of x.groups items in
     let half = subst (λ ms. Halfway x moves (moves_of x.groups ms) c.of-soonest.result c.args.best.now c.loop-step.best c.args.notes.now c.loop-step.notes c.loop-step.standing) (take_all c.loop-step.step-index items c.loop-step-test.false) c.loop-step.invariant.half in
-    cut_shown x moves c.of-soonest.result c.args.best.now c.loop-step.best c.args.notes.now c.loop-step.notes c.loop-step.standing c.given_up.result c.requires.at.tree.limits half c.if-notes.true c.given_up.ensures.demand c.given_up.ensures.improved
+    cut_shown x moves c.of-soonest.result c.args.best.now c.loop-step.best c.args.notes.now c.loop-step.notes c.loop-step.standing c.give_up.result c.requires.at.tree.limits half c.if-notes.true c.give_up.ensures.demand c.give_up.ensures.improved
 
 pub search_open-returns-then-is_empty-clause-shown : goal.search_open-returns-then-is_empty-clause-shown
 search_open-returns-then-is_empty-clause-shown t c = done_shown c.args.problem.now c.list_steps.new.moves c.args.best.now _ c.args.notes.now c.of_bus-demand.result c.requires.at.tree.limits c.list_steps.ensures.moves (eqb-true _ _ (sym c.if-is_empty.ensures)) c.bus_free-bus_free.ensures.value c.clear.ensures.items c.requires.is_open c.requires.at.finish c.requires.counted c.requires.at.within c.requires.uncut c.of_bus-demand.ensures

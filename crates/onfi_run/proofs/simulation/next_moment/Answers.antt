@@ -25,10 +25,10 @@ loop-station-preserved g c =
     let all = map comes stations in
     let within : at < length all = omega (arith, length-map stations comes, c.loop-station-test.true) in
     let here : c.comes_at.result ≡ get_or all at (comes d) = c.comes_at.ensures ∙ ap comes c.station-item.is ∙ sym (get_or-map comes stations at d) in
-    let more = subst (λ x. IsNext now ((dues ++ take at all) ++ x ∷ []) c.sooner-next.result) here (c.sooner-next.ensures (dues ++ take at all) c.loop-station.invariant) in
+    let more = subst (λ x. IsNext now ((dues ++ take at all) ++ x ∷ []) c.choose_sooner-next.result) here (c.choose_sooner-next.ensures (dues ++ take at all) c.loop-station.invariant) in
     let whole : (dues ++ take at all) ++ get_or all at (comes d) ∷ [] ≡ dues ++ take (at + 1) all =
     append_assoc dues (take at all) (get_or all at (comes d) ∷ []) ∙ ap (λ l. dues ++ l) (sym (take_more all at (comes d) within)) in
-    subst (λ l. IsNext now l c.sooner-next.result) whole more
+    subst (λ l. IsNext now l c.choose_sooner-next.result) whole more
 
 pub returns : goal.returns
 returns g c =

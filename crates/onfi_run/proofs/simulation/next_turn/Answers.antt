@@ -15,8 +15,8 @@ loop-lane-preserved g c =
     let dues = map due lanes in
     let within : at < length dues = omega (arith, length-map lanes due, c.loop-lane-test.true) in
     let here : c.due.result ≡ get_or dues at (due d) = c.due.ensures ∙ ap due c.lane-item.is ∙ sym (get_or-map due lanes at d) in
-    let more = subst (λ x. IsNext now (take at dues ++ x ∷ []) c.sooner-next.result) here (c.sooner-next.ensures (take at dues) c.loop-lane.invariant) in
-    subst (λ l. IsNext now l c.sooner-next.result) (sym (take_more dues at (due d) within)) more
+    let more = subst (λ x. IsNext now (take at dues ++ x ∷ []) c.choose_sooner-next.result) here (c.choose_sooner-next.ensures (take at dues) c.loop-lane.invariant) in
+    subst (λ l. IsNext now l c.choose_sooner-next.result) (sym (take_more dues at (due d) within)) more
 
 pub returns : goal.returns
 returns g c =

@@ -8,20 +8,20 @@ pub returns-in-Ok-clause-answer : goal.returns-in-Ok-clause-answer
 returns-in-Ok-clause-answer g c =
     let input = g.R.Read.remaining c.args.reader.now in
     let is = all_answers OneTells c.args.command input c.in-Ok.input.items c.answer.result c.in-Ok.ensures (rw c.as_slice.ensures.value at c.answer.ensures) in
-    told OneTells c.args.command input (g.W.Write.contents c.args.writer.now) (g.W.Write.contents c.tell_answer.new.writer) (told_of c.answer.result) c.tell_answer.result is c.tell_answer.ensures.whole
+    told OneTells c.args.command input (g.W.Write.contents c.args.writer.now) (g.W.Write.contents c.write_answer.new.writer) (told_of c.answer.result) c.write_answer.result is c.write_answer.ensures.whole
 
 pub returns-in-Ok-clause-unwritten : goal.returns-in-Ok-clause-unwritten
 returns-in-Ok-clause-unwritten g c =
     let input = g.R.Read.remaining c.args.reader.now in
     let is = all_answers OneTells c.args.command input c.in-Ok.input.items c.answer.result c.in-Ok.ensures (rw c.as_slice.ensures.value at c.answer.ensures) in
-    told_part OneTells c.args.command input (g.W.Write.contents c.args.writer.now) (g.W.Write.contents c.tell_answer.new.writer) (told_of c.answer.result) c.tell_answer.result is c.tell_answer.ensures.part
+    told_part OneTells c.args.command input (g.W.Write.contents c.args.writer.now) (g.W.Write.contents c.write_answer.new.writer) (told_of c.answer.result) c.write_answer.result is c.write_answer.ensures.part
 
 pub returns-in-Err-Memory-clause-answer : goal.returns-in-Err-Memory-clause-answer
 returns-in-Err-Memory-clause-answer g c =
     let input = g.R.Read.remaining c.args.reader.now in
-    told OneTells c.args.command input (g.W.Write.contents c.args.writer.now) (g.W.Write.contents c.tell_answer-in-Err-Memory.new.writer) memory c.tell_answer-in-Err-Memory.result (memory_answers OneTells c.args.command input) c.tell_answer-in-Err-Memory.ensures.whole
+    told OneTells c.args.command input (g.W.Write.contents c.args.writer.now) (g.W.Write.contents c.write_answer-in-Err-Memory.new.writer) memory c.write_answer-in-Err-Memory.result (memory_answers OneTells c.args.command input) c.write_answer-in-Err-Memory.ensures.whole
 
 pub returns-in-Err-Memory-clause-unwritten : goal.returns-in-Err-Memory-clause-unwritten
 returns-in-Err-Memory-clause-unwritten g c =
     let input = g.R.Read.remaining c.args.reader.now in
-    told_part OneTells c.args.command input (g.W.Write.contents c.args.writer.now) (g.W.Write.contents c.tell_answer-in-Err-Memory.new.writer) memory c.tell_answer-in-Err-Memory.result (memory_answers OneTells c.args.command input) c.tell_answer-in-Err-Memory.ensures.part
+    told_part OneTells c.args.command input (g.W.Write.contents c.args.writer.now) (g.W.Write.contents c.write_answer-in-Err-Memory.new.writer) memory c.write_answer-in-Err-Memory.result (memory_answers OneTells c.args.command input) c.write_answer-in-Err-Memory.ensures.part

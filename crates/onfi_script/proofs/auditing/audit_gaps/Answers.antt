@@ -12,8 +12,8 @@ use Rattle.onfi_script.proofs.auditing.audit_gaps.Goals as goal
 pub returns-in-Ok : goal.returns-in-Ok
 returns-in-Ok c =
     let input = c.args.input.now in
-    IfOk-weaker c.measured.result (λ a. AnswersMeasured c.args.options c.in-Ok.audit c.in-Ok.requests (plan_text_of input) (answer_of a)) (λ a. AnswersGaps c.args.options input (answer_of a))
-    (λ a h. is_read c.in-Ok.audit c.in-Ok.requests c.in-Ok.ensures h) (rw c.plan_text_of.ensures at c.measured.ensures)
+    IfOk-weaker c.measure_log.result (λ a. AnswersMeasured c.args.options c.in-Ok.audit c.in-Ok.requests (plan_text_of input) (answer_of a)) (λ a. AnswersGaps c.args.options input (answer_of a))
+    (λ a h. is_read c.in-Ok.audit c.in-Ok.requests c.in-Ok.ensures h) (rw c.plan_text_of.ensures at c.measure_log.ensures)
 
 pub returns-in-Err-Refused : goal.returns-in-Err-Refused
 returns-in-Err-Refused c =

@@ -15,4 +15,4 @@ returns-in_err-rows c =
     (λ refusal h. has_refusal refusal h refl) c.in_err-rows.ensures)
 
 pub returns : goal.returns
-returns c = read_by c.args.input.now c.in_ok-rows.rows.items c.begun_by.result c.in_ok-rows.ensures (rw c.as_slice.ensures.value at c.begun_by.ensures)
+returns c = read_by c.args.input.now c.in_ok-rows.rows.items c.begin_audit_by.result c.in_ok-rows.ensures (rw c.as_slice.ensures.value at c.begin_audit_by.ensures)

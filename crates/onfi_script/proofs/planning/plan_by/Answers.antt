@@ -3,8 +3,8 @@ use Rattle.onfi_planners.specs.Choice.{IsChosen}
 use Rattle.onfi_script.proofs.Plans.{chosen_plan}
 use Rattle.onfi_script.proofs.planning.plan_by.Goals as goal
 
-pub maybe_better-requires : goal.maybe_better-requires
-maybe_better-requires c =
+pub improve_plan-requires : goal.improve_plan-requires
+improve_plan-requires c =
     let o = c.args.options in
     let x = c.args.problem.now in
     let plan = c.in_ok-plan.ensures in

@@ -4,8 +4,8 @@ use Rattle.onfi_script.specs.Answer.{IsPlan, OneTells, PartsTell, TellsOver}
 use Rattle.onfi_script.proofs.Plans.{split_plan}
 use Rattle.onfi_script.proofs.planning.plan_by_workers.Goals as goal
 
-pub maybe_better-requires : goal.maybe_better-requires
-maybe_better-requires g c =
+pub improve_plan-requires : goal.improve_plan-requires
+improve_plan-requires g c =
     let planned = c.in_ok-planned-in-Plain in
     let e = planned.ensures in
     subst (λ b. IsPlan b 0 c.args.options.limit c.args.problem.now.problem c.of-plan.result) (sym c.in-Plain.is) (split_plan c.args.options.limit c.args.problem.now.problem c.of-plan.result planned.planned c.of-plan.ensures.planned e.optimal e.finish e.rising e.cert c.of-plan.ensures.below c.of-plan.ensures.cert)

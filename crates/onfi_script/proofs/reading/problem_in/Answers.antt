@@ -12,6 +12,6 @@ returns-in-Some-clause-told c = rw c.at-in-Some.ensures (goes_beyond c.in-Ok.dev
 
 pub returns-clause-told : goal.returns-clause-told
 returns-clause-told c =
-    gives_more (λ p. p.problem) c.made.result (TellsProblem c.args.rows.now (problem_of c.in-Ok-set_up.setup)) (TellsSetup c.args.rows.now)
-    (λ told. has_problem c.in-Ok.device (problem_of c.in-Ok-set_up.setup) c.in-Ok.ensures (sym c.beyond.ensures ∙ c.in_default.is) c.in-Ok-set_up.ensures)
-    c.made.ensures.told
+    gives_more (λ p. p.problem) c.make_problem.result (TellsProblem c.args.rows.now (problem_of c.in-Ok-set_up.setup)) (TellsSetup c.args.rows.now)
+    (λ told. has_problem c.in-Ok.device (problem_of c.in-Ok-set_up.setup) c.in-Ok.ensures (sym c.find_beyond.ensures ∙ c.in_default.is) c.in-Ok-set_up.ensures)
+    c.make_problem.ensures.told

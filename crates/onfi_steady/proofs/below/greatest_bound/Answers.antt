@@ -8,4 +8,4 @@ loop-lun-preserved c =
     let value = c.lun_count-lun-end.ensures.value in
     let test = c.loop-lun-test.true in
     let there : c.loop-lun.lun < length p.luns = omega arith in
-    rw c.greater-greatest.ensures (die_more p c.loop-lun.greatest c.loop-lun.lun c.die.result there c.die.ensures.value c.loop-lun.invariant)
+    rw c.choose_greater-greatest.ensures (die_more p c.loop-lun.greatest c.loop-lun.lun c.die.result there c.die.ensures.value c.loop-lun.invariant)

@@ -17,7 +17,7 @@ loop-lun-preserved c =
     let offer = slice_get_read offers 8 i c.index-offers-lun.result (sym c.requires.offers) low c.index-offers-lun.is in
     record {
       first = λ books known works.
-          let given = c.given-other.ensures.given luns books known.planes known.latest (subst (IsOfferedTo books luns i) c.index-offers-lun.is (offer_at books luns offers i c.index-offers-lun.result known.offered offer)) (c.kept_from-kept.ensures books) works state in
-          rw c.first_of-first.ensures (first_more books known.planes (channel c.args.timing.now c.args.from luns books) refl refl i c.loop-lun.first c.given-other.result (c.loop-lun.invariant.first books known works) given);
-      few = rw c.first_of-first.ensures (small_first c.loop-lun.first c.given-other.result c.loop-lun.invariant.few c.given-other.ensures.few);
+          let given = c.give_phase-other.ensures.given luns books known.planes known.latest (subst (IsOfferedTo books luns i) c.index-offers-lun.is (offer_at books luns offers i c.index-offers-lun.result known.offered offer)) (c.kept_from-kept.ensures books) works state in
+          rw c.first_of-first.ensures (first_more books known.planes (channel c.args.timing.now c.args.from luns books) refl refl i c.loop-lun.first c.give_phase-other.result (c.loop-lun.invariant.first books known works) given);
+      few = rw c.first_of-first.ensures (small_first c.loop-lun.first c.give_phase-other.result c.loop-lun.invariant.few c.give_phase-other.ensures.few);
     }

@@ -41,12 +41,12 @@ invariant_of-self-2 g c =
     let within : c.from-at.result < length f.hosts.items = omega (arith, c.if-at-len.false, c.len.ensures, f.hosts.ok.0) in
     let there = queue_there f.hosts.items c.from-at.result c.from-at.result queue within c.index_mut.ensures.value refl in
     let at = next_collected f.half.setup now c.from-at.result queue r c.pop_front.new.self.items (i.each c.from-at.result queue there) c.in-Some.ensures.items in
-    let e = c.collecting-self-inside.ensures in
-    let same = collected_is now r c.collecting-self-inside.result.accepted c.collecting-self-inside.result.posted e.0 e.2 in
+    let e = c.with_collected-self-inside.ensures in
+    let same = collected_is now r c.with_collected-self-inside.result.accepted c.with_collected-self-inside.result.posted e.0 e.2 in
     let known : c.from-at.result < f.half.setup.hosts = omega (arith, within, i.count) in
     let count = uncollected_count f.half.setup now c.from-at.result queue (i.each c.from-at.result queue there) in
     let some : length queue.completions.items ≡ length (r ∷ c.pop_front.new.self.items) = ap length c.in-Some.ensures.items in
-    let after : ChannelState = record now { sent = c.collecting-self-inside.result.accepted; collected = c.collecting-self-inside.result.posted } in
+    let after : ChannelState = record now { sent = c.with_collected-self-inside.result.accepted; collected = c.with_collected-self-inside.result.posted } in
     let step = step_does f.half.setup now (event.Collect 0 c.from-at.result) (outcome.Collected r) after (collect_open f.half.setup now c.from-at.result 0 known (omega arith)) (r, refl, at, same) in
     let reached = step_reaches f.half.setup now (event.Collect 0 c.from-at.result) (outcome.Collected r) after i.reached step in
     queues_collected f.half.setup _ _ _ _ f.hosts.items _ _ now _ i reached i.lanes_are i.settled refl c.from-at.result queue (record { sent = queue.sent; completions = c.pop_front.new.self }) there refl r (host_collected f.half.setup now c.from-at.result r at) e.0 refl e.2 refl c.in-Some.ensures.items c.pop_front.ensures.capacity
@@ -65,6 +65,6 @@ returns-clause-step g c channel =
     let at = next_collected f.half.setup now c.args.host queue r c.pop_front.new.self.items own c.in-Some.ensures.items in
     let count = uncollected_count f.half.setup now c.args.host queue own in
     let some : length queue.completions.items ≡ length (r ∷ c.pop_front.new.self.items) = ap length c.in-Some.ensures.items in
-    let e = c.collecting-self-inside.ensures in
-    let same = collected_is now r c.collecting-self-inside.result.accepted c.collecting-self-inside.result.posted e.0 e.2 in
-    outside g.C.Chip.state _ _ (event.Collect channel c.args.host) (outcome.Collected r) (record now { sent = c.collecting-self-inside.result.accepted; collected = c.collecting-self-inside.result.posted }) c.self.view_is (step_does f.half.setup now (event.Collect channel c.args.host) (outcome.Collected r) _ (collect_open f.half.setup now c.args.host channel known (omega arith)) (r, refl, at, same))
+    let e = c.with_collected-self-inside.ensures in
+    let same = collected_is now r c.with_collected-self-inside.result.accepted c.with_collected-self-inside.result.posted e.0 e.2 in
+    outside g.C.Chip.state _ _ (event.Collect channel c.args.host) (outcome.Collected r) (record now { sent = c.with_collected-self-inside.result.accepted; collected = c.with_collected-self-inside.result.posted }) c.self.view_is (step_does f.half.setup now (event.Collect channel c.args.host) (outcome.Collected r) _ (collect_open f.half.setup now c.args.host channel known (omega arith)) (r, refl, at, same))

@@ -53,9 +53,9 @@ invariant_of-self g c =
     let open' : (n : ℕ) → refusal f.half.setup now (event.Submit c.args.host n c.args.request) ≡ None = λ channel. submit_open f.half.setup now c.args.host channel c.args.request known fine (omega arith) room in
     let serial = c.in-Some-next_serial.serial in
     let numbered = c.in-Some-next_serial.ensures.0 ∙ count in
-    let e = c.accepting-self-inside.ensures in
-    let same = submitted_is now c.args.host serial c.args.request c.accepting-self-inside.result.accepted c.push_back_reserved.new.self.items c.accepting-self-inside.result.posted numbered e.0 c.push_back_reserved.ensures.items e.2 in
-    let after : ChannelState = record now { sent = c.accepting-self-inside.result.accepted; waiting = c.push_back_reserved.new.self.items; collected = c.accepting-self-inside.result.posted } in
+    let e = c.with_accepted-self-inside.ensures in
+    let same = submitted_is now c.args.host serial c.args.request c.with_accepted-self-inside.result.accepted c.push_back_reserved.new.self.items c.with_accepted-self-inside.result.posted numbered e.0 c.push_back_reserved.ensures.items e.2 in
+    let after : ChannelState = record now { sent = c.with_accepted-self-inside.result.accepted; waiting = c.push_back_reserved.new.self.items; collected = c.with_accepted-self-inside.result.posted } in
     let step : (n : ℕ) → Step f.half.setup now (event.Submit c.args.host n c.args.request) (outcome.Submitted serial) after = λ channel. step_does f.half.setup now (event.Submit c.args.host channel c.args.request) (outcome.Submitted serial) after (open' channel) (ap outcome.Submitted numbered, same) in
     let reached = step_reaches f.half.setup now (event.Submit c.args.host 0 c.args.request) (outcome.Submitted serial) after i.reached (step 0) in
     let queue = c.index_mut.result.now in
@@ -79,8 +79,8 @@ returns-clause-step g c channel =
     let open' : (n : ℕ) → refusal f.half.setup now (event.Submit c.args.host n c.args.request) ≡ None = λ channel. submit_open f.half.setup now c.args.host channel c.args.request known fine (omega arith) room in
     let serial = c.in-Some-next_serial.serial in
     let numbered = c.in-Some-next_serial.ensures.0 ∙ count in
-    let e = c.accepting-self-inside.ensures in
-    let same = submitted_is now c.args.host serial c.args.request c.accepting-self-inside.result.accepted c.push_back_reserved.new.self.items c.accepting-self-inside.result.posted numbered e.0 c.push_back_reserved.ensures.items e.2 in
-    let after : ChannelState = record now { sent = c.accepting-self-inside.result.accepted; waiting = c.push_back_reserved.new.self.items; collected = c.accepting-self-inside.result.posted } in
+    let e = c.with_accepted-self-inside.ensures in
+    let same = submitted_is now c.args.host serial c.args.request c.with_accepted-self-inside.result.accepted c.push_back_reserved.new.self.items c.with_accepted-self-inside.result.posted numbered e.0 c.push_back_reserved.ensures.items e.2 in
+    let after : ChannelState = record now { sent = c.with_accepted-self-inside.result.accepted; waiting = c.push_back_reserved.new.self.items; collected = c.with_accepted-self-inside.result.posted } in
     let step : (n : ℕ) → Step f.half.setup now (event.Submit c.args.host n c.args.request) (outcome.Submitted serial) after = λ channel. step_does f.half.setup now (event.Submit c.args.host channel c.args.request) (outcome.Submitted serial) after (open' channel) (ap outcome.Submitted numbered, same) in
     outside g.C.Chip.state _ _ (event.Submit c.args.host channel c.args.request) (outcome.Submitted serial) after c.self.view_is (step channel)

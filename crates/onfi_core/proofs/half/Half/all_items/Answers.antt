@@ -7,14 +7,14 @@ use Rattle.onfi_core.specs.View.{HalfView}
 use Rattle.onfi_core.proofs.Plan.{apart, unplanned_rises}
 use Rattle.onfi_core.proofs.half.Half.all_items.Goals as goal
 
-pub merged-requires-clause-right : goal.merged-requires-clause-right
-merged-requires-clause-right c =
+pub merge_wants-requires-clause-right : goal.merge_wants-requires-clause-right
+merge_wants-requires-clause-right c =
     let i = c.self.invariant in
     let r = subst (λ (v : HalfView). Rise (unplanned v.setup v.state)) c.self.view_is (unplanned_rises c.self.inside.setup _ i.sound) in
     subst Rise (sym (c.as_slice.ensures.value ∙ c.in_ok-unplanned.ensures)) r
 
-pub merged-requires-clause-apart : goal.merged-requires-clause-apart
-merged-requires-clause-apart c =
+pub merge_wants-requires-clause-apart : goal.merge_wants-requires-clause-apart
+merge_wants-requires-clause-apart c =
     let i = c.self.invariant in
     let P : List Want → List Want → Type 0 = λ xs ys. All (λ (x : Want). All (λ (y : Want). x.id ≢ y.id) ys) xs in
     let a = subst (λ (v : HalfView). P v.state.now.wants (unplanned v.setup v.state)) c.self.view_is (apart c.self.inside.setup _ i.sound) in

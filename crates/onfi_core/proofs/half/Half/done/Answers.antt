@@ -33,7 +33,7 @@ invariant_of-self g c =
     let f = rw unlent at i in
     let is = due_inside _ _ c.args.due.now c.self.view_is c.requires.1.1.0 in
     let makes = makes_of c.self.inside.history.accepted g.faults c.args.due.now c.args.ran c.requires.1.1.1 (goes c.self.inside.setup _ c.args.due.now i.sound is).1.within in
-    let e = c.holding-self-inside.ensures in
+    let e = c.with_held-self-inside.ensures in
     let made = c.reply_of-reply.ensures in
     let r = fields_done _ _ _ _ _ _ _ _ _ _ c.args.due.now _ _ _ _ _ f is makes (c.hold.ensures.items ∙ ap (λ rs. c.self.inside.held.items ++ rs) made) c.hold.ensures.capacity
     e.0 (e.1 ∙ ap (λ rs. c.self.inside.history.held ++ rs) made) e.2 e.3 c.done.ensures in

@@ -24,6 +24,6 @@ returns c =
     ∙ ap (phase_length spans (length due.group)) c.from.ensures in
     run_is _ c.args.self.now due c.args.started _ _ _ _ c.self.view_is c.requires.due (ap (λ n. c.args.started + n) long)
     (c.set.ensures ∙ ap (λ l. slice_set c.self.inside.luns l c.lun_after.result) c.from-lun.ensures ∙ ap (slice_set c.self.inside.luns due.lun) c.lun_after.ensures)
-    (c.wants_behind-self-inside.ensures ∙ ap (λ (f : Flight). wants_behind due.place due.group f.now.wants) (sym c.self.view_is))
-    (c.leave.ensures ∙ ap (λ l. let s : Schedule = record { rest = slice_set left.rest l c.rest_behind-rest.result; groups = groups_left due.place left.groups } in s) c.from-lun.ensures
-    ∙ ap (λ starts. let s : Schedule = record { rest = slice_set left.rest due.lun starts; groups = groups_left due.place left.groups } in s) (c.rest_behind-rest.ensures ∙ ap (λ (f : Flight). drop 1 (starts_of f.left due.lun due.place)) (sym c.self.view_is)))
+    (c.wants_after-self-inside.ensures ∙ ap (λ (f : Flight). wants_behind due.place due.group f.now.wants) (sym c.self.view_is))
+    (c.leave.ensures ∙ ap (λ l. let s : Schedule = record { rest = slice_set left.rest l c.rest_after-rest.result; groups = groups_left due.place left.groups } in s) c.from-lun.ensures
+    ∙ ap (λ starts. let s : Schedule = record { rest = slice_set left.rest due.lun starts; groups = groups_left due.place left.groups } in s) (c.rest_after-rest.ensures ∙ ap (λ (f : Flight). drop 1 (starts_of f.left due.lun due.place)) (sym c.self.view_is)))

@@ -27,10 +27,10 @@ returns-in-Ok-clause-posted g c post left h =
     let done = c.in-Ok.ensures.done post left (next_post c.args.target.now old c.args.self c.args.now c.args.fetch post left c.requires.device h) in
     let time : c.args.now + c.spans.result.post ≡ c.args.now + (spans_of c.args.target.now.timing c.args.fetch.kind).post =
     ap (λ (s : Spans). c.args.now + s.post) c.spans.ensures ∙ ap (λ (k : Kind). c.args.now + (spans_of c.args.target.now.timing k).post) c.kind.ensures in
-    let made : IsBehind c.args.self.number c.args.self.state.left (c.args.now + c.spans.result.post) c.behind.result =
-    subst (λ n. IsBehind n c.args.self.state.left (c.args.now + c.spans.result.post) c.behind.result) c.number.ensures
-    (subst (λ n. IsBehind c.number.result n (c.args.now + c.spans.result.post) c.behind.result) (ap (λ (s : InPosts). s.left) c.state.ensures) c.behind.ensures) in
-    post_made c.args.target.now old new c.args.self c.args.now _ c.args.fetch post left c.behind.result c.requires.device h done time made
+    let made : IsBehind c.args.self.number c.args.self.state.left (c.args.now + c.spans.result.post) c.after_post.result =
+    subst (λ n. IsBehind n c.args.self.state.left (c.args.now + c.spans.result.post) c.after_post.result) c.number.ensures
+    (subst (λ n. IsBehind c.number.result n (c.args.now + c.spans.result.post) c.after_post.result) (ap (λ (s : InPosts). s.left) c.state.ensures) c.after_post.ensures) in
+    post_made c.args.target.now old new c.args.self c.args.now _ c.args.fetch post left c.after_post.result c.requires.device h done time made
 
 pub returns-in-Ok-clause-others : goal.returns-in-Ok-clause-others
 returns-in-Ok-clause-others g c =
@@ -46,6 +46,6 @@ pub returns-in-Ok-clause-made : goal.returns-in-Ok-clause-made
 returns-in-Ok-clause-made g c =
     let time : c.args.now + c.spans.result.post ≡ c.args.now + (spans_of c.args.target.now.timing c.args.fetch.kind).post =
     ap (λ (s : Spans). c.args.now + s.post) c.spans.ensures ∙ ap (λ (k : Kind). c.args.now + (spans_of c.args.target.now.timing k).post) c.kind.ensures in
-    subst (λ t. IsBehind c.args.self.number c.args.self.state.left t c.behind.result) time
-    (subst (λ n. IsBehind n c.args.self.state.left (c.args.now + c.spans.result.post) c.behind.result) c.number.ensures
-    (subst (λ n. IsBehind c.number.result n (c.args.now + c.spans.result.post) c.behind.result) (ap (λ (s : InPosts). s.left) c.state.ensures) c.behind.ensures))
+    subst (λ t. IsBehind c.args.self.number c.args.self.state.left t c.after_post.result) time
+    (subst (λ n. IsBehind n c.args.self.state.left (c.args.now + c.spans.result.post) c.after_post.result) c.number.ensures
+    (subst (λ n. IsBehind c.number.result n (c.args.now + c.spans.result.post) c.after_post.result) (ap (λ (s : InPosts). s.left) c.state.ensures) c.after_post.ensures))

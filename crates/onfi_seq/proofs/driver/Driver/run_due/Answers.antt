@@ -42,8 +42,8 @@ returns-clause-ran g c =
     let chip' = g.C.Chip.state c.run_due-came.new.chip in
     let to = ran_to f.half.setup (quiet f.half.state chip) (quiet new.state chip') c.run_due-came.result (λ channel. phase_step f.half new chip chip' channel (phase_outcome c.run_due-came.result) e.kept e.step)
     (same_quiet f.half new chip chip' c.run_due-came.result e.kept e.memory) in
-    let told = subst (λ (x : Ran). RanTo f.half.setup (quiet f.half.state chip) x (quiet new.state chip')) (sym c.ran_of.ensures) to in
-    outside g.C.Chip.state (λ (v : DriverFields) (old : Chip). RanTo v.setup (quiet v.half old) c.ran_of.result (quiet new.state chip')) _ _ c.self.view_is told
+    let told = subst (λ (x : Ran). RanTo f.half.setup (quiet f.half.state chip) x (quiet new.state chip')) (sym c.judge_run.ensures) to in
+    outside g.C.Chip.state (λ (v : DriverFields) (old : Chip). RanTo v.setup (quiet v.half old) c.judge_run.result (quiet new.state chip')) _ _ c.self.view_is told
 
 pub returns-clause-start : goal.returns-clause-start
-returns-clause-start g c = subst (IsAt c.args.due.start) (sym c.ran_of.ensures) (is_at c.args.due.start c.run_due-came.result c.run_due-came.ensures.start)
+returns-clause-start g c = subst (IsAt c.args.due.start) (sym c.judge_run.ensures) (is_at c.args.due.start c.run_due-came.result c.run_due-came.ensures.start)

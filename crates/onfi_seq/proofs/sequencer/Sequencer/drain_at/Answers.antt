@@ -16,10 +16,10 @@ pub returns-then-is_err-clause-drains : goal.returns-then-is_err-clause-drains
 returns-then-is_err-clause-drains g c =
     let st = g.C.Chip.state in
     let l = c.loop-alloc in
-    let new = seen_in st c.note_want_of_memory.new.self in
+    let new = seen_in st c.note_refused_memory.new.self in
     let refused = if_err c.take_in_all.result (sym c.is_err.ensures.value ∙ c.if-is_err.true) c.take_in_all.ensures.refused in
     drains_refused c.args.now (seen_in st c.args.self.now) c.args.inboxes.now l.made (seen_in st l.self) l.inboxes l.invariant.so_far
-    c.args.hosts.now c.args.turns new c.take_in_all.new.inboxes l.invariant.few refused c.note_want_of_memory.ensures
+    c.args.hosts.now c.args.turns new c.take_in_all.new.inboxes l.invariant.few refused c.note_refused_memory.ensures
 
 pub returns-then-is_err-clause-inboxes : goal.returns-then-is_err-clause-inboxes
 returns-then-is_err-clause-inboxes g c = all_grown_all c.args.inboxes.now c.loop-alloc.inboxes c.take_in_all.new.inboxes c.loop-alloc.invariant.so_far.grown c.take_in_all.ensures.grown
@@ -27,13 +27,13 @@ returns-then-is_err-clause-inboxes g c = all_grown_all c.args.inboxes.now c.loop
 pub returns-then-is_err-clause-right : goal.returns-then-is_err-clause-right
 returns-then-is_err-clause-right g c =
     let st = g.C.Chip.state in
-    right_marked (seen_in st c.loop-alloc.self) (seen_in st c.note_want_of_memory.new.self) c.note_want_of_memory.ensures c.loop-alloc.invariant.right
+    right_marked (seen_in st c.loop-alloc.self) (seen_in st c.note_refused_memory.new.self) c.note_refused_memory.ensures c.loop-alloc.invariant.right
 
 pub returns-then-is_err-clause-same : goal.returns-then-is_err-clause-same
 returns-then-is_err-clause-same g c =
     let st = g.C.Chip.state in
-    let new = seen_in st c.note_want_of_memory.new.self in
-    same_channel_all (seen_in st c.args.self.now) (seen_in st c.loop-alloc.self) new c.loop-alloc.invariant.so_far.same (same_marked (seen_in st c.loop-alloc.self) new c.note_want_of_memory.ensures)
+    let new = seen_in st c.note_refused_memory.new.self in
+    same_channel_all (seen_in st c.args.self.now) (seen_in st c.loop-alloc.self) new c.loop-alloc.invariant.so_far.same (same_marked (seen_in st c.loop-alloc.self) new c.note_refused_memory.ensures)
 
 pub returns-in-Some-clause-drains : goal.returns-in-Some-clause-drains
 returns-in-Some-clause-drains g c =
@@ -72,7 +72,7 @@ returns-in-Some-end_behind_turn-clause-same g c =
     same_channel_all (seen_in st c.args.self.now) (seen_in st c.loop-alloc.self) (seen_in st c.turn_at-turn.new.self) c.loop-alloc.invariant.so_far.same c.turn_at-turn.ensures.same
 
 pub returns-then-is_err-clause-short : goal.returns-then-is_err-clause-short
-returns-then-is_err-clause-short g c short = ap (λ (x : Seen). x.0.short) c.note_want_of_memory.ensures
+returns-then-is_err-clause-short g c short = ap (λ (x : Seen). x.0.short) c.note_refused_memory.ensures
 
 pub returns-in-Some-clause-short : goal.returns-in-Some-clause-short
 returns-in-Some-clause-short g c = c.loop-alloc.invariant.so_far.short

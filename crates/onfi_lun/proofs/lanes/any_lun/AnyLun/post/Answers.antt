@@ -31,4 +31,4 @@ returns-in-Ok-clause-there g c =
     let next = c.requires.next.2 in
     let due = due_is c.args.target.now old c.args.self c.args.now c.args.fetch c.requires.next.0 c.requires.next.1 c.requires.there next c.requires.lun c.requires.device c.into_posting-posting.result c.into_posting-posting.ensures.number c.into_posting-posting.ensures.left c.into_posting-posting.ensures.ready in
     let is = c.in-Ok.ensures.posted c.requires.next.0 c.requires.next.1 due in
-    subst (IsThere new) (sym c.behind_post.ensures) (posted_there c.requires.next.1 new c.into_posting-posting.result.number c.in-Ok.posted is).1
+    subst (IsThere new) (sym c.after_post.ensures) (posted_there c.requires.next.1 new c.into_posting-posting.result.number c.in-Ok.posted is).1

@@ -1,7 +1,0 @@
-use Rattle.std.proofs.Common.{inl}
-use Rattle.std.proofs.lemmas.Result.{IfOk-weaker}
-use Rattle.onfi_script.proofs.answering.planned.Goals as goal
-
-pub returns-in-Ok : goal.returns-in-Ok
-returns-in-Ok c =
-    IfOk-weaker c.printed.result _ _ (λ a h. inl (record { plan = c.in-Ok.plan; is_plan = c.in-Ok.ensures.plan; by_rule = c.in-Ok.ensures.by_rule; text = h.0; spelled = h.1; printed = h.2 })) c.printed.ensures

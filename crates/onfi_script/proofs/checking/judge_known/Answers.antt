@@ -1,0 +1,24 @@
+use Rattle.std.proofs.Common.{◌≡◌, ◌∙◌, subst}
+use Rattle.std.proofs.lemmas.Result.{IfOk-weaker}
+use Rattle.onfi_schedule.specs.Schedule.{finish}
+use Rattle.onfi_known_check.specs.Faults.{IsTextFault}
+use Rattle.onfi_planners.specs.declared.chosen.ChosenPlanner.TheVariants.{Remembering}
+use Rattle.onfi_script.specs.Answer.{AnswersSchedule, is_refused}
+use Rattle.onfi_script.specs.AnswerOf.{answer_of}
+use Rattle.onfi_script.specs.Text.{refused_by}
+use Rattle.onfi_script.proofs.Told.{above_is_legal}
+use Rattle.onfi_script.proofs.checking.judge_known.Goals as goal
+
+pub why_known-requires : goal.why_known-requires
+why_known-requires c =
+    let p = c.args.problem.now.problem in
+    above_is_legal _ p c.args.schedule.now (finish p c.args.schedule.now) c.args.certificate.now c.in-Err.fault c.in-Err.ensures.fault
+
+pub returns-in-Err : goal.returns-in-Err
+returns-in-Err c =
+    let p = c.args.problem.now.problem in
+    let end = finish p c.args.schedule.now in
+    let fault = c.in-Err.fault in
+    let said = subst (λ all. IsTextFault all p c.args.schedule.now end c.args.certificate.now fault) c.requires.begun c.in-Err.ensures.fault in
+    IfOk-weaker c.refuse-in-Err.result (λ a. answer_of a ≡ refused_by c.why_known.result) (λ a. AnswersSchedule Remembering p c.args.schedule.now c.args.ends end c.args.certificate.now (answer_of a))
+    (λ a h. is_refused (fault, said, h ∙ c.why_known.ensures)) c.refuse-in-Err.ensures.answer
