@@ -504,7 +504,7 @@ class Gate(unittest.TestCase):
     def test_the_last_parts_are_added_to_those_that_run_alone(self) -> None:
         said = io.StringIO()
         parts = [[("a", ["echo", "1 passed, 0 failed"])], [("b", ["sh", "-c", "echo FAILED: x; echo 2 passed, 1 failed"]), ("c", ["echo", "rt: y proved"])]]
-        replaced = {"PARTS": parts[0], "SIDE_BY_SIDE": parts[1], "remove_what_is_built": list, "ask_for_kit": list, "elapsed": lambda: "[7 min]"}
+        replaced: Dict[str, Any] = {"PARTS": parts[0], "SIDE_BY_SIDE": parts[1], "remove_what_is_built": list, "ask_for_kit": list, "elapsed": lambda: "[7 min]"}
         with unittest.mock.patch.multiple(GATE, **replaced), unittest.mock.patch.object(sys, "argv", ["gate"]), contextlib.redirect_stdout(said):
             self.assertEqual(GATE.main(), 1)
         lines = said.getvalue().splitlines()
