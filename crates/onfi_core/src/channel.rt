@@ -205,7 +205,7 @@ impl<C: Chip> Channel<C> {
         if at >= self.hosts.len() {
             return Outcome::NoSuch(None);
         }
-        let Some(reply) = self.half.take_held(host) else {
+        let Some(reply) = self.half.held(host) else {
             return Outcome::NothingToPost;
         };
         if self.hosts[at].completions.len() >= usize::from(self.half.setup().post_cap) {
@@ -213,7 +213,7 @@ impl<C: Chip> Channel<C> {
             return Outcome::PostFull;
         }
         let place = reply.place;
-        self.half.note_posted(host);
+        self.half.posted(host);
         self.hosts[at].completions.push_back_reserved(reply);
         Outcome::Posted(place)
     }

@@ -310,9 +310,9 @@ impl Half {
         }
     }
 
-    /// Moves out the oldest reply that is held for the host. What follows is [`Half::keep`] or [`Half::note_posted`]; until
+    /// Moves out the oldest reply that is held for the host. What follows is [`Half::keep`] or [`Half::posted`]; until
     /// then the state is as before. It takes no memory.
-    pub fn take_held(&mut self, host: u8) -> Option<Reply>
+    pub fn held(&mut self, host: u8) -> Option<Reply>
         requires settled { self.old.lent ≡ None }
         ensures none { IfNone result ((held_for host self.old.state ≡ []) × (self.new ≡ self.old)) }
         ensures oldest { IfSome result (λ r. IsOldest host self.old.state.held r) }
@@ -328,7 +328,7 @@ impl Half {
         Some(reply)
     }
 
-    /// Puts back the reply that [`Half::take_held`] gave: nothing happened. It takes no memory.
+    /// Puts back the reply that [`Half::held`] gave: nothing happened. It takes no memory.
     pub fn keep(&mut self, reply: Reply)
         requires lent { self.old.lent ≡ Some reply }
         ensures { self.new ≡ record self.old { lent = None } }
@@ -341,8 +341,8 @@ impl Half {
         self.held.insert(lent.at, reply).unwrap();
     }
 
-    /// The reply that [`Half::take_held`] gave for the host was posted. It takes no memory.
-    pub fn note_posted(&mut self, host: u8)
+    /// The reply that [`Half::held`] gave for the host was posted. It takes no memory.
+    pub fn posted(&mut self, host: u8)
         requires lent { (r : AReply) × (self.old.lent ≡ Some r) × (r.host ≡ host) }
         ensures posted { IfSome self.old.lent (λ r. GoesOut self.old.state self.new.state host r) }
         ensures settled { self.new.lent ≡ None }

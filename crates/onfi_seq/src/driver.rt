@@ -203,12 +203,12 @@ impl<C: Chip, P: Planner> Driver<C, P> {
         ensures offered { Offered host self.old.0.half poster.old result self.new.0.half poster.new }
         ensures same { self.new ≡ (record self.old.0 { half = self.new.0.half }, self.old.1) }
     {
-        let Some(reply) = self.half.take_held(host) else {
+        let Some(reply) = self.half.held(host) else {
             return Offer::Nothing;
         };
         match poster.post(rt, reply) {
             Ok(()) => {
-                self.half.note_posted(host);
+                self.half.posted(host);
                 Offer::Posted
             }
             Err(reply) => {

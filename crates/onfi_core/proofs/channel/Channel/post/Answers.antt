@@ -68,14 +68,14 @@ invariant_of-self-2 g c =
     let cap : c.setup.result.post_cap ≡ f.half.setup.post_cap = ap (λ (s : Setup). s.post_cap) (c.setup.ensures ∙ ap (λ (v : HalfView). v.setup) lent) in
     let len = c.index.result.now.completions.ok.0 in
     let room : not_collected c.args.host now < f.half.setup.post_cap = omega (arith, c.if-len-from.false, c.len-2.ensures, c.from.ensures, cap, count, len) in
-    let goes = rw lent at c.note_posted.ensures.posted in
-    let after : ChannelState = record now { half = c.note_posted.new.self.state } in
-    let step : (n : ℕ) → Step f.half.setup now (event.Post n c.args.host) (outcome.Posted r.place) after = λ channel. step_does f.half.setup now (event.Post channel c.args.host) (outcome.Posted r.place) after (post_open f.half.setup now c.args.host channel known r c.in-Some.ensures.oldest room) (r, c.note_posted.new.self.state, refl, goes, refl) in
+    let goes = rw lent at c.posted.ensures.posted in
+    let after : ChannelState = record now { half = c.posted.new.self.state } in
+    let step : (n : ℕ) → Step f.half.setup now (event.Post n c.args.host) (outcome.Posted r.place) after = λ channel. step_does f.half.setup now (event.Post channel c.args.host) (outcome.Posted r.place) after (post_open f.half.setup now c.args.host channel known r c.in-Some.ensures.oldest room) (r, c.posted.new.self.state, refl, goes, refl) in
     let reached = step_reaches f.half.setup now (event.Post 0 c.args.host) (outcome.Posted r.place) after i.reached (step 0) in
     let there' = queue_there f.hosts.items c.from-at.result c.from-at.result c.index_mut.result.now within c.index_mut.ensures.value refl in
-    let setup = c.note_posted.ensures.setup ∙ ap (λ (v : HalfView). v.setup) lent in
+    let setup = c.posted.ensures.setup ∙ ap (λ (v : HalfView). v.setup) lent in
     let p = ap (λ (h : HalfState). h.posted) goes.after in
-    rw setup (queues_posted f.half.setup _ c.note_posted.new.self.lent _ _ f.hosts.items _ _ now after i reached (λ going. i.lanes_are (sym (ap (λ (h : HalfState). h.stopped) goes.after) ∙ going)) c.note_posted.ensures.settled refl c.from-at.result c.index_mut.result.now (record { sent = c.index_mut.result.now.sent; completions = c.push_back_reserved.new.self }) there' refl
+    rw setup (queues_posted f.half.setup _ c.posted.new.self.lent _ _ f.hosts.items _ _ now after i reached (λ going. i.lanes_are (sym (ap (λ (h : HalfState). h.stopped) goes.after) ∙ going)) c.posted.ensures.settled refl c.from-at.result c.index_mut.result.now (record { sent = c.index_mut.result.now.sent; completions = c.push_back_reserved.new.self }) there' refl
     r (goes.own ∙ sym c.from-at.ensures) refl p refl refl c.push_back_reserved.ensures.items c.push_back_reserved.ensures.capacity)
 
 pub returns-clause-step : goal.returns-clause-step
@@ -93,7 +93,7 @@ returns-clause-step g c channel =
     let cap : c.setup.result.post_cap ≡ f.half.setup.post_cap = ap (λ (s : Setup). s.post_cap) (c.setup.ensures ∙ ap (λ (v : HalfView). v.setup) lent) in
     let len = c.index.result.now.completions.ok.0 in
     let room : not_collected c.args.host now < f.half.setup.post_cap = omega (arith, c.if-len-from.false, c.len-2.ensures, c.from.ensures, cap, count, len) in
-    let goes = rw lent at c.note_posted.ensures.posted in
-    let after : ChannelState = record now { half = c.note_posted.new.self.state } in
-    let step : (n : ℕ) → Step f.half.setup now (event.Post n c.args.host) (outcome.Posted r.place) after = λ channel. step_does f.half.setup now (event.Post channel c.args.host) (outcome.Posted r.place) after (post_open f.half.setup now c.args.host channel known r c.in-Some.ensures.oldest room) (r, c.note_posted.new.self.state, refl, goes, refl) in
+    let goes = rw lent at c.posted.ensures.posted in
+    let after : ChannelState = record now { half = c.posted.new.self.state } in
+    let step : (n : ℕ) → Step f.half.setup now (event.Post n c.args.host) (outcome.Posted r.place) after = λ channel. step_does f.half.setup now (event.Post channel c.args.host) (outcome.Posted r.place) after (post_open f.half.setup now c.args.host channel known r c.in-Some.ensures.oldest room) (r, c.posted.new.self.state, refl, goes, refl) in
     outside g.C.Chip.state _ _ (event.Post channel c.args.host) (outcome.Posted r.place) after c.self.view_is (step channel)

@@ -20,6 +20,6 @@ invariant_of-self-in-Ok g c =
     let i = c.self.invariant in
     let f = c.self.inside in
     let lent = c.in-Some.ensures.lent in
-    let goes = rw lent at c.note_posted.ensures.posted in
-    let setup = c.note_posted.ensures.setup ∙ ap (λ (v : HalfView). v.setup) lent in
-    rw setup (driven_posted f.half.setup f.half.state (g.C.Chip.state f.chip) i.reached c.args.host c.in-Some.reply (IsPromised g.P.Planner.exact g.P.Planner.certifies) c.note_posted.new.self.lent c.note_posted.new.self.state f.lanes goes c.note_posted.ensures.settled i.lanes_are i.last)
+    let goes = rw lent at c.posted.ensures.posted in
+    let setup = c.posted.ensures.setup ∙ ap (λ (v : HalfView). v.setup) lent in
+    rw setup (driven_posted f.half.setup f.half.state (g.C.Chip.state f.chip) i.reached c.args.host c.in-Some.reply (IsPromised g.P.Planner.exact g.P.Planner.certifies) c.posted.new.self.lent c.posted.new.self.state f.lanes goes c.posted.ensures.settled i.lanes_are i.last)

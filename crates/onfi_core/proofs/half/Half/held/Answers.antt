@@ -1,7 +1,7 @@
 use Rattle.std.proofs.Common.{◌≡◌, None, sym, subst}
 use Rattle.onfi_core.specs.View.{HalfView, IsOldestAt, IsOldest, IsLent}
 use Rattle.onfi_core.proofs.Lending.{settled_is, oldest_is, reply_at, fields_lent}
-use Rattle.onfi_core.proofs.half.Half.take_held.Goals as goal
+use Rattle.onfi_core.proofs.half.Half.held.Goals as goal
 
 pub invariant_of-self : goal.invariant_of-self
 invariant_of-self c =

@@ -1,6 +1,6 @@
 use Rattle.std.proofs.Common.{◌≡◌, Some, ◌∙◌}
 use Rattle.onfi_core.proofs.Lending.{lent_slot, fields_posted}
-use Rattle.onfi_core.proofs.half.Half.note_posted.Goals as goal
+use Rattle.onfi_core.proofs.half.Half.posted.Goals as goal
 
 pub unreachable-requires-in_default-find : goal.unreachable-requires-in_default-find
 unreachable-requires-in_default-find c =
