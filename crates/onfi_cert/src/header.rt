@@ -23,7 +23,7 @@ pub(crate) fn header_of(text: &[u8]) -> Option<(bool, &[u8])>
 }
 
 // What follows this header.
-fn behind<'a>(header: &[u8], text: &'a [u8]) -> Option<&'a [u8]>
+fn strip_header<'a>(header: &[u8], text: &'a [u8]) -> Option<&'a [u8]>
     ensures { MatchOption result ((rest : List ℕ) → text.now ≢ header.now ++ rest)
         (λ rest. text.now ≡ header.now ++ rest.now) }
 {
@@ -35,10 +35,10 @@ pub fn option_of<'a>(plain: &[u8], strict: &[u8], text: &'a [u8]) -> Option<(boo
     ensures some { IfSome result (λ p. text.now ≡ (if p.0 then strict.now else plain.now) ++ p.1.now) }
     ensures none { IfNone result (BeginsWithNeither (λ option. if option then strict.now else plain.now) text.now) }
 {
-    if let Some(rest) = behind(plain, text) {
+    if let Some(rest) = strip_header(plain, text) {
         return Some((false, rest));
     }
-    if let Some(rest) = behind(strict, text) {
+    if let Some(rest) = strip_header(strict, text) {
         return Some((true, rest));
     }
     None

@@ -4,7 +4,7 @@
 //! alone gives its one spelling: [`write`] spells a list of tokens, [`read`] takes exactly the texts that `write`
 //! makes and says of every other text what is wrong and at which token, [`Tokens`] reads a text token by token
 //! without memory, and [`TokenSource`] lets a checker walk over a list and over a text alike. [`LineTokens`] and
-//! [`text_behind`] do so for tokens of any kind that is [`Spelled`].
+//! [`text_after`] do so for tokens of any kind that is [`Spelled`].
 //!
 //! A text is a header line, the tokens joined by single spaces, and one LF. The header is `ONFICERT 1`, or
 //! `ONFICERT 2 strict` where the strict option is on.
@@ -45,4 +45,4 @@ pub use token_list::TokenList;
 pub use tokens::Tokens;
 pub use width::Width;
 pub use word::{cut_word, token_of};
-pub use writing::{text_behind, write};
+pub use writing::{text_after, write};

@@ -10,7 +10,7 @@ use crate::tokens::Tokens;
 use std::alloc::Global;
 
 /// The option and the tokens, taken from the text one by one.
-fn taken(alloc: Global, text: &[u8]) -> Result<(bool, Vec<Token>), CertTextFault>
+fn take_tokens(alloc: Global, text: &[u8]) -> Result<(bool, Vec<Token>), CertTextFault>
     ensures tokens { IfOk result (λ r. IsCertificate text.now r.0 r.1.items) }
     ensures fault { IfErr result (λ e. (e ≡ CertTextFault.Memory) ⊎ IsFaultOf text.now e) }
 {
@@ -38,5 +38,5 @@ pub fn read(alloc: Global, text: &[u8]) -> Result<(bool, Vec<Token>), CertTextFa
     ensures again { (strict : Bool) (tokens : List TokenAsSpec) → IsCertificate text.now strict tokens
         → MatchResult result (λ r. (r.0 ≡ strict) × (r.1.items ≡ tokens)) (λ e. e ≡ CertTextFault.Memory) }
 {
-    taken(alloc, text)
+    take_tokens(alloc, text)
 }

@@ -39,7 +39,7 @@ fn first<T: Spelled>(line: &[u8]) -> Result<Option<(T, &[u8])>, LineFault>
 }
 
 /// The token after `place` others, where the line goes on with the space between them.
-fn following<T: Spelled>(place: usize, rest: &[u8]) -> Result<Option<(T, &[u8])>, LineFault>
+fn read_following<T: Spelled>(place: usize, rest: &[u8]) -> Result<Option<(T, &[u8])>, LineFault>
     ensures exact { result_map_both (option_map (λ p. (p.0, p.1.now))) (λ e. e) result ≡ step T.token_of T.MOST place rest.now }
     ensures room { IfOk result (λ found. IsSome found → place < T.MOST) }
     ensures place { IfErr result (IsUpTo place) }
@@ -60,6 +60,6 @@ pub(crate) fn step<T: Spelled>(place: usize, rest: &[u8]) -> Result<Option<(T, &
     if place == 0 {
         first(rest)
     } else {
-        following(place, rest)
+        read_following(place, rest)
     }
 }

@@ -46,7 +46,7 @@ fn wide(tens: u8, ones: u8) -> Option<Token>
     Some(Token::Branch(Width::of((tens - b'0') * 10 + (ones - b'0'))))
 }
 
-fn numbered(letter: u8, digit: u8) -> Option<Token>
+fn read_numbered(letter: u8, digit: u8) -> Option<Token>
     ensures { result ≡ numbered letter digit }
 {
     match letter {
@@ -63,7 +63,7 @@ pub fn token_of(word: &[u8]) -> Option<Token>
 {
     match word {
         [letter] => letter_token(*letter),
-        [letter, digit] => numbered(*letter, *digit),
+        [letter, digit] => read_numbered(*letter, *digit),
         [b'B', tens, ones] => wide(*tens, *ones),
         _ => None,
     }

@@ -79,7 +79,7 @@ fn put_line<T: Spelled>(out: &mut Vec<u8>, tokens: &[T]) -> Result<(), AllocErro
 ///
 /// # Errors
 /// Only where memory was refused.
-pub fn text_behind<T: Spelled>(
+pub fn text_after<T: Spelled>(
     alloc: Global,
     header: &[u8],
     tokens: &[T],
@@ -105,7 +105,7 @@ pub fn write(alloc: Global, strict: bool, tokens: &[Token]) -> Result<Vec<u8>, C
     if tokens.len() > MOST_TOKENS as usize {
         return Err(CertTextFault::TooLong);
     }
-    match text_behind(alloc, header(strict), tokens) {
+    match text_after(alloc, header(strict), tokens) {
         Ok(text) => Ok(text),
         Err(_) => Err(CertTextFault::Memory),
     }

@@ -19,7 +19,7 @@ pub fn last_ends(problem: &Problem, moves: &[Move]) -> [Option<u64>; 8]
     for m in moves {
         let lun = m.lun() as usize;
         let end = problem.end_of(*m);
-        ends[lun] = later(ends[lun], end);
+        ends[lun] = choose_later(ends[lun], end);
     }
     ends
 }
@@ -33,14 +33,14 @@ pub(crate) fn last_end(problem: &Problem, moves: &[Move], lun: u8) -> Option<u64
     let mut last = None;
     for m in moves {
         if m.lun() == lun {
-            last = later(last, problem.end_of(*m));
+            last = choose_later(last, problem.end_of(*m));
         }
     }
     last
 }
 
 // The later of two ends, where there are two.
-fn later(known: Option<u64>, end: u64) -> Option<u64>
+fn choose_later(known: Option<u64>, end: u64) -> Option<u64>
     ensures { result ≡ later_of known end }
 {
     match known {

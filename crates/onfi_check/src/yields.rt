@@ -30,7 +30,12 @@ pub struct Standing {
 }
 
 // By when the moves of a LUN end, looked for only where another LUN was asked for last.
-fn asked_end(problem: &Problem, moves: &[Move], asked: &mut Option<LastEnd>, lun: u8) -> Option<u64>
+fn find_asked_end(
+    problem: &Problem,
+    moves: &[Move],
+    asked: &mut Option<LastEnd>,
+    lun: u8,
+) -> Option<u64>
     requires moves { Each (IsMove problem.now.problem) (moves_of problem.now.groups moves.now) }
     requires named { Each (IsNamed problem.now.groups) moves.now }
     requires asked { IsAsked problem.now.problem (moves_of problem.now.groups moves.now) asked.old }
@@ -109,7 +114,7 @@ pub(crate) fn take_yield(
     ensures err { IfErr result (λ _. IsYield problem.now.problem (moves_of problem.now.groups moves.now) standing.old.awaited standing.old.leaving own lun → ⊥) }
     ensures kind { IfErr result (IsYieldFault standing.old own lun place) }
 {
-    let end = asked_end(problem, moves, &mut standing.asked, lun);
+    let end = find_asked_end(problem, moves, &mut standing.asked, lun);
     if let Some(fault) = yield_fault(problem, standing, end, own, lun, place) {
         return Err(fault);
     }

@@ -23,6 +23,6 @@ pub use checking::{check_known_text, check_known_within};
 pub use fault::{KnownFault, KnownTextFault};
 pub use given::Given;
 pub use known::Known;
-pub use standing::step_behind;
+pub use standing::step_after;
 pub use token::{MOST_KNOWN, Token, Tokens};
 pub use writing::text_of;

@@ -79,7 +79,7 @@ impl Standing {
 
 /// How the phase stands of the move of that LUN that was just made and that started then, in ns: what a tree asks of the
 /// LUNs is raised by it.
-pub fn step_behind(problem: &Problem, lun: u8, start: u64) -> Step
+pub fn step_after(problem: &Problem, lun: u8, start: u64) -> Step
     requires { lun < length problem.now.problem.luns }
     ensures lun { result.lun ≡ lun }
     ensures start { result.start ≡ start }

@@ -14,7 +14,7 @@ ghost use Rattle.onfi_check.specs.Ends.{AreLastEnds};
 use crate::closes::{read_again, read_closing};
 use crate::fault::KnownFault;
 use crate::known::Known;
-use crate::standing::{Standing, step_behind, take_yield};
+use crate::standing::{Standing, step_after, take_yield};
 use crate::token::{MOST_KNOWN, Token};
 use onfi_cert::{Numbered, TokenSource, Width};
 use onfi_check::{CertFault, last_ends};
@@ -218,7 +218,7 @@ fn read_below<S: TokenSource<Token = Token>>(
     let count = problem.lun_count();
     let undo = problem.advance(&m);
     let demand = read_tree(problem, e, token, place, tokens, known)?;
-    let step = step_behind(problem, m.lun(), start);
+    let step = step_after(problem, m.lun(), start);
     problem.undo(undo);
     demand.raise(&step, count, &mut standing.asked);
     Ok(())

@@ -6,7 +6,7 @@ use crate::token::{MOST_KNOWN, Token};
 use onfi_cert::{Token as PlainToken, token_of as plain_token_of};
 use onfi_timing::read_written;
 
-fn again_token(text: &[u8]) -> Option<Token>
+fn read_again_token(text: &[u8]) -> Option<Token>
     ensures { result ≡ again_token text.now }
 {
     let n = read_written(text)?;
@@ -55,7 +55,7 @@ pub(crate) fn token_of(word: &[u8]) -> Option<Token>
 {
     match word {
         [b'W', more @ ..] => window_token(more),
-        [b'R', more @ ..] => again_token(more),
+        [b'R', more @ ..] => read_again_token(more),
         _ => Some(of_plain(plain_token_of(word)?)),
     }
 }

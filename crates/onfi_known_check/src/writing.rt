@@ -6,7 +6,7 @@ use crate::header::header;
 use crate::token::Token;
 use crate::word::token_of;
 use itoa::Buffer;
-use onfi_cert::{Spelled, Token as PlainToken, text_behind};
+use onfi_cert::{Spelled, Token as PlainToken, text_after};
 use std::alloc::{AllocError, Global};
 
 // Appends a letter and a number.
@@ -62,5 +62,5 @@ impl Spelled for Token {
 pub fn text_of(alloc: Global, strict: bool, tokens: &[Token]) -> Result<Vec<u8>, AllocError>
     ensures { IfOk result (λ text. text.items ≡ header strict ++ line tokens.now) }
 {
-    text_behind(alloc, header(strict), tokens)
+    text_after(alloc, header(strict), tokens)
 }

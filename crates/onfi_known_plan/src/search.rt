@@ -20,7 +20,7 @@ use onfi_bound::Loads;
 use onfi_cert::Width;
 use onfi_check::last_ends;
 use onfi_demand::Demand;
-use onfi_known_check::{Token, step_behind};
+use onfi_known_check::{Token, step_after};
 use onfi_planner::{Begun, Best};
 use onfi_problem::{Move, Moves, Problem};
 use std::alloc::AllocError;
@@ -176,7 +176,7 @@ fn visit(
     let count = problem.lun_count();
     let undo = problem.advance(&step);
     let shown = search(problem, loads, best, notes)?;
-    let behind = step_behind(problem, step.lun(), start);
+    let behind = step_after(problem, step.lun(), start);
     problem.undo(undo);
     shown.demand.raise(&behind, count, asked);
     add(best, Begun { step, start }, shown.improved)?;

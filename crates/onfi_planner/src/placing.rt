@@ -31,7 +31,7 @@ pub fn schedule_of(alloc: Global, problem: &Problem, steps: &[Begun]) -> Schedul
                 let group = problem.group(place);
                 let lun = group.lun() as usize;
                 put_in_front(&mut rest, lun, begun.start);
-                let starts = taken_from(&mut rest, lun);
+                let starts = take_starts(&mut rest, lun);
                 groups.insert(0, Placed::new(group.copy(), starts));
             }
         }
@@ -51,7 +51,7 @@ fn put_in_front(rest: &mut ArrayVec<Starts, 9>, lun: usize, start: u64)
 }
 
 // Takes the starts of a LUN, so that it has none.
-fn taken_from(rest: &mut ArrayVec<Starts, 9>, lun: usize) -> Starts
+fn take_starts(rest: &mut ArrayVec<Starts, 9>, lun: usize) -> Starts
     requires { lun < length rest.old.items }
     ensures taken { result ≡ slice_index_or rest.old.items lun [] }
     ensures none { rest.new.items ≡ slice_set rest.old.items lun [] }

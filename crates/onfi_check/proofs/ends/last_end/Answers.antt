@@ -15,6 +15,6 @@ loop-m-preserved c =
     let named = all_at (IsNamed x.groups) c.args.moves.now c.loop-m.m-index (Next 0) c.loop-m-test.true c.requires.named in
     let own = named.lun ∙ sym c.lun.ensures in
     elim c.if-lun.branch [
-      | then-lun w ↦ record { last = rw (w.last-is, w.later-last.ensures) (end_own x.problem x.groups c.args.moves.now c.loop-m.m-index c.args.lun w.end_of.result (Next 0) c.loop-m.last c.loop-m-test.true (own ∙ w.if-lun.true) w.end_of.ensures.value c.loop-m.invariant.last) }
+      | then-lun w ↦ record { last = rw (w.last-is, w.choose_later-last.ensures) (end_own x.problem x.groups c.args.moves.now c.loop-m.m-index c.args.lun w.end_of.result (Next 0) c.loop-m.last c.loop-m-test.true (own ∙ w.if-lun.true) w.end_of.ensures.value c.loop-m.invariant.last) }
       | else-lun w ↦ record { last = rw w.last-is (end_other x.problem x.groups c.args.moves.now c.loop-m.m-index c.args.lun (Next 0) c.loop-m.last c.loop-m-test.true (λ q. w.if-lun.false (sym own ∙ q)) c.loop-m.invariant.last) }
     ]

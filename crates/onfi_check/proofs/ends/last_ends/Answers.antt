@@ -17,4 +17,4 @@ loop-m-preserved c =
     let lun = c.lun-lun.ensures in
     let within : c.lun-lun.result < length c.loop-m.ends = omega arith in
     let more = ends_more x.problem x.groups c.args.moves.now c.loop-m.m-index c.lun-lun.result c.end_of-end.result (Next 0) c.loop-m.ends c.loop-m-test.true within (named.lun ∙ sym lun) c.end_of-end.ensures.value c.loop-m.invariant.ends in
-    record { long = length-set c.loop-m.ends c.lun-lun.result c.later.result ∙ long; ends = rw c.later.ensures more }
+    record { long = length-set c.loop-m.ends c.lun-lun.result c.choose_later.result ∙ long; ends = rw c.choose_later.ensures more }

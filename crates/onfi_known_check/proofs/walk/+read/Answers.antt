@@ -26,11 +26,11 @@ read_below-returns-clause-ok g t c =
     let x = c.args.problem.now in
     let m = move_of x.groups c.args.m in
     let d = c.in_ok-demand.demand in
-    let step = c.step_behind-step.result in
+    let step = c.step_after-step.result in
     let behind = c.in_ok-demand.ensures.problem ∙ c.advance-undo.ensures.moved in
     let own = c.lun.ensures ∙ sym c.requires.named.lun in
-    let is = step_is x.problem m step c.lun.result c.earliest-start.result c.step_behind-step.ensures.lun own c.step_behind-step.ensures.start c.earliest-start.ensures
-    (c.step_behind-step.ensures.end ∙ ap (λ (z : Position). z.problem.bus_free) behind) (subst (λ (z : Position). GoesOn z.problem c.lun.result step.go) behind c.step_behind-step.ensures.go) in (
+    let is = step_is x.problem m step c.lun.result c.earliest-start.result c.step_after-step.ensures.lun own c.step_after-step.ensures.start c.earliest-start.ensures
+    (c.step_after-step.ensures.end ∙ ap (λ (z : Position). z.problem.bus_free) behind) (subst (λ (z : Position). GoesOn z.problem c.lun.result step.go) behind c.step_after-step.ensures.go) in (
       d,
       subst (λ (z : Position). Proves c.args.e z.all z.problem c.args.known.now.items (c.args.token ∷ g.S.TokenSource.left c.args.tokens.now.source) d c.read_tree.new.known.items (g.S.TokenSource.left c.read_tree.new.tokens.source)) c.advance-undo.ensures.moved c.in_ok-demand.ensures.ok,
       raised_by x.problem m d step c.lun_count-count.result c.args.standing.now.asked c.raise.new.asked is c.lun_count-count.ensures.value c.raise.ensures,

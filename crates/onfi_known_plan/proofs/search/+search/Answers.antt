@@ -141,19 +141,19 @@ visit-search-requires t c =
     let w : work c.advance-undo.new.self.problem ≡ work (after x.problem m) = ap (λ (z : Position). work z.problem) c.advance-undo.ensures.moved in
     (omega (arith, c.decreases, w, less), subst (λ (z : Position). IsAt z c.args.loads.now c.args.best.now c.args.notes.now) (sym c.advance-undo.ensures.moved) (at_moved x c.args.step c.args.loads.now c.args.best.now c.args.notes.now c.requires.step c.requires.at))
 
-pub visit-step_behind-behind-requires : goal.visit-step_behind-behind-requires
-visit-step_behind-behind-requires t c = subst (λ (z : Position). c.lun.result < length z.problem.luns) (sym (c.in_ok-shown.ensures.problem ∙ c.advance-undo.ensures.moved)) (there_behind c.args.problem.now c.args.step c.lun.result c.requires.step c.lun.ensures)
+pub visit-step_after-behind-requires : goal.visit-step_after-behind-requires
+visit-step_after-behind-requires t c = subst (λ (z : Position). c.lun.result < length z.problem.luns) (sym (c.in_ok-shown.ensures.problem ∙ c.advance-undo.ensures.moved)) (there_behind c.args.problem.now c.args.step c.lun.result c.requires.step c.lun.ensures)
 
 pub visit-returns-clause-visited : goal.visit-returns-clause-visited
 visit-returns-clause-visited t c =
     let x = c.args.problem.now in
     let m = move_of x.groups c.args.step in
     let shown = c.in_ok-shown.shown in
-    let step = c.step_behind-behind.result in
+    let step = c.step_after-behind.result in
     let behind = c.in_ok-shown.ensures.problem ∙ c.advance-undo.ensures.moved in
     let own = c.lun.ensures ∙ sym c.requires.step.named.lun in
-    let is = step_is x.problem m step c.lun.result c.earliest-start.result c.step_behind-behind.ensures.lun own c.step_behind-behind.ensures.start c.earliest-start.ensures
-    (c.step_behind-behind.ensures.end ∙ ap (λ (z : Position). z.problem.bus_free) behind) (subst (λ (z : Position). GoesOn z.problem c.lun.result step.go) behind c.step_behind-behind.ensures.go) in
+    let is = step_is x.problem m step c.lun.result c.earliest-start.result c.step_after-behind.ensures.lun own c.step_after-behind.ensures.start c.earliest-start.ensures
+    (c.step_after-behind.ensures.end ∙ ap (λ (z : Position). z.problem.bus_free) behind) (subst (λ (z : Position). GoesOn z.problem c.lun.result step.go) behind c.step_after-behind.ensures.go) in
     let raises = raised_by x.problem m shown.demand step c.lun_count-count.result c.args.asked.now c.raise.new.asked is c.lun_count-count.ensures.value c.raise.ensures in
     let s = subst (λ (z : Position). IsShown z c.args.best.now c.search.new.best c.args.notes.now.opened c.args.notes.now c.search.new.notes shown) c.advance-undo.ensures.moved c.in_ok-shown.ensures.shown in
     step_visited x c.args.step c.earliest-start.result c.args.best.now c.search.new.best c.add.new.best c.args.notes.now c.search.new.notes shown c.args.asked.now c.raise.new.asked c.requires.step.move c.earliest-start.ensures s raises c.add.ensures.finish c.in_ok-add.ensures.steps c.in_ok-add.ensures.kept

@@ -33,9 +33,9 @@ put_in_front-requires-in-Start c =
     let fits = fits_in_front (goal.at.put_in_front-requires-in-Start c).After-lun-lun in
     record { there = fits.there; room = fits.room; small = fits.small }
 
-pub taken_from-starts-requires : goal.taken_from-starts-requires
-taken_from-starts-requires c =
-    let there = (fits_in_front (goal.at.taken_from-starts-requires c).After-lun-lun).there in
+pub take_starts-starts-requires : goal.take_starts-starts-requires
+take_starts-starts-requires c =
+    let there = (fits_in_front (goal.at.take_starts-starts-requires c).After-lun-lun).there in
     let e = ap length c.put_in_front-in-Start.ensures ∙ length-set c.loop-begun.rest.items c.lun-lun.result _ in
     omega arith
 
@@ -59,7 +59,7 @@ loop-begun-preserved c =
       | in-Start w ↦ (
           let lun = w.lun-lun.ensures ∙ ap lun_of w.group-group.ensures in
           let fits = start_fits c.args.problem.now c.args.steps.now c.loop-begun.begun-index none c.requires.limits.problem c.requires.run c.loop-begun-test.true w.in-Start.lun w.in-Start.place w.lun-lun.result s w.in-Start.is lun c.loop-begun.invariant in
-          rw (w.rest-is, w.groups-is) (start_stacked x.groups steps i none (empty x.problem) s w.in-Start.lun w.in-Start.place w.lun-lun.result _ _ w.taken_from-starts.result w.new.result _ c.loop-begun-test.true c.loop-begun.invariant w.in-Start.is lun fits.there w.put_in_front-in-Start.ensures w.taken_from-starts.ensures.none w.taken_from-starts.ensures.taken (w.new.ensures.members ∙ (w.copy.ensures ∙ w.group-group.ensures)) w.new.ensures.starts w.insert.ensures.items))
+          rw (w.rest-is, w.groups-is) (start_stacked x.groups steps i none (empty x.problem) s w.in-Start.lun w.in-Start.place w.lun-lun.result _ _ w.take_starts-starts.result w.new.result _ c.loop-begun-test.true c.loop-begun.invariant w.in-Start.is lun fits.there w.put_in_front-in-Start.ensures w.take_starts-starts.ensures.none w.take_starts-starts.ensures.taken (w.new.ensures.members ∙ (w.copy.ensures ∙ w.group-group.ensures)) w.new.ensures.starts w.insert.ensures.items))
     ]
 
 pub returns : goal.returns

@@ -1,6 +1,6 @@
 use Rattle.std.proofs.Common.{arith}
 use Rattle.std.proofs.lemmas.Grind.{common_steps}
-use Rattle.onfi_cert.proofs.reading.taken.Goals as goal
+use Rattle.onfi_cert.proofs.reading.take_tokens.Goals as goal
 
 pub loop-tokens-init : goal.loop-tokens-init
 loop-tokens-init c = grind (arith, common_steps)
