@@ -1,10 +1,16 @@
-"""Which functions may be proved otherwise where a crate's files change: each change in turn, of a small crate."""
+"""Which wrong bodies are due: those of functions that may be proved otherwise where a crate's files change, each change in turn, of a small crate.
+
+And whose a landing tries whole: whose turn is longest ago, as long as there is room, and always one.
+"""
 
 import unittest
-from typing import Dict, List
+from typing import Any, Dict, List, Tuple
 
-import support  # noqa: F401
+import support
 from onfi_tools.changes import Changes
+from onfi_tools.turns import TURNS, UNKNOWN, Landing, in_room, in_turn, landings_ago, read_costs, read_landings, settled
+
+TOOL: Any = support.load("wrong-bodies")
 
 FILES: Dict[str, str] = {
     "src/lib.rt": """\
@@ -107,87 +113,187 @@ module _ (n : ℕ) where
 }
 
 
-def due_behind(path: str, old: str, new: str) -> List[str]:
-    """The functions that are due where this text is exchanged in that file."""
-    assert FILES[path].count(old) == 1, old
-    return due_where({**FILES, path: FILES[path].replace(old, new)})
-
-
-def due_where(files: Dict[str, str]) -> List[str]:
-    changes = Changes(FILES, files)
+def due_where(files: Dict[str, str], before: Dict[str, str] = FILES) -> List[str]:
+    """The functions that are due where the files were others before."""
+    changes = Changes(before, files)
     return sorted("::".join(it for it in key[1:] if it) for key in changes.bodies if changes.why(key))
 
 
 ALL = ["Half::next", "Half::of", "even", "odd", "quarter", "sixth", "third"]
+LIB, HALF, THIRD, WORDS, LEMMAS = "src/lib.rt", "src/half.rt", "src/third.rt", "specs/Words.antt", "proofs/Halves.antt"
+# By what is changed the file, the old text and the new one, and the functions that are due.
+CHANGES: Dict[str, List[Tuple[str, str, str, List[str]]]] = {
+    "comments": [
+        (HALF, "// rounded down", "// by a shift\n        // of one", []),
+        (HALF, "/// Half of it.", "/// The half.\n    ///\n    /// Of it.", []),
+        (HALF, "n / 2\n", "n / 2 // down\n", []),
+        (LIB, "//! A crate.", "//! Halves and thirds.", []),
+        (WORDS, "-- half of it, rounded down", "-- its half\n-- .. rounded down", []),
+        ("proofs/half/Half/of/Answers.antt", "half_is n", "half_is n -- as ever", []),
+    ],
+    "layout": [
+        (HALF, "    let half = Half::of(n);", "    let half =\n        Half::of(n);", []),
+        (WORDS, "IsHalf n half = IsTwice", "IsHalf n half =  IsTwice", []),
+    ],
+    "the lines of imports": [
+        (HALF, "specs.Words.{IsHalf, IsAt as Stands};", "specs.{Words.IsHalf, Words.{IsAt as Stands}};", []),
+        (HALF, "crate::third::third;", "crate::{third::{third}};", []),
+        (HALF, "crate::third::third;", "crate::{\n    third::{\n        third,\n    },\n};", []),
+        (WORDS, "specs.Prelude.{ℕ, ◌≡◌}", "{specs.Prelude.{ℕ}, specs.Prelude.◌≡◌}", []),
+    ],
+    "what nothing names": [
+        (WORDS, "-- half of it", "abbrev pub IsNew : ℕ\nIsNew = 1\n\n-- half of it", []),
+        (HALF, "fn quarter", "fn eighth(n: u8) -> u8 {\n    n / 8\n}\n\nfn quarter", ["eighth"]),
+        (LIB, "mod third;", "mod third;\nmod tenth;", []),
+    ],
+    "the proof of a lemma": [(LEMMAS, "half_is n = omega arith", "half_is n = refl", []), (LEMMAS, "in_nine = refl", "in_nine = omega arith", [])],
+    "a body, which is its function's alone": [(HALF, "n / 2", "n >> 1", ["Half::of"]), (THIRD, '"a // b"', '"a // c"', ["third"])],
+    "a clause, for those who call": [
+        (HALF, "IsHalf n result", "IsHalf n (0 + result)", ["Half::of", "quarter"]),
+        (THIRD, "pub fn third(n: u8) -> u8 {", "pub fn third(n: u8) -> u8\n    ensures { result ≡ n / 3 }\n{", ["Half::next", "sixth", "third"]),
+    ],
+    "a definition, for those who cite it and their callers": [
+        (WORDS, "half + half ≡ n", "half + half ≤ n", ["Half::of", "quarter"]),
+        (WORDS, "sixth * 6 ≡ n", "sixth * 6 ≤ n", ["sixth"]),
+    ],
+    "a lemma, for the functions whose proofs cite it": [
+        (LEMMAS, "IsHalf n (n / 2)", "IsHalf n (0 + n / 2)", ["Half::of"]),
+        (LEMMAS, "n + 0 ≡ n", "n ≡ n + 0", ["quarter"]),
+        (LEMMAS, "module _ (n : ℕ)", "module _ (n m : ℕ)", ["quarter"]),
+    ],
+    "a folder of proofs, of its function or cycle": [
+        ("proofs/half/Half/of/Answers.antt", "half_is n", "half_is (0 + n)", ["Half::of"]),
+        ("proofs/half/+odd/Answers.antt", "refl", "sym refl", ["even", "odd"]),
+    ],
+    "a type, for those who name it or a field of it": [
+        (HALF, "    at: u8,", "    at: u16,", ["Half::next", "Half::of", "quarter"]),
+        (WORDS, "at < 9", "at < 8", ["Half::next", "Half::of", "quarter"]),
+    ],
+    "a name from elsewhere, for those who use it or have it": [
+        (HALF, "crate::third::third", "crate::sixth::third", ["Half::next", "sixth", "third"]),
+        (HALF, "IsAt as Stands", "IsNear as Stands", ["Half::next", "Half::of", "quarter"]),
+        (HALF, "Words.{IsHalf, IsAt as", "{Phrases.IsHalf, Words.IsAt as", ["Half::of", "quarter"]),
+    ],
+    "a word for the whole crate": [(LIB, "#![tactic(auto)]", "#![tactic(auto, using(half_is))]", ALL)],
+}
 
 
-class WhatChangesNothing(unittest.TestCase):
-    def test_comments(self) -> None:
-        self.assertEqual(due_behind("src/half.rt", "// rounded down", "// by a shift\n        // of one"), [])
-        self.assertEqual(due_behind("src/half.rt", "/// Half of it.", "/// The half.\n    ///\n    /// Of it."), [])
-        self.assertEqual(due_behind("src/half.rt", "n / 2\n", "n / 2 // down\n"), [])
-        self.assertEqual(due_behind("src/lib.rt", "//! A crate.", "//! Halves and thirds."), [])
-        self.assertEqual(due_behind("specs/Words.antt", "-- half of it, rounded down", "-- its half\n-- .. rounded down"), [])
-        self.assertEqual(due_behind("proofs/half/Half/of/Answers.antt", "half_is n", "half_is n -- as ever"), [])
+class Changed(unittest.TestCase):
+    def test_what_is_due(self) -> None:
+        for what, changes in CHANGES.items():
+            for path, old, new, due in changes:
+                with self.subTest(what, old=old):
+                    self.assertEqual(FILES[path].count(old), 1)
+                    self.assertEqual(due_where({**FILES, path: FILES[path].replace(old, new)}), due)
 
-    def test_layout(self) -> None:
-        self.assertEqual(due_behind("src/half.rt", "    let half = Half::of(n);", "    let half =\n        Half::of(n);"), [])
-        self.assertEqual(due_behind("specs/Words.antt", "IsHalf n half = IsTwice", "IsHalf n half =  IsTwice"), [])
-
-    def test_the_lines_of_imports(self) -> None:
-        self.assertEqual(due_behind("src/half.rt", "specs.Words.{IsHalf, IsAt as Stands};", "specs.{Words.IsHalf, Words.{IsAt as Stands}};"), [])
-        self.assertEqual(due_behind("src/half.rt", "crate::third::third;", "crate::{third::{third}};"), [])
-        several = "crate::{\n    third::{\n        third,\n    },\n};"
-        self.assertEqual(due_behind("src/half.rt", "crate::third::third;", several), [])
-        self.assertEqual(due_behind("specs/Words.antt", "specs.Prelude.{ℕ, ◌≡◌}", "{specs.Prelude.{ℕ}, specs.Prelude.◌≡◌}"), [])
-        answers = {"proofs/half/Half/of/Answers.antt": "use Rattle.demo.{proofs.Halves.{half_is, in_six}, specs.Words.IsHalf}\n\nreturns = half_is n\n"}
-        apart = "use Rattle.demo.specs.Words.{IsHalf}\nuse Rattle.demo.proofs.Halves.{in_six, half_is}\n\nreturns = half_is n\n"
-        self.assertEqual(due_where({**FILES, **answers}), ["Half::of"])
-        changes = Changes({**FILES, **answers}, {**FILES, "proofs/half/Half/of/Answers.antt": apart})
-        self.assertEqual([key for key in changes.bodies if changes.why(key)], [])
-
-    def test_what_nothing_names(self) -> None:
-        self.assertEqual(due_behind("specs/Words.antt", "-- half of it", "abbrev pub IsNew : ℕ\nIsNew = 1\n\n-- half of it"), [])
-        self.assertEqual(due_behind("src/half.rt", "fn quarter", "fn eighth(n: u8) -> u8 {\n    n / 8\n}\n\nfn quarter"), ["eighth"])
-        self.assertEqual(due_behind("src/lib.rt", "mod third;", "mod third;\nmod tenth;"), [])
-
-    def test_the_proof_of_a_lemma(self) -> None:
-        self.assertEqual(due_behind("proofs/Halves.antt", "half_is n = omega arith", "half_is n = refl"), [])
-        self.assertEqual(due_behind("proofs/Halves.antt", "in_nine = refl", "in_nine = omega arith"), [])
-
-
-class WhatChangesSome(unittest.TestCase):
-    def test_a_body_changes_its_function_alone(self) -> None:
-        self.assertEqual(due_behind("src/half.rt", "n / 2", "n >> 1"), ["Half::of"])
-        self.assertEqual(due_behind("src/third.rt", '"a // b"', '"a // c"'), ["third"])
-
-    def test_a_clause_changes_those_who_call(self) -> None:
-        self.assertEqual(due_behind("src/half.rt", "IsHalf n result", "IsHalf n (0 + result)"), ["Half::of", "quarter"])
-        self.assertEqual(due_behind("src/third.rt", "pub fn third(n: u8) -> u8 {", "pub fn third(n: u8) -> u8\n    ensures { result ≡ n / 3 }\n{"),
-                         ["Half::next", "sixth", "third"])
-
-    def test_a_definition_changes_those_who_cite_it_and_their_callers(self) -> None:
-        self.assertEqual(due_behind("specs/Words.antt", "half + half ≡ n", "half + half ≤ n"), ["Half::of", "quarter"])
-        self.assertEqual(due_behind("specs/Words.antt", "sixth * 6 ≡ n", "sixth * 6 ≤ n"), ["sixth"])
-
-    def test_a_lemma_changes_the_functions_whose_proofs_cite_it(self) -> None:
-        self.assertEqual(due_behind("proofs/Halves.antt", "IsHalf n (n / 2)", "IsHalf n (0 + n / 2)"), ["Half::of"])
-        self.assertEqual(due_behind("proofs/Halves.antt", "n + 0 ≡ n", "n ≡ n + 0"), ["quarter"])
-        self.assertEqual(due_behind("proofs/Halves.antt", "module _ (n : ℕ)", "module _ (n m : ℕ)"), ["quarter"])
-
-    def test_a_folder_of_proofs_is_that_of_its_function_or_cycle(self) -> None:
-        self.assertEqual(due_behind("proofs/half/Half/of/Answers.antt", "half_is n", "half_is (0 + n)"), ["Half::of"])
-        self.assertEqual(due_behind("proofs/half/+odd/Answers.antt", "refl", "sym refl"), ["even", "odd"])
+    def test_a_folder_of_proofs_that_is_gone(self) -> None:
         self.assertEqual(due_where({path: text for path, text in FILES.items() if "/quarter/" not in path}), ["quarter"])
 
-    def test_a_type_changes_those_who_name_it_or_a_field_of_it(self) -> None:
-        self.assertEqual(due_behind("src/half.rt", "    at: u8,", "    at: u16,"), ["Half::next", "Half::of", "quarter"])
-        self.assertEqual(due_behind("specs/Words.antt", "at < 9", "at < 8"), ["Half::next", "Half::of", "quarter"])
+    def test_the_lines_of_imports_of_a_proof(self) -> None:
+        path = "proofs/half/Half/of/Answers.antt"
+        answers = {path: "use Rattle.demo.{proofs.Halves.{half_is, in_six}, specs.Words.IsHalf}\n\nreturns = half_is n\n"}
+        apart = "use Rattle.demo.specs.Words.{IsHalf}\nuse Rattle.demo.proofs.Halves.{in_six, half_is}\n\nreturns = half_is n\n"
+        self.assertEqual(due_where({**FILES, **answers}), ["Half::of"])
+        self.assertEqual(due_where({**FILES, path: apart}, {**FILES, **answers}), [])
 
-    def test_a_name_from_elsewhere_changes_those_who_use_it_or_have_it(self) -> None:
-        self.assertEqual(due_behind("src/half.rt", "crate::third::third", "crate::sixth::third"), ["Half::next", "sixth", "third"])
-        self.assertEqual(due_behind("src/half.rt", "IsAt as Stands", "IsNear as Stands"), ["Half::next", "Half::of", "quarter"])
-        self.assertEqual(due_behind("src/half.rt", "Words.{IsHalf, IsAt as", "{Phrases.IsHalf, Words.IsAt as"), ["Half::of", "quarter"])
 
-    def test_a_word_for_the_whole_crate_changes_all(self) -> None:
-        self.assertEqual(due_behind("src/lib.rt", "#![tactic(auto)]", "#![tactic(auto, using(half_is))]"), ALL)
+def landings(*whole: str) -> List[Landing]:
+    return [Landing(str(at), frozenset(it.split())) for at, it in enumerate(whole)]
+
+
+class Pages(unittest.TestCase):
+    def test_a_line_is_a_commit_and_the_crates_that_it_tried_whole(self) -> None:
+        self.assertEqual(read_landings("1f a b\n\n2f\n"), [Landing("1f", frozenset("ab")), Landing("2f", frozenset())])
+        self.assertEqual(read_landings(""), [])
+
+    def test_a_crate_of_which_something_was_left_has_a_mark(self) -> None:
+        self.assertEqual(read_landings("1f -b a -c\n"), [Landing("1f", frozenset("a"), frozenset("bc"))])
+
+    def test_costs_and_room(self) -> None:
+        costs = read_costs("# minutes\nroom: 90\na: 2.5\n")
+        self.assertEqual((costs.room, costs.of("a"), costs.of("b")), (90, 2.5, UNKNOWN))
+        self.assertEqual(read_costs("").room, float("inf"))
+        self.assertEqual([costs.of_part("a", share) for share in (0, 0.5, 1)], [1.5, 2.0, 2.5])
+
+    def test_each_crate_with_wrong_bodies_has_its_cost_and_no_other(self) -> None:
+        costs = read_costs(TOOL.COSTS.read_text(encoding="utf-8"))
+        with_edits = [it.name for it in (TOOL.Crate(name, leaves_kits=True) for name in TOOL.PROVE.CRATES) if it.edits or it.twins]
+        self.assertEqual(sorted(costs.minutes), sorted(with_edits))
+        self.assertTrue(all(minutes > 0 for minutes in costs.minutes.values()))
+        self.assertLess(max(costs.minutes.values()), costs.room)
+
+    def test_each_landing_names_crates_and_a_whole_commit(self) -> None:
+        for landing in read_landings(TOOL.LANDINGS.read_text(encoding="utf-8")):
+            self.assertRegex(landing.commit, "^[0-9a-f]{40}$")
+            self.assertTrue(all(name.startswith("onfi_") for name in landing.whole | landing.left))
+            self.assertFalse(landing.whole & landing.left)
+
+
+class Waiting(unittest.TestCase):
+    def test_what_was_left_is_due_since_the_landing_before(self) -> None:
+        some = read_landings("1f\n2f -b -c\n3f -c\n4f -c -d\n")
+        self.assertEqual([settled(it, some) for it in "abcd"], [1, 1, 4, 2])
+        self.assertEqual(settled("a", read_landings("1f -a\n")), 1)
+
+    def test_the_first_is_taken_and_others_as_far_as_there_is_room(self) -> None:
+        minutes = {"a": 9.0, "b": 3.0, "c": 2.0, "d": 1.0}
+        self.assertEqual(in_room(minutes, "abcd", 0), (["a"], ["b", "c", "d"]))
+        self.assertEqual(in_room(minutes, "bacd", 6), (["b", "c", "d"], ["a"]))
+        self.assertEqual(in_room({}, "", 6), ([], []))
+
+    def test_no_crate_waits_for_ever_where_each_landing_changes_all(self) -> None:
+        minutes = {str(at): 1.0 + at for at in range(7)}
+        past = landings("")
+        for at in range(21):
+            queue = sorted(minutes, key=lambda it: -settled(it, past))
+            past.append(Landing(str(at), frozenset(), frozenset(in_room(minutes, queue, 0)[1])))
+        for name in minutes:
+            for at in range(14):
+                self.assertTrue(any(name not in it.left for it in past[at + 1 : at + 8]))
+
+
+class Turns(unittest.TestCase):
+    def test_how_many_landings_ago(self) -> None:
+        some = landings("a b", "b", "c")
+        self.assertEqual([landings_ago(it, some) for it in "abc"], [3, 2, 1])
+        self.assertGreater(landings_ago("d", some), 3)
+
+    def test_those_whose_turn_is_longest_ago_come_first_as_far_as_there_is_room(self) -> None:
+        some = landings("a", "b", "c", "", "")
+        self.assertEqual(in_turn({"c": 1, "b": 2, "a": 3, "d": 4}, some, 9), (["d", "a", "b"], ["c"]))
+        self.assertEqual(in_turn({"c": 1, "b": 2, "a": 3, "d": 4}, some, 8), (["d", "a", "c"], ["b"]))
+        self.assertEqual(in_turn({"c": 1, "b": 2, "a": 3, "d": 4}, some, 10), (["d", "a", "b", "c"], []))
+
+    def test_one_is_taken_where_there_is_no_room(self) -> None:
+        self.assertEqual(in_turn({"a": 26, "b": 1}, landings("b"), -40), (["a"], []))
+        self.assertEqual(in_turn({"a": 26, "b": 1}, landings("b", "", ""), 0), (["a"], ["b"]))
+        self.assertEqual(in_turn({}, landings("b"), 9), ([], []))
+
+    def test_no_crate_comes_a_second_time_within_three_landings_while_another_waits(self) -> None:
+        self.assertEqual(in_turn({"a": 1, "b": 1, "c": 1}, landings("a", "b", "c"), 99), (["a"], []))
+
+    def tried(self, minutes: Dict[str, float], room: float, count: int) -> List[List[str]]:
+        """The crates that so many landings try whole, one after the other."""
+        past: List[Landing] = []
+        for at in range(count):
+            past.append(Landing(str(at), frozenset(in_turn(minutes, past, room)[0])))
+        return [sorted(it.whole) for it in past]
+
+    def test_with_room_each_crate_comes_in_every_third_landing(self) -> None:
+        minutes = {str(at): 1.0 for at in range(30)}
+        tried = self.tried(minutes, 10, 30)
+        self.assertEqual([len(it) for it in tried], [10] * 30)
+        for at in range(30 - TURNS):
+            self.assertEqual(tried[at], tried[at + TURNS])
+
+    def test_without_room_each_crate_comes_in_as_many_landings_as_there_are(self) -> None:
+        minutes = {str(at): 1.0 + at for at in range(7)}
+        tried = self.tried(minutes, 0, 21)
+        for at in range(14):
+            self.assertEqual(sorted(it for crates in tried[at : at + 7] for it in crates), sorted(minutes))
+
+    def test_a_dear_crate_is_not_passed_over_for_ever(self) -> None:
+        minutes = {"dear": 50.0, **{str(at): 1.0 for at in range(8)}}
+        tried = self.tried(minutes, 4, 30)
+        for at in range(20):
+            self.assertIn("dear", [it for crates in tried[at : at + len(minutes)] for it in crates])
