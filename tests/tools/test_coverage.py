@@ -111,5 +111,3 @@ class Programs(unittest.TestCase):
         ran = support.run_tool("coverage", "/bin/true", "no case has this name")
         self.assertEqual(ran.returncode, 1)
         self.assertIn("has no function of this repository", ran.stderr)
-        ran = support.run_tool("coverage", "/no/such")
-        self.assertEqual((ran.returncode, ran.stdout), (1, ""))

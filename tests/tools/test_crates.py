@@ -134,11 +134,8 @@ class Files(unittest.TestCase):
         _, drawing, _ = self.drawn("a:\nb: a\nc: a b\n")
         self.assertEqual(set(lines_of(ET.fromstring(drawing))), {("b", "a"), ("c", "b")})
 
-    def test_a_wrong_order_and_a_missing_file_are_told(self) -> None:
+    def test_a_wrong_order_is_told(self) -> None:
         self.assertEqual(self.drawn("high: low\nlow:\n"), (1, "", "draw-crates: high stands on low, which stands behind it\n"))
-        ran = support.run_tool("draw-crates", "/no/such")
-        self.assertEqual((ran.returncode, ran.stdout), (1, ""))
-        self.assertIn("/no/such", ran.stderr)
 
 
 PAGE = (support.ROOT / "docs/CALLS.md").read_text()
@@ -186,7 +183,6 @@ class Below(unittest.TestCase):
         self.assertEqual(list(below), ["onfi_param", "onfi_addr", "onfi_timing"])
         self.assertTrue(all(line in CRATES.splitlines() for line in lines))
         self.assertEqual(support.run_tool("list-calls", "--below", "onfi_timing").stdout.splitlines(), lines)
-        self.assertEqual(support.run_tool("list-calls", "--below", "onfi_nothing").returncode, 2)
 
     def test_all_is_below_the_program(self) -> None:
         names = lines_below(CRATES, "onfi_program")

@@ -79,15 +79,6 @@ class Pages(unittest.TestCase):
         self.assertEqual(page[32:44], b"SOMEBODY    ")
         self.assertEqual(page[44:64], b"A MODEL             ")
 
-    def test_what_does_not_fit_is_told(self) -> None:
-        for word, told in (("luns=256", "luns: 256 is not below 256"), ("plane_bits=16", "not below 16"),
-                           ("lun=2", "lun: no such field"), ("luns=two", "not a number"), ("luns", "not NAME=VALUE"),
-                           ("model=" + 21 * "x", "not 20 printable"), ("wide_bus=2", "not below 2")):
-            ran = support.run_tool("make-page", word)
-            self.assertEqual((ran.returncode, ran.stdout), (1, ""))
-            self.assertIn(told, ran.stderr)
-        self.assertEqual(support.run_tool("make-page", "luns=1", "luns=1").returncode, 1)
-
     def test_the_first_good_copy_is_taken(self) -> None:
         one, other = (device.page_of({"luns": luns}, {}) for luns in (1, 2))
         self.assertEqual(device.first_copy(bytes(256) + one[:-1] + b"\xff" + other), other)

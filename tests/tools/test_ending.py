@@ -1,4 +1,4 @@
-"""How tools end where nobody reads what they print any more, and where it can't be written."""
+"""How tools end where nobody reads what they print any more, where it can't be written, and where they refuse what they are given."""
 
 import os
 import subprocess
@@ -19,6 +19,24 @@ MUCH: List[Tuple[List[str], str]] = [
     (["draw-crates"], ""),
 ]
 
+
+# What tools refuse without an answer, what is said of that, the status, and what they are given.
+REFUSED: List[Tuple[str, str, int, str]] = [
+    ("bench rolling --library /nowhere --quick", "bench rolling: no libonfi.a in /nowhere: `make library` builds it\n", 1, ""),
+    ("bench rolling --ways plan,best", "no way best; there are fifo, ", 2, ""),
+    ("coverage /no/such", "coverage: [Errno 2] No such file or directory: ", 1, ""),
+    ("draw-crates /no/such", "/no/such", 1, ""),
+    ("draw-trace", "draw-trace: line 1: not a line of a trace: over 7\n", 1, "over 7\n"),
+    ("draw-trace --script README.md", "no line `end`", 1, support.trace_text("batch")),
+    ("list-calls --below onfi_nothing", "invalid choice: 'onfi_nothing'", 2, ""),
+    *((f"make-page {word}", told, 1, "") for word, told in (
+        ("luns=256", "luns: 256 is not below 256"), ("plane_bits=16", "not below 16"), ("lun=2", "lun: no such field"), ("luns", "not NAME=VALUE"),
+        ("luns=two", "make-page: luns=two: not a number\n"), (f"model={21 * 'x'}", "not 20 printable"), ("wide_bus=2", "not below 2"),
+        ("luns=1 luns=1", "a second time"))),
+    ("make-page", "NAME=VALUE", 2, ""),
+    ("prove static onfi_c --target riscv64", "invalid choice: 'riscv64' (choose from 'x86_64', 'aarch64')", 2, ""),
+    ("test-targets no-program sparc", "sparc isn't one of aarch64, ", 2, ""),
+]
 
 # With a buffer a tool meets the closed pipe as it ends; without one, where it prints.
 BUFFERED = {name: value for name, value in os.environ.items() if name != "PYTHONUNBUFFERED"}
@@ -66,13 +84,14 @@ class Closed(unittest.TestCase):
 
 class Unwritten(unittest.TestCase):
     def test_a_full_disk_is_told(self) -> None:
-        for words in (["make-page", "luns=1"], ["draw-crates"], ["prove", "--help"]):
+        for words, given in [(["make-page", "luns=1"], ""), (["draw-trace", "--as", "svg"], support.trace_text("batch")), *MUCH[3:], (["prove", "--help"], "")]:
             with open("/dev/full", "w") as full:
-                ran = subprocess.run(command(words), stdout=full, stderr=subprocess.PIPE, text=True, cwd=support.ROOT, env=BUFFERED)
+                ran = subprocess.run(command(words), input=given, stdout=full, stderr=subprocess.PIPE, text=True, cwd=support.ROOT, env=BUFFERED)
             self.assertEqual((ran.returncode, ran.stderr), (1, f"{words[0]}: [Errno 28] No space left on device\n"))
 
-    def test_other_endings_stay(self) -> None:
+    def test_what_is_refused(self) -> None:
+        for words, told, status, given in REFUSED:
+            ran = support.run_tool(*words.split(), given=given)
+            self.assertEqual((ran.returncode, ran.stdout), (status, ""), words)
+            self.assertIn(told, ran.stderr)
         self.assertEqual(support.run_tool("make-page", "luns=1").returncode, 0)
-        ran = support.run_tool("make-page", "luns=x")
-        self.assertEqual((ran.returncode, ran.stderr), (1, "make-page: luns=x: not a number\n"))
-        self.assertEqual(support.run_tool("make-page").returncode, 2)

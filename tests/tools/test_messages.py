@@ -78,7 +78,7 @@ class WrongWords(unittest.TestCase):
     def test_what_is_no_plain_text_is_shown_escaped(self) -> None:
         """Control characters, and bytes that are no text."""
         escaped: List[List[Word]] = [["\x1b[31mplan"], ["plan", "--\x1b[31m"], ["plan", "\x1b[31m"], ["plan", "a", "\x07b"], ["plan", "--limit=3\x7f"],
-                                     [b"\xff"], [b"plan", b"\xff\xfe"], [b"plan", b"--limit", b"7\x80"], [b"plan", b"--\x9b31m"]]
+                                     ["plan", "\x1b[2J\u0085"], [b"\xff"], [b"plan", b"\xff\xfe"], [b"plan", b"--limit", b"7\x80"], [b"plan", b"--\x9b31m"]]
         for words in escaped:
             found = ran(*words)
             self.assertEqual((found.output, found.status), ("", REFUSED_WORDS))
@@ -123,15 +123,15 @@ class Help(unittest.TestCase):
             self.assertRegex(text, rf"(?m)^Usage: \S+ {command} \[OPTIONS\] \[FILE\]")
             for part in [*options, "Input: ", "Output: ", "Statuses: 0 ", "Example:\n  onfi_sim ", f"\n  onfi_sim {command} "]:
                 self.assertIn(part, text)
-
-    def test_help_of_a_command_names_the_options_that_it_takes(self) -> None:
-        for command, options in self.OPTIONS.items():
-            told = set(re.findall(r"(?m)^ +(?:-\w, )?(--\w+)", self.help(command, "--help").split("Options:")[1].split("\n\n")[0]))
+            told = set(re.findall(r"(?m)^ +(?:-\w, )?(--\w+)", text.split("Options:")[1].split("\n\n")[0]))
             self.assertEqual(told - {"--help"}, set(re.findall(r"--\w+", " ".join(options))))
 
-    def test_the_examples_of_help_are_there_and_go_well(self) -> None:
+    def test_lines_of_help_fit_a_wide_terminal_and_its_examples_go_well(self) -> None:
         for words in ((), *((command,) for command in COMMANDS)):
-            lines = re.findall(r"^  (onfi_sim .*)$", self.help(*words, "--help").split("Example:")[1], re.MULTILINE)
+            text = self.help(*words, "--help")
+            for line in text.splitlines():
+                self.assertLessEqual(len(line), 128, line)
+            lines = re.findall(r"^  (onfi_sim .*)$", text.split("Example:")[1], re.MULTILINE)
             self.assertTrue(lines)
             with tempfile.TemporaryDirectory() as folder:
                 (Path(folder) / "examples").symlink_to(EXAMPLES)
@@ -139,11 +139,6 @@ class Help(unittest.TestCase):
                 for line in lines:
                     done = subprocess.run(f"PATH=.:$PATH\n{line}", shell=True, capture_output=True, cwd=folder)
                     self.assertEqual((done.stderr, done.returncode), (b"", 0), line)
-
-    def test_lines_of_help_fit_a_wide_terminal(self) -> None:
-        for words in ((), *((command,) for command in COMMANDS)):
-            for line in self.help(*words, "--help").splitlines():
-                self.assertLessEqual(len(line), 128, line)
 
     def test_the_version_is_an_answer(self) -> None:
         version = (support.ROOT / "VERSION").read_text()
@@ -180,9 +175,8 @@ class Files(unittest.TestCase):
         self.assertEqual(ran("plan", self.file("long.onfi", text)), answer)
 
     def test_options_stand_before_or_behind_a_file(self) -> None:
-        traced = ran("plan", "--trace", given=self.script)
-        self.assertEqual(ran("plan", str(BATCH), "--trace"), traced)
-        self.assertEqual(ran("plan", "--trace", "--", str(BATCH)), traced)
+        for words in (["plan", str(BATCH), "--trace"], ["plan", "--trace", "--", str(BATCH)]):
+            self.assertEqual(ran(*words), ran("plan", "--trace", given=self.script))
 
     def test_a_plan_is_read_behind_its_script_or_from_a_file(self) -> None:
         plan, whole = self.file("plan", self.plan), self.file("whole", self.script + self.plan)
@@ -242,11 +236,6 @@ class Files(unittest.TestCase):
             self.assertEqual((found.output, found.status), ("", REFUSED_WORDS))
             self.assertRegex(found.said, rf"^error: the file '{re.escape(words[-1])}' can't be read: \w.*\n\Z")
 
-    def test_the_name_of_such_a_file_is_shown_escaped(self) -> None:
-        found = ran("plan", "\x1b[2J\u0085")
-        self.assertEqual((found.output, found.status), ("", REFUSED_WORDS))
-        self.assertIsNone(UNSAFE.search(found.said), found.said)
-
     def test_a_directory_is_refused_as_a_file_that_cannot_be_opened(self) -> None:
         commands = (["plan"], ["check", str(BATCH)], ["audit", str(BATCH)], ["run"], ["device"])
         for words in ([*command, str(self.room)] for command in commands):
@@ -273,12 +262,8 @@ class Quiet(unittest.TestCase):
         cases = [case for page in ("messages.cases", "illegal.cases") for case in read_cases([page + ":"])]
         self.assertGreater(sum(1 for case in cases if case.said), 100)
         for case in cases:
-            more = [] if is_quiet(case.arguments) else [b"--quiet"]
+            more = [] if {b"-q", b"--quiet"} & {*case.arguments} else [b"--quiet"]
             self.assertEqual(ran(*case.arguments, *more, given=case.input), (case.output.decode(), "", case.status), case.place)
-
-
-def is_quiet(arguments: List[bytes]) -> bool:
-    return b"--quiet" in arguments or b"-q" in arguments
 
 
 @unittest.skipUnless(support.program(), "no built program")

@@ -2,8 +2,6 @@
 
 import json
 import re
-import subprocess
-import sys
 import tempfile
 import unittest
 import xml.etree.ElementTree as ET
@@ -348,11 +346,6 @@ class Commands(unittest.TestCase):
             ran = support.run_tool("draw-trace", "--as", form, "--script", script, given=given)
             self.assertEqual(ran.stdout, asked)
 
-    def test_what_is_no_trace_is_told(self) -> None:
-        ran = support.run_tool("draw-trace", given="over 7\n")
-        self.assertEqual((ran.returncode, ran.stdout), (1, ""))
-        self.assertEqual(ran.stderr, "draw-trace: line 1: not a line of a trace: over 7\n")
-
     def test_a_script_of_another_device_is_told(self) -> None:
         given = support.trace_text("batch")
         takes = "line 4: the phase takes 11000 ns, by the script 369380"
@@ -380,14 +373,3 @@ class Commands(unittest.TestCase):
                     given = f"0 140 1 read cmd 0 0 00 30\n25240 {25240 + post} 1 read post 0 0 06 E0\n"
                     ran = support.run_tool("draw-trace", "--script", str(path), given=given)
                     self.assertEqual((ran.returncode, bool(ran.stdout)), (status, not status), ran.stderr)
-
-    def test_a_full_disk_is_told(self) -> None:
-        tool = [sys.executable, "-B", str(support.ROOT / "tools/draw-trace"), "--as", "svg"]
-        with open("/dev/full", "w") as full:
-            ran = subprocess.run(tool, input=support.trace_text("batch"), stdout=full, stderr=subprocess.PIPE, text=True)
-        self.assertEqual((ran.returncode, ran.stderr), (1, "draw-trace: [Errno 28] No space left on device\n"))
-
-    def test_a_script_without_lengths_is_told(self) -> None:
-        ran = support.run_tool("draw-trace", "--script", "README.md", given=support.trace_text("batch"))
-        self.assertEqual((ran.returncode, ran.stdout), (1, ""))
-        self.assertIn("no line `end`", ran.stderr)

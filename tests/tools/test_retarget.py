@@ -232,8 +232,3 @@ class LeftOut(unittest.TestCase):
         lines = told.stdout.splitlines()
         self.assertEqual([line.split(",")[0] for line in lines], ["aarch64: left out", "riscv64: left out", "0 passed"])
         self.assertIn("gcc-riscv64-linux-gnu", lines[1])
-
-    def test_a_processor_that_is_not_known(self) -> None:
-        told = support.run_tool("test-targets", "no-program", "sparc")
-        self.assertEqual((told.returncode, told.stdout), (2, ""))
-        self.assertIn("sparc isn't one of aarch64, ", told.stderr)

@@ -300,16 +300,6 @@ class Tables(unittest.TestCase):
                 self.assertEqual(len({row.count("|") for row in rows}), 1, rows[0])
                 self.assertGreater(len(rows), 2)
 
-    def test_a_way_that_there_isnt(self) -> None:
-        ran = support.run_tool("bench", "rolling", "--ways", "plan,best")
-        self.assertEqual((ran.returncode, ran.stdout), (2, ""))
-        self.assertIn("no way best; there are fifo, ", ran.stderr)
-
-    def test_a_folder_without_the_library(self) -> None:
-        ran = support.run_tool("bench", "rolling", "--quick", "--library", "/nowhere")
-        self.assertEqual((ran.returncode, ran.stdout), (1, ""))
-        self.assertEqual(ran.stderr, "bench rolling: no libonfi.a in /nowhere: `make library` builds it\n")
-
 
 def channel(luns: int = 1, depth: int = 1, planes: int = 4) -> Channel:
     """Phases of 10 and 30 ns, gaps of 2; arrays of 100, 500 and 1,000."""

@@ -81,11 +81,6 @@ class Makefile(unittest.TestCase):
 
 
 class Prove(unittest.TestCase):
-    def test_other_processors_are_refused(self) -> None:
-        told = support.run_tool("prove", "static", "onfi_c", "--target", "riscv64")
-        self.assertEqual((told.returncode, told.stdout), (2, ""))
-        self.assertIn("invalid choice: 'riscv64' (choose from 'x86_64', 'aarch64')", told.stderr)
-
     def test_a_program_without_its_compiler(self) -> None:
         with tempfile.TemporaryDirectory() as room:
             kit = Path(room) / "rt"
