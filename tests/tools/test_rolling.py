@@ -1,5 +1,6 @@
 """The simulator of channels in rolling use: worked runs, its judge on broken phases, its choices, its tables; and what no scheduler passes."""
 
+import itertools
 import subprocess
 import tempfile
 import unittest
@@ -83,58 +84,48 @@ class Parts(unittest.TestCase):
         self.assertEqual((ran.returncode, ran.stderr, ran.stdout), (0, "", PARTS))
 
 
-class Answered:
-    """What holds of any way; `program`, `ways` and `requests` are given."""
+class Greedy(unittest.TestCase):
+    """What holds of any way, first of the greedy ones; the classes after it have other ways."""
 
-    program: Path
-    ways: List[str]
-    requests: int
-
-    def check_once(self, of: Configuration, way: str) -> None:
-        ran = phases(self.program, of, way, self.requests)
-        commands = [phase.want for phase in ran if phase.part == "cmd"]
-        posts = [phase.want for phase in ran if phase.part == "post"]
-        self.assertEqual(len(posts), self.requests, way)  # type: ignore[attr-defined]
-        self.assertEqual(len(set(posts)), self.requests, way)  # type: ignore[attr-defined]
-        self.assertEqual(len(set(commands)), len(commands), way)  # type: ignore[attr-defined]
-        self.assertLessEqual(set(posts), set(commands), way)  # type: ignore[attr-defined]
-        self.assertTrue(all(one.end <= other.start for one, other in zip(ran, ran[1:])), way)  # type: ignore[attr-defined]
+    program = GREEDY_ALONE
+    ways = list(GREEDY)
+    requests = 200
 
     def test_each_request_is_answered_once(self) -> None:
-        for way in self.ways:
-            for of in (TWELVE[1], TWELVE[8], TWELVE[9], TWELVE[1]._replace(load=0.5), TWELVE[1]._replace(array="0.4-0.7"), six_of("mixed-4k")[0]):
-                self.check_once(of, way)
+        others = (TWELVE[1]._replace(load=0.5), TWELVE[1]._replace(array="0.4-0.7"), six_of("mixed-4k")[0])
+        for way, of in itertools.product(self.ways, (TWELVE[1], TWELVE[8], TWELVE[9], *others)):
+            ran = phases(self.program, of, way, self.requests)
+            commands, posts = ([phase.want for phase in ran if phase.part == part] for part in ("cmd", "post"))
+            self.assertEqual((len(posts), len(set(posts)), len(set(commands))), (self.requests, self.requests, len(commands)), way)
+            self.assertLessEqual(set(posts), set(commands), way)
+            self.assertTrue(all(one.end <= other.start for one, other in zip(ran, ran[1:])), way)
 
     def test_one_seed_gives_the_same_figures_twice(self) -> None:
         for way in self.ways:
             asked = ASKED._replace(requests=self.requests)
             one, other = (run_way(self.program, TWELVE[0], way, asked) for _ in range(2))
-            self.assertEqual(but_for_time(one), but_for_time(other), way)  # type: ignore[attr-defined]
+            self.assertEqual(but_for_time(one), but_for_time(other), way)
             changed = run_way(self.program, TWELVE[0], way, asked._replace(seed=4))
-            self.assertNotEqual(one["rate"], changed["rate"], way)  # type: ignore[attr-defined]
+            self.assertNotEqual(one["rate"], changed["rate"], way)
 
     def test_one_at_a_time_each_way_does_the_same(self) -> None:
         one_at_a_time = Configuration("tlc", "reads", 2, luns=1, depth=1)
         for way in self.ways:
             figures = run_way(self.program, one_at_a_time, way, ASKED)
-            self.assertAlmostEqual(figures["rate"], 1e9 / (READ + ARRAY + OUTPUT), 2, way)  # type: ignore[attr-defined]
-            self.assertAlmostEqual(figures["bus"], (READ + OUTPUT) / (READ + ARRAY + OUTPUT), 5, way)  # type: ignore[attr-defined]
+            self.assertAlmostEqual(figures["rate"], 1e9 / (READ + ARRAY + OUTPUT), 2, way)
+            self.assertAlmostEqual(figures["bus"], (READ + OUTPUT) / (READ + ARRAY + OUTPUT), 5, way)
 
 
-class Greedy(Answered, unittest.TestCase):
-    ways = list(GREEDY)
-    requests = 200
-
-    def setUp(self) -> None:
-        self.program = GREEDY_ALONE
+class ByHand(unittest.TestCase):
+    """Greedy ways, what they make of a configuration worked out."""
 
     def rate(self, of: Configuration, way: str) -> float:
-        return run_way(self.program, of, way, ASKED)["rate"]
+        return run_way(GREEDY_ALONE, of, way, ASKED)["rate"]
 
     def test_first_in_first_out_by_hand(self) -> None:
         # One LUN, none grouped: a program's data of 37,439, its array of 800,100, its status of 305, one after another.
         self.assertAlmostEqual(self.rate(Configuration("tlc", "sequential", 2, luns=1), "fifo"), 1e9 / 837844, 2)
-        ran = phases(self.program, Configuration("tlc", "sequential", 2, luns=2), "fifo", 8)
+        ran = phases(GREEDY_ALONE, Configuration("tlc", "sequential", 2, luns=2), "fifo", 8)
         # Four planes of LUN 0, then those of LUN 1: the fifth request doesn't wait for the fourth.
         self.assertEqual([phase.lun for phase in ran[:10]], [0] * 7 + [1, 0, 1])
         self.assertEqual([phase.start for phase in ran[6:9]], [3 * 837844, 3 * 837844 + 37439, 3 * 837844 + 837539])
@@ -154,33 +145,33 @@ class Greedy(Answered, unittest.TestCase):
         self.assertAlmostEqual(self.rate(Configuration("tlc", "reads-4k", 2, luns=1, depth=1), "fifo"), 1e9 / (READ + ARRAY + output), 2)
         for sectors, pages in OF_SECTORS.items():
             words = [[*Configuration("slc", name, 2).words(), "source", "yes"] for name in (sectors, pages)]
-            one, other = (subprocess.run([str(self.program), *each], capture_output=True, text=True, check=True).stdout.splitlines() for each in words)
+            one, other = (subprocess.run([str(GREEDY_ALONE), *each], capture_output=True, text=True, check=True).stdout.splitlines() for each in words)
             self.assertEqual([(at, line) for at, line in enumerate(one) if line != other[at]], [(2, "read 175 600 25100 2935")])
 
     def test_an_open_loop_has_the_bus_for_its_load(self) -> None:
         """And where requests come seldom none waits for another."""
-        figures = run_way(self.program, Configuration("tlc", "reads", 2, load=0.00001), "fifo", ASKED)
+        figures = run_way(GREEDY_ALONE, Configuration("tlc", "reads", 2, load=0.00001), "fifo", ASKED)
         for name in ("read_mean", "read_999"):
             self.assertAlmostEqual(figures[name], (READ + ARRAY + OUTPUT) / 1000, 3)
-        figures = run_way(self.program, TWELVE[1]._replace(load=0.4), "rfirst:all", ASKED._replace(requests=4000))
+        figures = run_way(GREEDY_ALONE, TWELVE[1]._replace(load=0.4), "rfirst:all", ASKED._replace(requests=4000))
         self.assertAlmostEqual(figures["bus"], 0.4, delta=0.03)
 
     def test_luns_that_erase_at_once(self) -> None:
         """One LUN erases alone; of eight several do, since erases wait until nothing else of their LUN does."""
         asked = ASKED._replace(requests=2000)
-        self.assertEqual(run_way(self.program, Configuration("tlc", "erases", 2, luns=1, depth=1), "rfirst:all", asked)["erasing"], 1)
-        several = run_way(self.program, Configuration("tlc", "erases", 2), "rfirst:all", asked)["erasing"]
+        self.assertEqual(run_way(GREEDY_ALONE, Configuration("tlc", "erases", 2, luns=1, depth=1), "rfirst:all", asked)["erasing"], 1)
+        several = run_way(GREEDY_ALONE, Configuration("tlc", "erases", 2), "rfirst:all", asked)["erasing"]
         self.assertTrue(1.5 < several < 8, several)
-        self.assertEqual(run_way(self.program, TWELVE[0], "rfirst:all", ASKED)["erasing"], 0)
+        self.assertEqual(run_way(GREEDY_ALONE, TWELVE[0], "rfirst:all", ASKED)["erasing"], 0)
 
     def test_words_that_cant_be_read(self) -> None:
         for words in (["way", "best"], ["device", "mlc"], ["luns", "9"], ["depth"], ["array", "0.9-0.4"], ["size", "3"]):
-            ran = subprocess.run([str(self.program), *words], capture_output=True, text=True)
+            ran = subprocess.run([str(GREEDY_ALONE), *words], capture_output=True, text=True)
             self.assertEqual((ran.returncode, ran.stdout), (2, ""), words)
             self.assertRegex(ran.stderr, r"^rolling: (can't read|no way|no device) ")
 
 
-class Plans(Answered, unittest.TestCase):
+class Plans(Greedy):
     ways = list(PLANS)
     requests = 80
 

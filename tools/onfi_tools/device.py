@@ -1,6 +1,6 @@
 """Parameter pages from named fields and back, and the phase lengths that a page and a timing sheet give, with strobes or without."""
 
-from typing import Dict, Iterator, List, Mapping, NamedTuple, Optional, Tuple
+from typing import Dict, List, Mapping, NamedTuple, Optional, Tuple
 
 KINDS = ("read", "program", "erase")
 COPY = 256
@@ -125,7 +125,8 @@ def numbers_of(page: bytes) -> Dict[str, int]:
 
 def first_copy(data: bytes) -> bytes:
     """The first copy with two right signature bytes and the right CRC; ValueError where there is none."""
-    for copy in copies_of(data):
+    for at in range(0, len(data) - COPY + 1, COPY):
+        copy = data[at : at + COPY]
         right = sum(one == other for one, other in zip(copy, SIGNATURE))
         if right >= 2 and crc16(copy[:254]) == int.from_bytes(copy[254:], "little"):
             return copy
@@ -136,10 +137,6 @@ def restricts_blocks(page: Mapping[str, int]) -> bool:
     """Whether a page takes groups of several planes, and of restricted blocks alone."""
     groups = page["plane_bits"] > 0 and (page["multi_plane_reads"] or page["multi_plane_writes"])
     return bool(groups) and not page["no_block_restrictions"]
-
-
-def copies_of(data: bytes) -> Iterator[bytes]:
-    return (data[at : at + COPY] for at in range(0, len(data) - COPY + 1, COPY))
 
 
 def hex_rows(data: bytes) -> List[str]:

@@ -2,7 +2,7 @@
 
 import itertools
 import statistics
-from typing import Dict, FrozenSet, Iterable, List, Mapping, NamedTuple, Sequence, Tuple
+from typing import Dict, FrozenSet, List, Mapping, NamedTuple, Sequence, Tuple
 
 Below = Mapping[str, FrozenSet[str]]
 Line = Tuple[str, str]
@@ -134,11 +134,9 @@ class Layout:
                 x.update(zip(row, self.spread([PULL * middle + (1 - PULL) * it for it in ties], row)))
         least = min((x[name] - self.width(name) / 2 for name in x), default=0)
         places = {name: Place(round(x[name] - least), self.layer[name]) for name in x}
-        return Drawing({name: places[name] for name in self.boxes_in_order()}, {line: [places[it] for it in way] for line, way in self.ways.items()})
+        boxes = {name: places[name] for row in self.rows for name in row if name in self.boxes}
+        return Drawing(boxes, {line: [places[it] for it in way] for line, way in self.ways.items()})
 
     def tied(self, name: str) -> List[str]:
         """Those that draw it; a bend is drawn by its own line alone, so that lines stay straight."""
         return [*self.up[name], *self.down[name]]
-
-    def boxes_in_order(self) -> Iterable[str]:
-        return (name for row in self.rows for name in row if name in self.boxes)

@@ -36,16 +36,8 @@ def ordered(track: int) -> Event:
 
 
 def timed(track: int, start: int, end: int, name: str, arguments: Mapping[str, Any]) -> Event:
-    return {
-        "ph": "X",
-        "name": name,
-        "cat": "onfi",
-        "pid": CHANNEL,
-        "tid": track,
-        "ts": start / 1000,
-        "dur": (end - start) / 1000,
-        "args": {"start": start, "end": end, **arguments},
-    }
+    when = {"ts": start / 1000, "dur": (end - start) / 1000}
+    return {"ph": "X", "name": name, "cat": "onfi", "pid": CHANNEL, "tid": track, **when, "args": {"start": start, "end": end, **arguments}}
 
 
 def bus_event(phase: Phase) -> Event:

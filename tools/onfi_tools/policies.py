@@ -1,5 +1,6 @@
 """Plain ways to keep a bus busy, as schedules of a batch on an idle device."""
 
+import functools
 from typing import Callable, Dict, List, NamedTuple, Sequence, Tuple
 
 from onfi_tools.channel import Channel, Device, Move, Want, group_of, idle
@@ -103,8 +104,7 @@ def round_robin(device: Device, wants: Sequence[Want], commands_first: bool = Fa
         move.start, commands_first and move.group.posts, (move.lun - turn) % device.luns, -size_of(channel, move)))
 
 
-def round_robin_commands_first(device: Device, wants: Sequence[Want]) -> Planned:
-    return round_robin(device, wants, commands_first=True)
+round_robin_commands_first: Policy = functools.partial(round_robin, commands_first=True)
 
 
 def best_of_ranks(device: Device, wants: Sequence[Want]) -> Planned:

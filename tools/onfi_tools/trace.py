@@ -77,13 +77,10 @@ def is_number(field: str) -> bool:
     return field.isascii() and field.isdigit()
 
 
-def without_request(fields: List[str]) -> List[str]:
-    """The fields without the request of `--requests`, which no picture shows."""
-    return fields[:9] if len(fields) == 10 and (is_number(fields[9]) or fields[9] == "-") else fields
-
-
 def phase_of(number: int, line: str) -> Phase:
-    fields = without_request(line.split())
+    fields = line.split()
+    if len(fields) == 10 and (is_number(fields[9]) or fields[9] == "-"):
+        fields.pop()  # the request of `--requests`, which no picture shows
     numbers = fields[:3] + fields[5:7]
     if len(fields) != 9 or not all(map(is_number, numbers)):
         raise ValueError(f"line {number}: not a line of a trace: {line.strip()}")

@@ -73,14 +73,14 @@ def picture(phases: List[Phase], lengths: Optional[Mapping[str, Spans]], window:
     for own in signals.values():
         changes += own.idle(window.begin)
     for phase in window.of(phases):
-        changes += bus_changes(bus, phase)
+        changes += [(phase.start, bus, f"{phase.lun:03b}"), (phase.end, bus, nothing(bus))]
     for lun, phases_of_lun in luns.items():
         for stretch in window.of(stretches(phases_of_lun, 0, lengths)):
             changes += lun_changes(signals[lun], stretch)
-    if window.end < finish_of(phases):
-        # What was cut off there goes on.
-        return "\n".join([*header(bus, signals), *dumped([it for it in changes if it[0] < window.end]), f"#{window.end}"]) + "\n"
-    return "\n".join(header(bus, signals) + dumped(changes)) + "\n"
+    # (what is cut off there goes on)
+    is_cut = window.end < finish_of(phases)
+    ends = dumped([it for it in changes if it[0] < window.end]) + [f"#{window.end}"] if is_cut else dumped(changes)
+    return "\n".join(header(bus, signals) + ends) + "\n"
 
 
 def header(bus: Signal, luns: Mapping[int, OfLun]) -> List[str]:
@@ -91,10 +91,6 @@ def header(bus: Signal, luns: Mapping[int, OfLun]) -> List[str]:
         lines += [signal.declared() for signal in signals]
         lines.append("$upscope $end")
     return lines + ["$upscope $end", "$enddefinitions $end"]
-
-
-def bus_changes(bus: Signal, phase: Phase) -> List[Change]:
-    return [(phase.start, bus, f"{phase.lun:03b}"), (phase.end, bus, nothing(bus))]
 
 
 def lun_changes(lun: OfLun, stretch: Stretch) -> List[Change]:

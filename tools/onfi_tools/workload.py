@@ -37,16 +37,12 @@ class Shape(NamedTuple):
     pages: int
     page_bytes: int
 
-    def lanes(self) -> int:
-        """The planes of all chips; each takes writes by itself."""
-        return self.channels * self.planes * self.luns
-
     def home_blocks(self) -> int:
         """How many blocks of a plane hold what stands on the drive as it begins."""
         return self.blocks // self.planes * HOME_SHARE[0] // HOME_SHARE[1]
 
     def logical_pages(self) -> int:
-        return self.lanes() * self.home_blocks() * self.pages
+        return self.channels * self.luns * self.planes * self.home_blocks() * self.pages
 
 
 class Place(NamedTuple):
