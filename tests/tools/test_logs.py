@@ -59,18 +59,13 @@ def candidate(rng: random.Random, judge: Judge, number: int) -> Optional[Line]:
     return Line(judge.bus, at, want.kind, "cmd", want.block, want.page, want.number)
 
 
-def poll_of(rng: random.Random, judge: Judge) -> Poll:
-    """A poll of a LUN's status, as soon as the bus is free or a little later."""
-    return Poll(judge.bus + rng.choice((0, rng.randint(0, 60))), rng.randrange(len(judge.luns)))
-
-
 def legal_log(rng: random.Random, script: str, phases: int, by_status: bool) -> List[Entry]:
     """Phases, each as soon as it may come or a little later, and polls between them where they are asked for."""
     judge = Judge([row.split(",") for row in script.split("\n")[:-2]])
     lines: List[Entry] = []
     for number in range(3 * phases):
         if by_status and rng.random() < 0.3 and len(lines) < phases:
-            poll = poll_of(rng, judge)
+            poll = Poll(judge.bus + rng.choice((0, rng.randint(0, 60))), rng.randrange(len(judge.luns)))
             assert judge.judge(poll) is None
             lines.append(poll)
         line = candidate(rng, judge, number)

@@ -304,14 +304,11 @@ class Due(unittest.TestCase):
                     self.write(name, f"wrong-bodies/{function}{ending}", f"file: src/lib.rt\nold:     {text}\nnew:     {new}\n")
         self.commit()
         self.first = git(self.folder, "rev-parse", "HEAD")
-        was = TOOL.ROOT, TOOL.LANDINGS, TOOL.COSTS, TOOL.PROVE.CRATES
-        self.addCleanup(self.put_back, was)
-        TOOL.ROOT, TOOL.LANDINGS, TOOL.COSTS = self.folder, self.folder / "landings", self.folder / "costs"
-        TOOL.PROVE.CRATES = dict.fromkeys(self.NAMES)
+        here: Dict[str, Any] = {"ROOT": self.folder, "LANDINGS": self.folder / "landings", "COSTS": self.folder / "costs"}
+        for replaced in (unittest.mock.patch.multiple(TOOL, **here), unittest.mock.patch.object(TOOL.PROVE, "CRATES", dict.fromkeys(self.NAMES))):
+            replaced.start()
+            self.addCleanup(replaced.stop)
         TOOL.COSTS.write_text("# minutes\nroom: 8\n" + "".join(f"{name}: 4\n" for name in self.NAMES), encoding="utf-8")
-
-    def put_back(self, was: Tuple[Path, Path, Path, Dict[str, List[str]]]) -> None:
-        TOOL.ROOT, TOOL.LANDINGS, TOOL.COSTS, TOOL.PROVE.CRATES = was
 
     def write(self, crate: str, path: str, text: str) -> None:
         file = self.folder / "crates" / crate / path

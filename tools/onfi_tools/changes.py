@@ -12,7 +12,7 @@ from __future__ import annotations
 
 import re
 from pathlib import PurePosixPath
-from typing import Dict, FrozenSet, Iterable, Iterator, List, NamedTuple, Optional, Tuple
+from typing import Dict, FrozenSet, Iterable, Iterator, List, NamedTuple, Optional, Set, Tuple
 
 from onfi_tools.functions import FUNCTION, OWNER, Function, Key, functions_of
 
@@ -230,20 +230,14 @@ class Changes:
         # (what has no name speaks of its whole file, so all may rest on it)
         self.is_whole = any(not self.parts[key].names for key in altered)
         self.altered = {name for key in altered for name in self.parts[key].names}
-        while self.grow():
-            pass
+        # What names something altered is altered too.
+        before: Set[str] = set()
+        while before != self.altered:
+            before = set(self.altered)
+            self.altered |= {name for part in self.parts.values() if part.words & before for name in part.names}
         # The functions whose callers may be proved otherwise.
-        self.called = {key[-1] for key, body in self.bodies.items() if self.is_seen_otherwise(key, body)}
-
-    def grow(self) -> bool:
-        """Adds the names of what names something altered."""
-        more = {name for part in self.parts.values() if part.words & self.altered for name in part.names}
-        is_grown = not more <= self.altered
-        self.altered |= more
-        return is_grown
-
-    def is_seen_otherwise(self, key: Key, body: Body) -> bool:
-        return self.old_bodies.get(key, body).seen != body.seen or bool(words_in(body.seen) & self.altered)
+        self.called = {key[-1] for key, body in self.bodies.items()
+                       if self.old_bodies.get(key, body).seen != body.seen or words_in(body.seen) & self.altered}
 
     def why(self, key: Key) -> str:
         """Why a function may be proved otherwise; empty where nothing that it rests on changed."""

@@ -77,18 +77,14 @@ def found_mates(channel: Channel, outstanding: int) -> float:
     return (outstanding - 1) * (channel.planes - 1) / (channel.planes * channel.luns * channel.pages)
 
 
-def read_part(channel: Channel, outstanding: int) -> float:
-    """The least time that a read has of its LUN, in the mean."""
-    spans = channel.spans[READ]
-    return group_time(spans, 1) - found_mates(channel, outstanding) * (spans.array - spans.gap)
-
-
 Size = Tuple[float, float]
 
 
 def sizes_of(channel: Channel, outstanding: int) -> Dict[str, List[Size]]:
     """Of each kind a member's part of its LUN's time, and its stay, for each size that its group may have."""
-    sizes = {READ: [(read_part(channel, outstanding), stay(channel.spans[READ], 1))]}
+    spans = channel.spans[READ]
+    part = group_time(spans, 1) - found_mates(channel, outstanding) * (spans.array - spans.gap)
+    sizes = {READ: [(part, stay(spans, 1))]}
     for kind in (PROGRAM, ERASE):
         spans = channel.spans[kind]
         sizes[kind] = [(group_time(spans, members) / members, stay(spans, members)) for members in range(1, channel.planes + 1)]

@@ -28,12 +28,9 @@ def any_lengths(rng: random.Random) -> Dict[str, Spans]:
     return {kind: Spans(*(rng.randint(low, 60) for low in (1, 0, 0, 1))) for kind in KINDS}
 
 
-def drawn_lengths(rng: random.Random) -> Dict[str, Spans]:
-    return rng.choice((USUAL, SLOW)) if rng.random() < 2 / 3 else any_lengths(rng)
-
-
 def drawn_device(rng: random.Random, luns: int) -> Device:
-    return Device(luns, rng.randint(0, 2), rng.random() < 0.5, rng.random() < 0.5, drawn_lengths(rng))
+    bits, group_reads, group_writes = rng.randint(0, 2), rng.random() < 0.5, rng.random() < 0.5
+    return Device(luns, bits, group_reads, group_writes, rng.choice((USUAL, SLOW)) if rng.random() < 2 / 3 else any_lengths(rng))
 
 
 def device_of(bits: int, page: Dict[str, int], cycle: int, luns: int) -> Device:

@@ -62,16 +62,6 @@ def work_of(channel: Channel, move: Move) -> int:
     return waiting + (0 if move.group.begins else channel.work_of(move.group))
 
 
-def by_work(channel: Channel, move: Move) -> float:
-    """The LUN that has most left first, then the larger group."""
-    return 8 * work_of(channel, move) + size_of(channel, move)
-
-
-def by_work_alone(channel: Channel, move: Move) -> float:
-    """The LUN that has most left first, then the smaller group."""
-    return 8 * work_of(channel, move) - size_of(channel, move)
-
-
 def by_commands(channel: Channel, move: Move) -> float:
     """Commands before posts; larger groups first, then erases, programs, reads."""
     return size_of(channel, move) + (-10 if move.group.posts else 10) + KINDS.index(move.group.kind) / 10
@@ -89,7 +79,11 @@ def by_reads(channel: Channel, move: Move) -> float:
     return {"read": 94, "program": 40, "erase": 30}[move.group.kind] + move.group.size / 10
 
 
-RANKS: Tuple[Rank, ...] = (size_of, by_work, by_commands, by_posts, by_work_alone, by_reads)
+# The second and the fifth take the LUN that has most left first, then the larger and the smaller group.
+RANKS: Tuple[Rank, ...] = (
+    size_of, lambda channel, move: 8 * work_of(channel, move) + size_of(channel, move), by_commands, by_posts,
+    lambda channel, move: 8 * work_of(channel, move) - size_of(channel, move), by_reads,
+)
 
 
 def ranked(device: Device, wants: Sequence[Want], rank: Rank) -> Planned:
