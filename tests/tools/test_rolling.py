@@ -294,11 +294,7 @@ class Tables(unittest.TestCase):
 
 def channel(luns: int = 1, depth: int = 1, planes: int = 4) -> Channel:
     """Phases of 10 and 30 ns, gaps of 2; arrays of 100, 500 and 1,000."""
-    spans: Dict[str, Spans] = {
-        "read": Spans(10, 2, 100, 30),
-        "program": Spans(10, 2, 500, 30),
-        "erase": Spans(10, 2, 1000, 30),
-    }
+    spans = {kind: Spans(10, 2, array, 30) for kind, array in (("read", 100), ("program", 500), ("erase", 1000))}
     return Channel(spans, planes, 10**15, luns, depth)
 
 

@@ -4,7 +4,7 @@ import random
 import sys
 import tempfile
 import unittest
-from typing import Any, List, Set, Tuple
+from typing import Any, Dict, List, Set, Tuple
 
 import support
 from onfi_tools.die import Block, Device, Operation
@@ -89,25 +89,24 @@ def answers(device: Device, faults: "frozenset[int]", asked: List[Operation]) ->
     return [block.apply(operation) for operation in asked]
 
 
+READ, ERASE = Operation("read", 0), Operation("erase", 0)
+ONE, OTHER = (Operation("program", 0, byte * 528) for byte in (b"\xa5", b"\x5a"))
+HIGH_THEN_LOW = [Operation("program", 3, b"\x11" * 528), Operation("program", 2, b"\x22" * 528), Operation("read", 2)]
+# What is asked of a device, which of its programs and erases fail, and what it answers.
+ANSWERED: Dict[str, Tuple[Device, List[int], List[Operation], List[str]]] = {
+    "a program of a page that holds bytes fails and changes nothing": (USUAL, [], [ONE, OTHER, READ], ["done", "failed", "read,*A5"]),
+    "an erase makes each page erased": (USUAL, [], [ONE, ERASE, READ], ["done", "done", "read,*FF"]),
+    "pages go in order where the device asks for it": (USUAL, [], HIGH_THEN_LOW, ["done", "failed", "read,*FF"]),
+    "else they don't": (USUAL._replace(any_page_order=True), [], HIGH_THEN_LOW, ["done", "done", "read,*22"]),
+    "a fault tears": (USUAL, [0], [ONE, READ], ["failed", "read,*00"]),
+    "it counts among failed ones": (USUAL, [2], [ONE, ONE, ERASE, READ, ONE], ["done", "failed", "failed", "read,*00", "failed"]),
+}
+
+
 class DieModel(unittest.TestCase):
-    def test_a_program_of_a_page_that_holds_bytes_fails_and_changes_nothing(self) -> None:
-        asked = [Operation("program", 0, b"\xa5" * 528), Operation("program", 0, b"\x5a" * 528), Operation("read", 0)]
-        self.assertEqual(answers(USUAL, frozenset(), asked), ["done", "failed", "read,*A5"])
-
-    def test_an_erase_makes_each_page_erased(self) -> None:
-        asked = [Operation("program", 0, b"\xa5" * 528), Operation("erase", 0), Operation("read", 0)]
-        self.assertEqual(answers(USUAL, frozenset(), asked), ["done", "done", "read,*FF"])
-
-    def test_pages_go_in_order_where_the_device_asks_for_it(self) -> None:
-        asked = [Operation("program", 3, b"\x11" * 528), Operation("program", 2, b"\x22" * 528), Operation("read", 2)]
-        self.assertEqual(answers(USUAL, frozenset(), asked), ["done", "failed", "read,*FF"])
-        self.assertEqual(answers(USUAL._replace(any_page_order=True), frozenset(), asked), ["done", "done", "read,*22"])
-
-    def test_a_fault_tears_and_counts_among_failed_ones(self) -> None:
-        program, read = Operation("program", 0, b"\x22" * 528), Operation("read", 0)
-        self.assertEqual(answers(USUAL, frozenset([0]), [program, read]), ["failed", "read,*00"])
-        erased = [program, program, Operation("erase", 0), read, program]
-        self.assertEqual(answers(USUAL, frozenset([2]), erased), ["done", "failed", "failed", "read,*00", "failed"])
+    def test_what_is_answered(self) -> None:
+        for name, (device, faults, asked, told) in ANSWERED.items():
+            self.assertEqual(answers(device, frozenset(faults), asked), told, name)
 
     def test_a_read_gives_its_sectors(self) -> None:
         page = bytes(byte % 251 for byte in range(528))

@@ -38,35 +38,23 @@ class Makefile(unittest.TestCase):
                 self.assertEqual((told.returncode, told.stdout), (2, ""), (goal, target))
                 self.assertIn(f"nothing is proved and built for TARGET={target}: it is aarch64, or left out for x86-64.", told.stderr)
 
-    def test_what_is_made_stands_in_folders_of_the_processor(self) -> None:
-        asked = [f"TARGET={ARM}", "PREFIX=/nowhere"]
-        lines = support.make("-n", "-W", "crates.txt", "wheel", "install", *asked).stdout
-        for line in (
-            "tools/prove static onfi_c --jobs",
-            f"tools/make-library archive crates/onfi_c/out/{ARM}/libonfi_c.a targets/heap.c lib/{ARM} {ARM}\n",
-            f"tools/make-library shared lib/{ARM} {ARM}\n",
-            f"tools/make-wheel lib/{ARM}/libonfi.so dist/{ARM}\n",
-            f"tools/install library lib/{ARM}\n",
-            f"cp crates/onfi_program/out/{ARM}/onfi_program bin/{ARM}/onfi_sim\n",
-            f"tools/install program bin/{ARM}/onfi_sim\n",
-        ):
-            self.assertIn(line, lines)
-        for line in lines.splitlines():
-            if line.startswith(("tools/prove static", "tools/prove program")):
-                self.assertTrue(line.endswith(f"--target {ARM}"), line)
-
-    def test_without_one_all_is_as_it_was(self) -> None:
-        lines = support.make("-n", "-W", "crates.txt", "wheel", "install").stdout
-        for line in (
-            "tools/make-library shared lib \n",
-            "tools/make-wheel lib/libonfi.so dist\n",
-            "tools/install library lib\n",
-            "cp crates/onfi_program/out/onfi_program bin/onfi_sim\n",
-            "tools/install program bin/onfi_sim\n",
-        ):
-            self.assertIn(line, lines)
-        self.assertNotIn("--target", lines)
-        self.assertNotIn(ARM, lines)
+    def test_what_is_made_stands_in_folders_of_the_processor_if_one_is_named(self) -> None:
+        for target, asked in ((ARM, f"TARGET={ARM} PREFIX=/nowhere"), ("", "")):
+            lines, below = support.make("-n", "-W", "crates.txt", "wheel", "install", *asked.split()).stdout, f"/{target}" if target else ""
+            for line in (
+                "tools/prove static onfi_c --jobs",
+                f"tools/make-library shared lib{below} {target}\n",
+                f"tools/make-wheel lib{below}/libonfi.so dist{below}\n",
+                f"tools/install library lib{below}\n",
+                f"cp crates/onfi_program/out{below}/onfi_program bin{below}/onfi_sim\n",
+                f"tools/install program bin{below}/onfi_sim\n",
+            ):
+                self.assertIn(line, lines)
+            archive = f"tools/make-library archive crates/onfi_c/out/{ARM}/libonfi_c.a targets/heap.c lib/{ARM} {ARM}\n"
+            self.assertEqual((archive in lines, ARM in lines, "--target" in lines), 3 * (bool(target),))
+            for line in lines.splitlines():
+                if line.startswith(("tools/prove static", "tools/prove program")):
+                    self.assertEqual(line.endswith(f"--target {ARM}"), bool(target), line)
 
     def test_where_it_is_put(self) -> None:
         """Beside what is installed for this machine, where no PREFIX is named."""
