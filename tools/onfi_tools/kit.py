@@ -1,9 +1,11 @@
-"""Where the Rattle kit stands: above the folder in PATH that has its `rt`."""
+"""Where the Rattle kit stands, above the folder in PATH that has its `rt`, and commands that it or its tools are asked."""
 
 import os
 import shutil
+import subprocess
 import sys
 from pathlib import Path
+from typing import Sequence
 
 # Where no kit is in PATH, a folder that has nothing of one.
 KIT = Path(os.path.realpath(shutil.which("rt") or "rt")).parent.parent
@@ -14,3 +16,11 @@ def ask_for_kit() -> None:
     """Ends the tool by a line where no kit is in PATH."""
     if shutil.which("rt") is None:
         sys.exit(NONE)
+
+
+def goes_well(words: Sequence[object], folder: Path) -> bool:
+    """Runs a command in a folder, and prints its last lines where it fails."""
+    ran = subprocess.run([*map(str, words)], cwd=folder, stdout=subprocess.PIPE, stderr=subprocess.STDOUT, text=True, errors="replace")
+    if ran.returncode:
+        print("\n".join(ran.stdout.splitlines()[-40:]))
+    return not ran.returncode
