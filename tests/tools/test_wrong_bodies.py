@@ -60,15 +60,18 @@ impl Half {
 """
 
 
+def put(file: Path, text: str) -> None:
+    file.parent.mkdir(parents=True, exist_ok=True)
+    file.write_text(text, encoding="utf-8")
+
+
 def crate_of(folder: Path, sources: Dict[str, str], edits: Dict[str, str]) -> Any:
     """A crate 'demo' of these sources with these edits; each is 'PATH|OLD|NEW'."""
     for name, text in sources.items():
-        (folder / "src").mkdir(exist_ok=True)
-        (folder / "src" / name).write_text(text, encoding="utf-8")
-    (folder / "wrong-bodies").mkdir()
+        put(folder / "src" / name, text)
     for name, pair in edits.items():
         path, old, new = pair.split("|")
-        (folder / "wrong-bodies" / name).write_text(f"file: src/{path}\nold: {old}\nnew: {new}\n", encoding="utf-8")
+        put(folder / "wrong-bodies" / name, f"file: src/{path}\nold: {old}\nnew: {new}\n")
     crate = TOOL.Crate.__new__(TOOL.Crate)
     crate.name, crate.folder, crate.bad, crate.left = "demo", folder, [], []
     crate.sources = {f"src/{name}": text for name, text in sources.items()}
@@ -112,8 +115,7 @@ class Edits(unittest.TestCase):
             for edits in TOOL.in_rounds([*crate.edits, *crate.twins]):
                 with tempfile.TemporaryDirectory() as made:
                     for path, text in crate.sources.items():
-                        (Path(made) / path).parent.mkdir(parents=True, exist_ok=True)
-                        (Path(made) / path).write_text(text, encoding="utf-8")
+                        put(Path(made) / path, text)
                     for edit in edits:
                         edit.apply(Path(made))
                     changed = [path for path, text in crate.sources.items() if (Path(made) / path).read_text(encoding="utf-8") != text]
@@ -143,9 +145,7 @@ class OfTheKit(unittest.TestCase):
             self.write(path, f"file: src/half.rt\nold: n / 2\nnew: {new}\n")
 
     def write(self, path: str, text: str) -> None:
-        file = self.folder / path
-        file.parent.mkdir(parents=True, exist_ok=True)
-        file.write_text(text, encoding="utf-8")
+        put(self.folder / path, text)
 
     def told(self, *words: bool) -> List[List[str]]:
         crate = TOOL.Crate("demo", "", *words)
@@ -311,9 +311,7 @@ class Due(unittest.TestCase):
         TOOL.COSTS.write_text("# minutes\nroom: 8\n" + "".join(f"{name}: 4\n" for name in self.NAMES), encoding="utf-8")
 
     def write(self, crate: str, path: str, text: str) -> None:
-        file = self.folder / "crates" / crate / path
-        file.parent.mkdir(parents=True, exist_ok=True)
-        file.write_text(text, encoding="utf-8")
+        put(self.folder / "crates" / crate / path, text)
 
     def commit(self) -> None:
         git(self.folder, "add", "-A")
@@ -373,12 +371,12 @@ class Due(unittest.TestCase):
         self.assertEqual(self.due()[0]["d"], ["one.edit", "one.twin"])
 
     def test_an_edit_that_only_moved_is_not_due(self) -> None:
-        moved = self.folder / "crates/d/must-fail/one.edit"
-        moved.parent.mkdir()
-        (self.folder / "crates/d/wrong-bodies/one.edit").rename(moved)
+        was = self.folder / "crates/d/wrong-bodies/one.edit"
+        self.write("d", "must-fail/one.edit", was.read_text(encoding="utf-8"))
+        was.unlink()
         self.land("c", "a b d e f")
         self.assertNotIn("d", self.due()[0])
-        moved.write_text("file: src/lib.rt\nold:     1\nnew:     3\n", encoding="utf-8")
+        self.write("d", "must-fail/one.edit", "file: src/lib.rt\nold:     1\nnew:     3\n")
         self.assertEqual(self.due()[0]["d"], ["one.edit", "one.twin"])
 
     def test_what_is_not_in_git_yet_is_due(self) -> None:
@@ -415,8 +413,7 @@ class Due(unittest.TestCase):
     def test_a_landing_is_added_with_the_crates_that_its_own_tool_names(self) -> None:
         told = "print('waiting: d\\nwhole: a c' if sys.argv[1:] == ['--due', '--list'] else 'no')"
         tool = f"#!/usr/bin/env python3\nimport sys\nprint('due: a: all 4, in its turn')\n{told}\n"
-        (self.folder / "tools").mkdir()
-        (self.folder / "tools" / "wrong-bodies").write_text(tool, encoding="utf-8")
+        put(self.folder / "tools" / "wrong-bodies", tool)
         self.commit()
         second = git(self.folder, "rev-parse", "HEAD")
         self.assertEqual([self.added(it) for it in ("HEAD", "HEAD", self.first, "gone")], [0, 1, 0, 1])

@@ -7,8 +7,7 @@ import tempfile
 from pathlib import Path
 from typing import Counter, Dict, Iterator, List, NamedTuple, Sequence
 
-from onfi_tools.bench.runs import ROOT, built, table
-from onfi_tools.callgrind import counted
+from onfi_tools.bench.runs import ROOT, built, counted, table
 
 EXAMPLES = ROOT / "examples" / "c"
 # tlc, 70 % reads, 2 ns a byte, eight LUNs, 64 outstanding: what the driver takes where no word says otherwise.

@@ -46,8 +46,7 @@ from typing import Callable, Counter, List, NamedTuple, Sequence, Tuple
 
 from onfi_tools.bench import driver_costs, whole_plans
 from onfi_tools.bench.run import script as script_of_reads
-from onfi_tools.bench.runs import HARD, PROGRAM, ROOT, row, table
-from onfi_tools.callgrind import counted
+from onfi_tools.bench.runs import HARD, PROGRAM, ROOT, counted, row, table
 
 LIMIT = 100_000
 NODES = 32_853

@@ -1,13 +1,15 @@
-"""Runs of a built program, with what they took; and tables of what was measured."""
+"""Runs of a built program, with what they took, also under callgrind; trials for so many seconds; and tables of what was measured."""
 
 import argparse
+import itertools
 import os
 import resource
 import subprocess
 import tempfile
 import time
+from concurrent.futures import ThreadPoolExecutor
 from pathlib import Path
-from typing import Iterable, List, NamedTuple, Optional, Sequence, Union
+from typing import Callable, Iterable, Iterator, List, NamedTuple, Optional, Sequence, TypeVar, Union
 
 from onfi_tools.plans import below_of, finish_of
 
@@ -17,6 +19,11 @@ HARD = sorted((ROOT / "examples" / "hard").glob("*.onfi"))
 # The greatest limit, and statuses.
 MOST = 1 << 20
 OVER, WITHIN = 6, 8
+# The C library clears or copies 2,048 bytes and more by one instruction, of which callgrind counts each byte. Here it does so by
+# vectors, as it does less.
+BY_VECTORS = ":".join(f"glibc.cpu.x86_rep_{what}_threshold=1000000" for what in ("stosb", "movsb"))
+
+Found = TypeVar("Found")
 
 
 def add_words(parser: argparse.ArgumentParser, **numbers: int) -> None:
@@ -68,6 +75,22 @@ def run(words: Sequence[str], given: Union[str, Path] = "", watched: bool = Fals
         child.returncode = os.waitstatus_to_exitcode(status)
         taken.seek(0)
         return Run(taken.read().decode(), child.returncode, used.ru_utime + used.ru_stime, clock, peak)
+
+
+def counted(counts: Path, words: Sequence[Union[str, Path]], given: Optional[str] = None, parts: bool = False) -> "subprocess.CompletedProcess[str]":
+    """Runs a program, and leaves what callgrind counted in that file; by parts where the program asks for them."""
+    tool = ["valgrind", "--tool=callgrind", f"--callgrind-out-file={counts}", *(["--combine-dumps=yes"] if parts else [])]
+    environment = {**os.environ, "GLIBC_TUNABLES": BY_VECTORS}
+    return subprocess.run([*tool, *words], input=given, capture_output=True, text=True, env=environment)
+
+
+def tried(seconds: float, most: int, jobs: int, one: Callable[[int], Found]) -> Iterator[Found]:
+    """What comes of trials 0, 1, 2, .. that begin within so many seconds, so many of them at most, and so many at a time."""
+    ended = time.monotonic() + seconds
+    left = itertools.takewhile(lambda _: time.monotonic() < ended, range(most))
+    with ThreadPoolExecutor(jobs) as pool:
+        for some in iter(lambda: list(itertools.islice(left, 16 * jobs)), []):
+            yield from pool.map(one, some)
 
 
 def answered(program: str, words: Sequence[str], given: str, text: str, status: int = 0) -> Run:

@@ -7,9 +7,8 @@ import tempfile
 from pathlib import Path
 from typing import Dict, List, NamedTuple, Optional, Sequence
 
-from onfi_tools.bench.runs import ROOT, at_place, built, said, table
+from onfi_tools.bench.runs import ROOT, at_place, built, counted, said, table
 from onfi_tools.bench.worth import drawn_batch
-from onfi_tools.callgrind import counted
 from onfi_tools.drawn import SETS
 
 SEED = 1
