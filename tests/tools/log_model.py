@@ -56,15 +56,8 @@ def line_of(text: str) -> Line:
     if at is None or words[at + 1] not in ("read", "program", "erase") or words[at + 2] not in ("cmd", "post"):
         raise ValueError(text)
     number = words[-1] if len(words) in (7, 10) else "-"
-    return Line(
-        number_in(words[0], END - 1),
-        number_in(words[at], 7),
-        words[at + 1],
-        words[at + 2],
-        number_in(words[at + 3], 65535),
-        number_in(words[at + 4], 4095),
-        None if number == "-" else number_in(number, 2**63 - 1),
-    )
+    start, lun, block, page = map(number_in, (words[0], words[at], *words[at + 3 : at + 5]), (END - 1, 7, 65535, 4095))
+    return Line(start, lun, words[at + 1], words[at + 2], block, page, None if number == "-" else number_in(number, 2**63 - 1))
 
 
 @dataclasses.dataclass

@@ -16,8 +16,7 @@ NO_END = (b"script refused 0 NoEnd\n", 1)
 
 
 def case_named(name: str) -> Case:
-    found = [case for case in read_cases([name]) if case.name == name]
-    return found[0]
+    return next(case for case in read_cases([name]) if case.name == name)
 
 
 def answer(case: Case, given: bytes) -> Answer:

@@ -155,15 +155,9 @@ def spans_of(page: Mapping[str, int], sheet: Mapping[str, int]) -> Dict[str, Spa
         "program": cycles * sheet["tWC"] + sheet["tADL"] + size * sheet["tWC"],
         "erase": (2 + page["row_cycles"]) * sheet["tWC"],
     }
-    return {
-        kind: Spans(
-            commands[kind],
-            sheet["tWB"] + sheet[SHORT_BUSY[kind]],
-            sheet["tWB"] + 1000 * page[ARRAY_MICROSECONDS[kind]],
-            output if kind == "read" else status,
-        )
-        for kind in KINDS
-    }
+    gaps = {kind: sheet["tWB"] + sheet[SHORT_BUSY[kind]] for kind in KINDS}
+    arrays = {kind: sheet["tWB"] + 1000 * page[ARRAY_MICROSECONDS[kind]] for kind in KINDS}
+    return {kind: Spans(commands[kind], gaps[kind], arrays[kind], output if kind == "read" else status) for kind in KINDS}
 
 
 def by_strobes(plain: int, before: int, cycle: int, behind: int, size: int) -> int:
