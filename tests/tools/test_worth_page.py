@@ -9,8 +9,7 @@ from typing import Dict, List
 import support
 from onfi_tools.rolling_tables import ROOM, bound_table, gain_table, of_bound, pairs_of, room_table, sector_table, share, spread_table
 from onfi_tools.rolling_use import ALL, OF_SECTORS, Asked, Measured, Rows, all_of, measure, six_of
-from onfi_tools.rolling_ways import BASE, WAYS
-from onfi_tools.rolling_ways import OF_SECTORS as WAYS_OF_SECTORS
+from onfi_tools.rolling_ways import BASE, WAYS, WAYS_OF_SECTORS
 
 BENCH = support.ROOT / "bench"
 PAGE = (support.ROOT / "docs/WORTH.md").read_text()

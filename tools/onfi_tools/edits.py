@@ -137,10 +137,6 @@ def places_of(part: str, text: str) -> List[int]:
     return [it.start() for it in re.finditer(re.escape(part), text)]
 
 
-def line_of(text: str, place: int) -> int:
-    return text.count("\n", 0, place)
-
-
 def head_of(lines: List[str], line: int) -> str:
     """The line that begins the item that a line stands in."""
     return next((it for it in reversed(lines[: line + 1]) if re.match(r"[a-z#]", it) and not it.startswith("#")), "")
@@ -164,12 +160,6 @@ def pairs_in(text: str) -> List[Pair]:
     return pairs
 
 
-def reason_in(text: str) -> str:
-    """What an edit's line 'alone:' says."""
-    found = ALONE.search(text)
-    return found[1].strip() if found else ""
-
-
 def read_edit(file: Path, sources: Dict[str, str]) -> Edit:
     """Reads an edit and finds the functions that it changes; of a constant, those that use it. One that changes a type is tried alone."""
     texts, is_alone, said = dict(sources), False, file.read_text(encoding="utf-8")
@@ -179,7 +169,7 @@ def read_edit(file: Path, sources: Dict[str, str]) -> Edit:
         if texts.get(path, "").count(old) != 1:
             raise BadEdit(f"an old text stands in {path} {texts.get(path, '').count(old)} times")
         # (a text may begin with the blanks of its line)
-        line = line_of(texts[path], texts[path].index(old) + len(old) - len(old.lstrip()))
+        line = texts[path].count("\n", 0, texts[path].index(old) + len(old) - len(old.lstrip()))
         inside = [it for it in functions_of(path, texts[path]) if it.first <= line <= it.last]
         head = head_of(texts[path].split("\n"), line)
         word = re.match(r"(?:pub(?:\([a-z]+\))? )?(?:const|static) (\w+)", head)
@@ -192,7 +182,8 @@ def read_edit(file: Path, sources: Dict[str, str]) -> Edit:
         texts[path] = texts[path].replace(old, new)
     if not keys:
         raise BadEdit("it changes no function, and nothing that a function uses")
-    return Edit(file, pairs, frozenset(keys), is_alone, reason_in(said))
+    alone = ALONE.search(said)
+    return Edit(file, pairs, frozenset(keys), is_alone, alone[1].strip() if alone else "")
 
 
 def needs_twin(edit: Edit, twins: List[Edit]) -> bool:

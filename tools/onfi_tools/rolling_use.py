@@ -11,7 +11,7 @@ from pathlib import Path
 from typing import Dict, Iterable, Iterator, List, NamedTuple, Optional, Sequence, Tuple
 
 from onfi_tools.channel_bound import bounds_of, read_source, requests_for
-from onfi_tools.rolling_ways import WAYS
+from onfi_tools.rolling_ways import PLANS
 
 ROOT = Path(__file__).resolve().parent.parent.parent
 SOURCES = ROOT / "examples/simulator/rolling"
@@ -78,7 +78,7 @@ Key = Tuple[str, ...]
 
 def key_of(of: Configuration, way: str, asked: Asked) -> Key:
     """What a run is, in the columns before its figures. Of a way that doesn't search the limit is 0."""
-    limit = asked.limit if WAYS[way].searches else 0
+    limit = asked.limit if way in PLANS else 0
     return tuple(map(str, (*of, way, asked.requests_of(of), asked.seed, limit)))
 
 

@@ -56,8 +56,7 @@ def picture(phases: List[Phase], lengths: Optional[Mapping[str, Spans]], width: 
     scale = Scale(window.begin, window.end, width)
     rows = {lun: window.of(stretches(own, begin, lengths)) for lun, own in by_lun(phases).items()}
     root = ET.Element("svg", {"xmlns": "http://www.w3.org/2000/svg", "font-family": "sans-serif", "font-size": "11"})
-    title = ET.SubElement(root, "title")
-    title.text = f"Bus schedule, {scale.begin:,} to {scale.end:,} ns"
+    ET.SubElement(root, "title").text = f"Bus schedule, {scale.begin:,} to {scale.end:,} ns"
     add_patterns(root)
     ET.SubElement(root, "rect", {"width": "100%", "height": "100%", "fill": "white"})
     axis = ET.SubElement(root, "g")
@@ -111,8 +110,7 @@ def add_bar(group: ET.Element, scale: Scale, top: int, bar: Stretch) -> None:
     edge = {"stroke": INK, "stroke-width": "0.5"} if width >= 3 else {}
     rect = ET.SubElement(group, "rect", {**size, "fill": FILLS[bar.part], **edge})
     place = "" if bar.block is None else f", block {bar.block}, page {bar.page}"
-    title = ET.SubElement(rect, "title")
-    title.text = f"LUN {bar.lun}, {bar.kind}, {bar.part.value}{place}: {bar.start:,} to {bar.end:,} ns"
+    ET.SubElement(rect, "title").text = f"LUN {bar.lun}, {bar.kind}, {bar.part.value}{place}: {bar.start:,} to {bar.end:,} ns"
 
 
 def middle(scale: Scale, bar: Stretch) -> float:

@@ -30,8 +30,7 @@ from typing import List
 from onfi_tools.bench.runs import ROOT, add_numbers, processor_time
 from onfi_tools.rolling_tables import apart, gain_table, pairs_of, quick_tables, sector_table, whole_tables
 from onfi_tools.rolling_use import ALL, OF_SECTORS, TWELVE, WORKLOADS, Asked, Rows, all_of, build, measure, open_loops, readiness, six_of
-from onfi_tools.rolling_ways import BASE, GREEDY, QUICK, SOME, WAYS
-from onfi_tools.rolling_ways import OF_SECTORS as WAYS_OF_SECTORS
+from onfi_tools.rolling_ways import BASE, GREEDY, QUICK, SOME, WAYS, WAYS_OF_SECTORS
 
 
 def quick(program: Path, ways: List[str], asked: Asked, rows: Rows) -> List[str]:
