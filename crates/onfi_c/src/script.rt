@@ -7,7 +7,7 @@ ghost use Rattle.onfi_script.specs.declared.command.Command.TheVariants.{Check, 
 ghost use Rattle.onfi_c.specs.Answered.{answer_of};
 ghost use Rattle.onfi_c.specs.Script.{GivesAnswer, GivesPlanText, output_of, requests_of as spec_requests_of};
 
-use crate::answer_script::Answered;
+use crate::answered::Answered;
 use crate::room::give;
 use onfi_plan::Limit;
 use onfi_planners::ChosenPlanner;
