@@ -22,7 +22,7 @@ pub(crate) fn low_bits(number: u64, bits: u32) -> u64
 }
 
 /// A number of at most 16 bits moved up.
-pub(crate) fn moved_up(number: u16, bits: u32) -> u64
+pub(crate) fn shift_up(number: u16, bits: u32) -> u64
     requires { bits ≤ 44 }
     ensures value { result ≡ number * 2 ^ bits }
     ensures below { result < 2 ^ 60 }

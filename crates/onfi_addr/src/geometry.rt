@@ -1,7 +1,7 @@
 ghost use Rattle.std.specs.Prelude.{◌≡◌, ◌≢◌, ◌↔◌, ℕ, ◌+◌, ◌*◌, ◌/◌, ◌%◌, ◌^◌, ◌<◌, ◌≤◌, IsTrue, IfErr, IfOk, IfNone, IfSome, slice_index};
 ghost use Rattle.onfi_addr.specs.Bits.{IsBitCount};
 
-use crate::bits::{bits_for, low_bits, moved_up};
+use crate::bits::{bits_for, low_bits, shift_up};
 use crate::fault::GeometryFault;
 use crate::judging::first_fault;
 use crate::place::Place;
@@ -148,8 +148,8 @@ impl Geometry {
         ensures value { result ≡ row_of self.now place.now }
         ensures fits { IsInRange self.now place.now → result < 2 ^ (8 * self.now.row_address_cycles) }
     {
-        let block = moved_up(place.block, self.page_bits);
-        let lun = moved_up(u16::from(place.lun), self.page_bits + self.block_bits);
+        let block = shift_up(place.block, self.page_bits);
+        let lun = shift_up(u16::from(place.lun), self.page_bits + self.block_bits);
         u64::from(place.page) + block + lun
     }
 

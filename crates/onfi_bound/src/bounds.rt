@@ -121,13 +121,13 @@ pub fn trail_by(
     ensures { (p : AnyProblem) → timing.now ≡ p.timing → bus_free ≡ p.bus_free → commands ≡ all_commands p
         → ((operation : AnyOperation) → has_operation operations operation ≡ has_command p operation) → result ≡ trail p }
 {
-    let rest = behind_command(operations.erase, timing.least_rest(Operation::Erase), None);
-    let rest = behind_command(
+    let rest = least_after_command(operations.erase, timing.least_rest(Operation::Erase), None);
+    let rest = least_after_command(
         operations.program,
         timing.least_rest(Operation::Program),
         rest,
     );
-    let rest = behind_command(operations.read, timing.least_rest(Operation::Read), rest)?;
+    let rest = least_after_command(operations.read, timing.least_rest(Operation::Read), rest)?;
     Some(bus_free + commands + rest)
 }
 
@@ -145,7 +145,7 @@ impl Left {
 }
 
 /// The lesser of what comes at least after a command, in ns, where one is left, and what comes after others.
-fn behind_command(left: bool, least: u64, others: Option<u64>) -> Option<u64>
+fn least_after_command(left: bool, least: u64, others: Option<u64>) -> Option<u64>
     requires others { IfSome others (λ rest. rest < 2 ^ 51) }
     requires least { least < 2 ^ 51 }
     ensures value { result ≡ (if left then Some (least_with least others) else others) }

@@ -24,7 +24,7 @@ use std::alloc::Global;
 const NO_LENGTHS: PlainLengths = PlainLengths { sectors: [0; 7] };
 
 /// What each of at most eight LUNs does, all members of what it runs known, and free ones after them.
-fn closed_stages(luns: &[PlainLun]) -> [PlainStage; 8]
+fn close_stages(luns: &[PlainLun]) -> [PlainStage; 8]
     requires { length luns.now ≤ 8 }
     ensures { result ≡ filled 8 no_stage (map spec.closed luns.now) }
 {
@@ -40,7 +40,7 @@ fn closed_stages(luns: &[PlainLun]) -> [PlainStage; 8]
 }
 
 /// What a log has left of which nothing was judged.
-fn plain_begun(lengths: &PlainLengths, channel: &PlainChannel, luns: &[PlainLun]) -> PlainAudit
+fn begin_plain(lengths: &PlainLengths, channel: &PlainChannel, luns: &[PlainLun]) -> PlainAudit
     requires { length luns.now ≤ 8 }
     ensures { result ≡ spec.begun lengths.now channel.now luns.now }
 {
@@ -49,7 +49,7 @@ fn plain_begun(lengths: &PlainLengths, channel: &PlainChannel, luns: &[PlainLun]
         lengths: *lengths,
         accepted: 0,
         luns: luns.len() as u8,
-        lun: closed_stages(luns),
+        lun: close_stages(luns),
     }
 }
 
@@ -74,7 +74,7 @@ fn begin(
     match find_fault(timing, &rules, channel.bus_free, states, &[]) {
         Some(fault) => Status::of_problem(fault).number(),
         None => {
-            *audit = plain_begun(lengths, channel, luns);
+            *audit = begin_plain(lengths, channel, luns);
             0
         }
     }

@@ -12,7 +12,7 @@ use std::alloc::Global;
 const MEMORY: u32 = 4;
 
 /// The answer to a log; nothing where memory ran out.
-fn audited(alloc: Global, all: bool, input: &[u8]) -> Option<Answer>
+fn audit_text(alloc: Global, all: bool, input: &[u8]) -> Option<Answer>
     ensures { IfSome result (λ a. AnswersAudit all input.now (answer_of a)) }
 {
     match audit(alloc, all, input) {
@@ -38,7 +38,7 @@ pub extern "C" fn onfi_text_audit(
 ) -> u32
     ensures { GivesAudit all script.now answer.old answer.new bytes.new result }
 {
-    match audited(alloc, all, script) {
+    match audit_text(alloc, all, script) {
         Some(audited) => give(
             audited.text.as_slice(),
             u32::from(audited.status),

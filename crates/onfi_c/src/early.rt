@@ -6,7 +6,7 @@ ghost use Rattle.onfi_c.specs.Within.{IsNoMemory, IsPlanNear};
 use crate::channel::PlainChannel;
 use crate::lengths::PlainLengths;
 use crate::lun::{PlainLun, PlainWant};
-use crate::planning::{give_told, problem_posed, problem_posed_by};
+use crate::planning::{give_found, pose_problem, pose_problem_by};
 use crate::schedule::PlainWithin;
 use crate::within::find_plan;
 use onfi_early::Weights;
@@ -50,14 +50,14 @@ pub extern "C" fn onfi_plan_early(
 ) -> u32
     ensures { GivesPlan (IsPlanNear slack) IsNoMemory None channel.now luns.now wants.now limit plan.old plan.new certificate.old certificate.new bytes.new result }
 {
-    match problem_posed(alloc, channel, luns, wants, limit) {
-        Ok(problem) => give_told(
+    match pose_problem(alloc, channel, luns, wants, limit) {
+        Ok(problem) => give_found(
             find_plan(alloc, &problem, &weights.weights(), Some(slack), limit),
             plan,
             certificate,
             bytes,
         ),
-        Err(status) => give_told(Err(status), plan, certificate, bytes),
+        Err(status) => give_found(Err(status), plan, certificate, bytes),
     }
 }
 
@@ -81,13 +81,13 @@ pub extern "C" fn onfi_plan_early_by(
 ) -> u32
     ensures { GivesPlan (IsPlanNear slack) IsNoMemory (Some lengths.now) channel.now luns.now wants.now limit plan.old plan.new certificate.old certificate.new bytes.new result }
 {
-    match problem_posed_by(alloc, lengths, channel, luns, wants, limit) {
-        Ok(posed) => give_told(
+    match pose_problem_by(alloc, lengths, channel, luns, wants, limit) {
+        Ok(posed) => give_found(
             find_plan(alloc, &posed, &weights.weights(), Some(slack), limit),
             plan,
             certificate,
             bytes,
         ),
-        Err(refused) => give_told(Err(refused), plan, certificate, bytes),
+        Err(refused) => give_found(Err(refused), plan, certificate, bytes),
     }
 }

@@ -32,7 +32,7 @@ fn from_sector(first: u8, kind: Kind) -> Kind
 }
 
 /// The geometry that is said, if it is one, with sectors of so many bytes.
-fn sectored(said: &PlainGeometry, sector_bytes: u16) -> Option<Geometry>
+fn divide_page(said: &PlainGeometry, sector_bytes: u16) -> Option<Geometry>
     ensures some { IfSome result (λ geometry. spec.IsSectored said.now sector_bytes geometry) }
     ensures none { IfNone result (IsNoGeometry said.now) }
 {
@@ -73,7 +73,7 @@ fn find_output(
     if phase.kind % 32 > 2 {
         return Err(Status::BadKind);
     }
-    let Some(geometry) = sectored(said, sector_bytes) else {
+    let Some(geometry) = divide_page(said, sector_bytes) else {
         return Err(Status::BadGeometry);
     };
     let kind = from_sector(first, kind_of(phase.kind));

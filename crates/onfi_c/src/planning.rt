@@ -20,7 +20,7 @@ use onfi_problem::Problem;
 use std::alloc::{AllocError, Global};
 
 /// The problem that a caller says, which a search of so many nodes is to plan.
-pub fn problem_posed(
+pub fn pose_problem(
     alloc: Global,
     channel: &PlainChannel,
     luns: &[PlainLun],
@@ -38,7 +38,7 @@ pub fn problem_posed(
 }
 
 /// The same with lengths of reads of some sectors.
-pub fn problem_posed_by(
+pub fn pose_problem_by(
     alloc: Global,
     lengths: &PlainLengths,
     channel: &PlainChannel,
@@ -68,7 +68,7 @@ fn give_asked(text: &[u8], room: &mut [u8], bytes: &mut usize) -> u32
 }
 
 /// Gives a plan, and its certificate where there is room for any byte; or says why there is none.
-pub fn give_told<P: Copy>(
+pub fn give_found<P: Copy>(
     told: Result<Told<P>, Status>,
     plan: &mut P,
     certificate: &mut [u8],
@@ -141,8 +141,8 @@ pub extern "C" fn onfi_plan(
 ) -> u32
     ensures { GivesPlan IsPlan IsUnplanned None channel.now luns.now wants.now limit plan.old plan.new certificate.old certificate.new bytes.new result }
 {
-    match problem_posed(alloc, channel, luns, wants, limit) {
-        Ok(problem) => give_told(find_plan(alloc, &problem, limit), plan, certificate, bytes),
-        Err(status) => give_told(Err(status), plan, certificate, bytes),
+    match pose_problem(alloc, channel, luns, wants, limit) {
+        Ok(problem) => give_found(find_plan(alloc, &problem, limit), plan, certificate, bytes),
+        Err(status) => give_found(Err(status), plan, certificate, bytes),
     }
 }

@@ -127,7 +127,7 @@ fn run_late(alloc: Global, flight: &mut Flight, due: &Due, started: u64) -> Resu
     ensures limits { IfOk result (λ _. InLimits flight.new.now) }
     ensures late { InLimits flight.old.now → HasLengths flight.old.now → IfErr result (λ status. (status ≡ Clock) × IsLate flight.old due.now started) }
 {
-    if flight.ran_late(alloc, due, started).is_err() {
+    if flight.run_late(alloc, due, started).is_err() {
         return Err(Status::Clock);
     }
     match fault_of(flight, flight.wants()) {

@@ -9,7 +9,7 @@ ghost use Rattle.onfi_c.specs.Planned.{GivesPlan, IsRecalled, IsUnplanned};
 use crate::channel::PlainChannel;
 use crate::checking::give_verdict;
 use crate::lun::{PlainLun, PlainWant};
-use crate::planning::{give_told, problem_posed};
+use crate::planning::{give_found, pose_problem};
 use crate::refusal::Refusal;
 use crate::schedule::{PlainPlan, PlainSchedule, PlainVerdict};
 use crate::stand::{Stand, read_stand};
@@ -73,9 +73,9 @@ pub extern "C" fn onfi_plan_known(
 ) -> u32
     ensures { GivesPlan IsRecalled IsUnplanned None channel.now luns.now wants.now limit plan.old plan.new certificate.old certificate.new bytes.new result }
 {
-    match problem_posed(alloc, channel, luns, wants, limit) {
-        Ok(problem) => give_told(find_plan(alloc, &problem, limit), plan, certificate, bytes),
-        Err(status) => give_told(Err(status), plan, certificate, bytes),
+    match pose_problem(alloc, channel, luns, wants, limit) {
+        Ok(problem) => give_found(find_plan(alloc, &problem, limit), plan, certificate, bytes),
+        Err(status) => give_found(Err(status), plan, certificate, bytes),
     }
 }
 

@@ -6,7 +6,7 @@ ghost use Rattle.onfi_c.specs.declared.status.Status.TheVariants.{Memory};
 use crate::channel::PlainChannel;
 use crate::lengths::PlainLengths;
 use crate::lun::{PlainLun, PlainWant};
-use crate::planning::give_told;
+use crate::planning::give_found;
 use crate::said::problem_of;
 use crate::said_lengths::problem_by;
 use crate::schedule::PlainWithin;
@@ -68,8 +68,8 @@ pub extern "C" fn onfi_plan_rule(
     ensures { GivesByRule None channel.now luns.now wants.now plan.old plan.new certificate.old certificate.new bytes.new result }
 {
     match problem_of(alloc, channel, luns, wants) {
-        Ok(problem) => give_told(find_plan(alloc, &problem), plan, certificate, bytes),
-        Err(status) => give_told(Err(status), plan, certificate, bytes),
+        Ok(problem) => give_found(find_plan(alloc, &problem), plan, certificate, bytes),
+        Err(status) => give_found(Err(status), plan, certificate, bytes),
     }
 }
 
@@ -91,7 +91,7 @@ pub extern "C" fn onfi_plan_rule_by(
     ensures { GivesByRule (Some lengths.now) channel.now luns.now wants.now plan.old plan.new certificate.old certificate.new bytes.new result }
 {
     match problem_by(alloc, lengths, channel, luns, wants) {
-        Ok(posed) => give_told(find_plan(alloc, &posed), plan, certificate, bytes),
-        Err(refused) => give_told(Err(refused), plan, certificate, bytes),
+        Ok(posed) => give_found(find_plan(alloc, &posed), plan, certificate, bytes),
+        Err(refused) => give_found(Err(refused), plan, certificate, bytes),
     }
 }

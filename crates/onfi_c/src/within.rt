@@ -12,7 +12,7 @@ use crate::channel::PlainChannel;
 use crate::checking::give_verdict;
 use crate::lengths::PlainLengths;
 use crate::lun::{PlainLun, PlainWant};
-use crate::planning::{give_told, problem_posed, problem_posed_by};
+use crate::planning::{give_found, pose_problem, pose_problem_by};
 use crate::refusal::Refusal;
 use crate::schedule::{PlainSchedule, PlainVerdict, PlainWithin};
 use crate::stand::{Stand, read_stand, read_stand_by};
@@ -95,14 +95,14 @@ pub extern "C" fn onfi_plan_within(
 ) -> u32
     ensures { GivesPlan IsPlanWithin IsNoMemory None channel.now luns.now wants.now limit plan.old plan.new certificate.old certificate.new bytes.new result }
 {
-    match problem_posed(alloc, channel, luns, wants, limit) {
-        Ok(problem) => give_told(
+    match pose_problem(alloc, channel, luns, wants, limit) {
+        Ok(problem) => give_found(
             find_plan(alloc, &problem, &EQUAL, None, limit),
             plan,
             certificate,
             bytes,
         ),
-        Err(status) => give_told(Err(status), plan, certificate, bytes),
+        Err(status) => give_found(Err(status), plan, certificate, bytes),
     }
 }
 
@@ -125,14 +125,14 @@ pub extern "C" fn onfi_plan_within_by(
 ) -> u32
     ensures { GivesPlan IsPlanWithin IsNoMemory (Some lengths.now) channel.now luns.now wants.now limit plan.old plan.new certificate.old certificate.new bytes.new result }
 {
-    match problem_posed_by(alloc, lengths, channel, luns, wants, limit) {
-        Ok(posed) => give_told(
+    match pose_problem_by(alloc, lengths, channel, luns, wants, limit) {
+        Ok(posed) => give_found(
             find_plan(alloc, &posed, &EQUAL, None, limit),
             plan,
             certificate,
             bytes,
         ),
-        Err(refused) => give_told(Err(refused), plan, certificate, bytes),
+        Err(refused) => give_found(Err(refused), plan, certificate, bytes),
     }
 }
 

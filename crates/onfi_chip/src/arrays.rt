@@ -54,7 +54,7 @@ impl Arrays {
     }
 
     /// How long an operation really takes, where that is listed.
-    fn listed(&self, lun: u8, number: u64) -> Option<u64>
+    fn listed_length(&self, lun: u8, number: u64) -> Option<u64>
         ensures { result ≡ spec.listed self.now.times.items lun number }
     {
         self.times
@@ -83,7 +83,7 @@ impl Arrays {
             return;
         }
         let started = self.luns[at].started;
-        let real = real_wait(now, spans, self.listed(lun, started));
+        let real = real_wait(now, spans, self.listed_length(lun, started));
         self.luns[at] = LunArray {
             started: started.saturating_add(1),
             real,
@@ -117,17 +117,17 @@ impl Arrays {
     {
         self.luns
             .iter()
-            .filter_map(|array| array.done_behind(now))
+            .filter_map(|array| array.end_after(now))
             .min()
     }
 }
 
 impl LunArray {
     /// When the operation that runs is done by its real time, where that is after `now`.
-    fn done_behind(&self, now: u64) -> Option<u64>
+    fn end_after(&self, now: u64) -> Option<u64>
         ensures { result ≡ spec.done_behind now self.now }
     {
-        self.real?.over_behind(now)
+        self.real?.end_after(now)
     }
 
     /// Whether the operation that runs is done at `now` by its real time.

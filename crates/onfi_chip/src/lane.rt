@@ -53,7 +53,7 @@ impl Lane {
         ensures kept { (store : Stored) → IsLane store self.old → IsLane store self.new }
     {
         if let Lane::Posting(_, wait) = self {
-            *wait = wait.over_by(now);
+            *wait = wait.cut_at(now);
         }
     }
 

@@ -18,7 +18,7 @@ impl Wait {
     }
 
     /// When it is over, where that is after `now` and a moment.
-    pub(crate) fn over_behind(&self, now: u64) -> Option<u64>
+    pub(crate) fn end_after(&self, now: u64) -> Option<u64>
         ensures { result ≡ over_behind now self.now }
     {
         let over = self.from.checked_add(self.length)?;
@@ -26,7 +26,7 @@ impl Wait {
     }
 
     /// The same, but over at `now` at the latest.
-    pub(crate) fn over_by(self, now: u64) -> Wait
+    pub(crate) fn cut_at(self, now: u64) -> Wait
         ensures { over_at result ≡ min (over_at self) now }
     {
         if self.is_over(now) {

@@ -8,7 +8,7 @@ ghost use Rattle.onfi_console.specs.Readers.{AreRead};
 ghost use Rattle.onfi_console.specs.Words as spec;
 
 use crate::commands::app;
-use crate::escaping::escaped;
+use crate::escaping::escape_text;
 use crate::fault::{Untaken, WordsFault};
 use crate::parsed::{MOST, Named, Parsed};
 use clap::error::ErrorKind;
@@ -568,11 +568,11 @@ pub fn read_words<'a>(alloc: Global, words: &'a [String]) -> Result<Parsed<'a>, 
         Err(error) => return Err(fault_of(alloc, words, &error)),
     };
     let Some((name, used)) = matches.subcommand() else {
-        return Err(refused(alloc, ValueFault::NoCommand));
+        return Err(refuse(alloc, ValueFault::NoCommand));
     };
     let named = match read_named(name, used) {
         Ok(named) => named,
-        Err(fault) => return Err(refused(alloc, fault)),
+        Err(fault) => return Err(refuse(alloc, fault)),
     };
     Ok(Parsed {
         named,
@@ -583,7 +583,7 @@ pub fn read_words<'a>(alloc: Global, words: &'a [String]) -> Result<Parsed<'a>, 
 }
 
 /// A refusal that says what is wrong, and how to learn more.
-fn refused(alloc: Global, fault: ValueFault) -> Untaken {
+fn refuse(alloc: Global, fault: ValueFault) -> Untaken {
     let what = fault.text();
     match format!(in alloc; "error: {what}\n\nFor more information, try '--help'.\n") {
         Ok(text) => Untaken::Refused(text),
@@ -595,7 +595,7 @@ fn refused(alloc: Global, fault: ValueFault) -> Untaken {
 fn escape_words(alloc: Global, words: &[String]) -> Result<Vec<String>, AllocError> {
     let mut shown = Vec::new(alloc);
     for word in words {
-        shown.push(escaped(alloc, word.as_str())?)?;
+        shown.push(escape_text(alloc, word.as_str())?)?;
     }
     Ok(shown)
 }

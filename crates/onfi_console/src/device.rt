@@ -11,8 +11,8 @@ ghost use Rattle.onfi_console.specs.Described as spec;
 
 use onfi_param::{ParamPage, read_page};
 use onfi_script::{
-    Answer, Device, Purpose, Refusal, Row, RowStop, ScriptFault, Stop, Why, device_of, has_page,
-    page_bytes, put_number, read_rows, refused,
+    Answer, Device, Purpose, Refusal, Row, RowStop, ScriptFault, Stop, Why, answer_refusal,
+    device_of, has_page, page_bytes, put_number, read_rows,
 };
 use onfi_timing::{Kind, Spans, Timing};
 use std::alloc::{AllocError, Global};
@@ -317,10 +317,10 @@ fn device_in(alloc: Global, rows: &[Row]) -> Result<Result<Device, ScriptFault>,
 }
 
 /// The line that refuses a script as a whole.
-fn refused_for(alloc: Global, fault: ScriptFault) -> Result<Answer, AllocError>
+fn refuse_whole(alloc: Global, fault: ScriptFault) -> Result<Answer, AllocError>
     ensures { IfOk result (λ a. answer_of a ≡ spec_refused (whole fault)) }
 {
-    refused(alloc, Refusal { row: 0, fault })
+    answer_refusal(alloc, Refusal { row: 0, fault })
 }
 
 /// The answer to rows.
@@ -332,7 +332,7 @@ fn answer_rows(alloc: Global, rows: &[Row]) -> Result<Answer, AllocError>
             let device = device_in(alloc, rows)?;
             describe_device(alloc, &page, &device)
         }
-        Err(RowStop::Fault(fault)) => refused_for(alloc, fault),
+        Err(RowStop::Fault(fault)) => refuse_whole(alloc, fault),
         Err(RowStop::Memory) => Err(AllocError),
     }
 }
@@ -347,7 +347,7 @@ pub fn describe(alloc: Global, input: &[u8]) -> Result<Answer, AllocError>
 {
     match read_rows(alloc, Purpose::Problem, input) {
         Ok(rows) => answer_rows(alloc, rows.as_slice()),
-        Err(Stop::Refused(refusal)) => refused(alloc, refusal),
+        Err(Stop::Refused(refusal)) => answer_refusal(alloc, refusal),
         Err(Stop::Memory) => Err(AllocError),
     }
 }

@@ -9,7 +9,7 @@ const MOST: usize = 120;
 ///
 /// # Errors
 /// Where memory was refused.
-pub fn escaped(alloc: Global, text: &str) -> Result<String, AllocError> {
+pub fn escape_text(alloc: Global, text: &str) -> Result<String, AllocError> {
     let mut shown = String::new(alloc);
     for character in text.chars() {
         if character.is_control() {

@@ -23,7 +23,7 @@ fn proof_of(command: Command) -> &'static str {
 ///
 /// # Errors
 /// Where memory was refused.
-pub fn refused_message(
+pub fn describe_refusal(
     alloc: Global,
     command: Command,
     input: &Input<'_>,

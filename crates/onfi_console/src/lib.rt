@@ -26,7 +26,7 @@ mod script;
 
 pub use command_line::{is_quiet, read_words, words};
 pub use device::describe;
-pub use escaping::{escape_bytes, escaped};
+pub use escaping::{escape_bytes, escape_text};
 pub use fault::{Untaken, WordsFault};
 pub use input::Input;
 pub use onfi_planners::{ChosenPlanner, SlackPlanner, Weighing};

@@ -3,7 +3,7 @@ ghost use Rattle.std.specs.Prelude.{◌≡◌, IfOk, None, true};
 
 use crate::cautions::push_cautions;
 use crate::input::Input;
-use crate::judged::refused_message;
+use crate::judged::describe_refusal;
 use crate::parsed::{MOST, Named, Parsed};
 use crate::ran::run_message;
 use crate::script::{purpose_of, script_message};
@@ -61,7 +61,7 @@ fn about(
             Ok(Some(over_message(alloc, command, parsed.limit(), opened)?))
         }
         (Some(why), Named::Problem { command, .. }) => {
-            Ok(Some(refused_message(alloc, command, input, why)?))
+            Ok(Some(describe_refusal(alloc, command, input, why)?))
         }
         _ => Ok(None),
     }

@@ -59,7 +59,7 @@ pub fn improve(
     let aim = Aim::new(alloc, problem, weights, latest)?;
     let walked = walk(alloc, problem, &aim, cost, limit)?;
     if walked.improved {
-        let better = schedule_found(alloc, problem, &walked.best);
+        let better = make_schedule(alloc, problem, &walked.best);
         if cost_of(problem, &better, weights) <= cost && walked.best.finish <= latest {
             plan.planned.schedule = better;
             plan.planned.finish = walked.best.finish;
@@ -123,7 +123,7 @@ fn walk(
 }
 
 // The schedule of a run.
-fn schedule_found(alloc: Global, problem: &Problem, best: &Best) -> Schedule
+fn make_schedule(alloc: Global, problem: &Problem, best: &Best) -> Schedule
     requires run { IsRunOf problem.now best.now }
     requires small { best.now.finish < 2 ^ 62 }
     ensures legal { Legal problem.now.problem result }

@@ -104,7 +104,7 @@ impl Group {
     }
 
     // Its wants and this one, at its plane, whether that is a group or not.
-    pub(crate) fn joined(&self, want: &Want) -> Group
+    pub(crate) fn with_want(&self, want: &Want) -> Group
         requires { length self.now < 4 }
         ensures { result ≡ joined want.now self.now }
     {

@@ -87,7 +87,7 @@ fn grow(
     let before = groups.len();
     groups.push(Group::of(alloc, &[*want]))?;
     for at in 0..before {
-        if let Some(more) = larger(&groups[at], want, rules) {
+        if let Some(more) = join(&groups[at], want, rules) {
             groups.push(more)?;
         }
     }
@@ -95,14 +95,14 @@ fn grow(
 }
 
 // The group and the want as one group, where they are one.
-fn larger(group: &Group, want: &Want, rules: &Rules) -> Option<Group>
+fn join(group: &Group, want: &Want, rules: &Rules) -> Option<Group>
     ensures value { IfSome result (λ more. (more ≡ joined want.now group.now) × IsGroup rules.now more) }
     ensures none { IfNone result (IsGroup rules.now (joined want.now group.now) → ⊥) }
 {
     if group.len() == 4 {
         return None;
     }
-    let more = group.joined(want);
+    let more = group.with_want(want);
     if more.is_group(rules) {
         Some(more)
     } else {

@@ -45,7 +45,7 @@ pub fn find_closing(
     if let Some(closing) = by_bound(problem, loads, e) {
         return Ok(Some(closing));
     }
-    if let Some(closing) = by_known(problem, records) {
+    if let Some(closing) = close_by_known(problem, records) {
         return Ok(Some(closing));
     }
     by_window(problem, loads, e, phases)
@@ -140,7 +140,7 @@ fn window_closing(problem: &Problem, loads: &Loads, window: Window, e: u64) -> O
 }
 
 // A node that is known, to which the same is left.
-fn by_known(problem: &Problem, records: &Records) -> Option<Closing>
+fn close_by_known(problem: &Problem, records: &Records) -> Option<Closing>
     requires rising { Pairs (λ a b. a.id < b.id) problem.now.all }
     requires few { length records.now.nodes.items ≤ most }
     ensures { (e : ℕ) → IfSome result (IsClosing e problem.now records.now.nodes.items) }

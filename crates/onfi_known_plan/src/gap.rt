@@ -68,7 +68,7 @@ pub fn narrow_gap(
     let walked = walk_on(alloc, &mut at, loads, &mut aim, limit)?;
     let opened = walked.opened;
     let Gap { best, shown, .. } = gap;
-    let shown = shown_by_walk(shown, aim.finish, walked);
+    let shown = show_by_walk(shown, aim.finish, walked);
     let best = choose_found(best, aim, half);
     Ok(Gap {
         best,
@@ -78,7 +78,7 @@ pub fn narrow_gap(
 }
 
 // What a walk shows, where it wasn't cut.
-fn shown_by_walk(shown: ShownBefore, finish: u64, walked: Walked) -> ShownBefore
+fn show_by_walk(shown: ShownBefore, finish: u64, walked: Walked) -> ShownBefore
     ensures below { walked.cut ≡ false → result.below ≡ finish }
     ensures tokens { walked.cut ≡ false → result.tokens ≡ walked.tokens }
     ensures kept { walked.cut ≡ true → result ≡ shown }

@@ -57,7 +57,7 @@ pub fn plan_within(alloc: Global, problem: &Problem, limit: Limit) -> Result<Pla
         cut,
         ..
     } = searched;
-    let shown = shown_before(alloc, problem, &loads, best.finish, cut, tokens)?;
+    let shown = show_before(alloc, problem, &loads, best.finish, cut, tokens)?;
     let gap = Gap {
         best,
         shown,
@@ -77,7 +77,7 @@ pub struct ShownBefore {
 
 // What is shown before the finish of the best schedule, in ns: the finish by the tokens of a walk that wasn't cut, else
 // what the bounds show.
-fn shown_before(
+fn show_before(
     alloc: Global,
     problem: &Problem,
     loads: &Loads,
@@ -91,7 +91,7 @@ fn shown_before(
     ensures whole { IfOk result (λ shown. shown.below < finish → cut ≡ true) }
 {
     if cut {
-        return shown_by_bounds(alloc, problem, loads, finish);
+        return show_by_bounds(alloc, problem, loads, finish);
     }
     Ok(ShownBefore {
         below: finish,
@@ -100,7 +100,7 @@ fn shown_before(
 }
 
 // What the bounds of a problem show, up to a finish, in ns.
-fn shown_by_bounds(
+fn show_by_bounds(
     alloc: Global,
     problem: &Problem,
     loads: &Loads,

@@ -7,7 +7,7 @@ const START: u16 = 0x4F4E;
 const POLYNOMIAL: u16 = 0x8005;
 
 /// The register after one bit was shifted out.
-fn shifted(register: u16) -> u16
+fn shift_register(register: u16) -> u16
     ensures { result ≡ reduced (register * 2) }
 {
     if register < 0x8000 {
@@ -18,12 +18,12 @@ fn shifted(register: u16) -> u16
 }
 
 /// The register after a byte.
-fn taken(register: u16, byte: u8) -> u16
+fn take_byte(register: u16, byte: u8) -> u16
     ensures { result ≡ after_byte register byte }
 {
     let mut next = register ^ (u16::from(byte) << 8);
     for _ in 0..8u8 {
-        next = shifted(next);
+        next = shift_register(next);
     }
     next
 }
@@ -38,7 +38,7 @@ pub fn crc16(bytes: &[u8]) -> u16
 {
     let mut register = START;
     for byte in bytes {
-        register = taken(register, *byte);
+        register = take_byte(register, *byte);
     }
     register
 }

@@ -3,7 +3,7 @@ use onfi_early::{Weights, cost_of, slack_of};
 use onfi_group::Rules;
 use onfi_plan::{Limit, PlanFault, Planner};
 use onfi_planners::{
-    ChosenPlanner, EarlyPlanner, Nodes, PlainPlanner, SlackPlanner, Weighing, made_better_within,
+    ChosenPlanner, EarlyPlanner, Nodes, PlainPlanner, SlackPlanner, Weighing, make_better_within,
 };
 use onfi_problem::{LunState, Problem};
 use onfi_request::Want;
@@ -88,7 +88,7 @@ fn a_plan_is_made_better_by_so_many_nodes(rt: HostRuntime) -> Result<(), Fail> {
     };
     let plan = PlainPlanner.plan(alloc, &problem, Limit::of(1000).unwrap())?;
     let nodes = Nodes::of(100).unwrap();
-    let better = made_better_within(alloc, &problem, plan, &equal, 0, nodes)?;
+    let better = make_better_within(alloc, &problem, plan, &equal, 0, nodes)?;
     assert_eq!(rt; cost_of(&problem, &better.planned.schedule, &equal), 1377);
     Ok(())
 }

@@ -48,7 +48,7 @@ pub fn do_in_turn<R: Threads + Sync, X: Send + Drop, F: Fn(usize) -> Result<X, S
     let Ok(shares) = shares else {
         return Err(Stop::Memory);
     };
-    let mut shares = all_done(alloc, shares)?;
+    let mut shares = gather_answers(alloc, shares)?;
     let mut answers = Vec::new(alloc);
     for behind in 0..n {
         let call = n - 1 - behind;
@@ -95,7 +95,7 @@ fn do_share<X: Drop, F: Fn(usize) -> Result<X, Stop>>(
 }
 
 // The answers of all workers; where some were refused a call, what the first of these calls answered.
-fn all_done<X: Drop>(
+fn gather_answers<X: Drop>(
     alloc: Global,
     shares: Vec<Result<Vec<X>, Refusal>>,
 ) -> Result<Vec<Vec<X>>, Stop>

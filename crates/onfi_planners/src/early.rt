@@ -51,7 +51,7 @@ impl<P: Planner> Planner for EarlyPlanner<P> {
     fn plan(&self, alloc: Global, problem: &Problem, limit: Limit) -> Result<Plan, PlanFault> {
         let plan = self.planner.plan(alloc, problem, limit)?;
         let weights = self.weighing.weights_of(problem);
-        let better = made_better_within(alloc, problem, plan, &weights, 0, self.nodes)?;
+        let better = make_better_within(alloc, problem, plan, &weights, 0, self.nodes)?;
         Ok(better)
     }
 }
@@ -99,7 +99,7 @@ impl<P: Planner> Planner for SlackPlanner<P> {
     fn plan(&self, alloc: Global, problem: &Problem, limit: Limit) -> Result<Plan, PlanFault> {
         let plan = self.planner.plan(alloc, problem, limit)?;
         let weights = self.weighing.weights_of(problem);
-        let better = made_better_within(
+        let better = make_better_within(
             alloc,
             problem,
             plan,
@@ -116,7 +116,7 @@ impl<P: Planner> Planner for SlackPlanner<P> {
 ///
 /// # Errors
 /// Only where memory was refused.
-pub fn made_better(
+pub fn make_better(
     alloc: Global,
     problem: &Problem,
     plan: Plan,
@@ -133,14 +133,14 @@ pub fn made_better(
     ensures below { IfOk result (λ better. better.below ≤ better.planned.finish) }
     ensures made { IfOk result (IsMadeFrom plan (slack_of per_mille problem.now.problem.bus_free plan.below)) }
 {
-    made_better_within(alloc, problem, plan, weights, per_mille, Nodes::usual())
+    make_better_within(alloc, problem, plan, weights, per_mille, Nodes::usual())
 }
 
-/// What [`made_better`] does, where so many nodes are opened at most; with 0 the plan stays as it is.
+/// What [`make_better`] does, where so many nodes are opened at most; with 0 the plan stays as it is.
 ///
 /// # Errors
 /// Only where memory was refused.
-pub fn made_better_within(
+pub fn make_better_within(
     alloc: Global,
     problem: &Problem,
     plan: Plan,

@@ -10,7 +10,7 @@ mod remembering;
 mod weighing;
 
 pub use chosen::ChosenPlanner;
-pub use early::{EarlyPlanner, SlackPlanner, made_better, made_better_within};
+pub use early::{EarlyPlanner, SlackPlanner, make_better, make_better_within};
 pub use onfi_early::Nodes;
 pub use onfi_plan::PlainPlanner;
 pub use remembering::RememberingPlanner;

@@ -9,7 +9,8 @@ mod input;
 
 use input::{Unread, read};
 use onfi_console::{
-    Input, Named, Parsed, Untaken, describe, escape_bytes, escaped, is_quiet, message, read_words,
+    Input, Named, Parsed, Untaken, describe, escape_bytes, escape_text, is_quiet, message,
+    read_words,
 };
 use onfi_run::{Limit, run_freely};
 use onfi_script::{Answer, Why, answer_by, audit_by, audit_gaps, write_text};
@@ -117,7 +118,7 @@ fn report_unread(
 /// Says which file can't be read, and why.
 fn report_unread_file(rt: &(impl AllocGlobal + Eprint), name: &str, why: impl Display + Drop) {
     let alloc = rt.alloc();
-    if let Ok(name) = escaped(alloc, name) {
+    if let Ok(name) = escape_text(alloc, name) {
         if let Ok(text) = format!(in alloc; "error: the file '{name}' can't be read: {why}\n") {
             let _ = rt.eprint(text.as_str());
         }

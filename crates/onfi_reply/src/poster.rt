@@ -59,12 +59,12 @@ impl Poster {
         requires { inbox.queue ≡ self.queue }
         ensures { Settled self inbox }
     {
-        let _settled = settled_with(self.seat, inbox.into_seat());
+        let _settled = settle(self.seat, inbox.into_seat());
     }
 }
 
 /// The seat with the inbox taken back.
-fn settled_with(mut seat: PosterSeat, inbox: InboxSeat) -> PosterSeat
+fn settle(mut seat: PosterSeat, inbox: InboxSeat) -> PosterSeat
     requires { inbox.queue ≡ seat.queue }
     ensures { SeatSettled seat.posted inbox.popped }
 {

@@ -32,7 +32,7 @@ pub(crate) struct Lane<C: Channel> {
 
 impl<C: Channel> Lane<C> {
     /// How the channel's thread ends after a turn that came to this, if it does.
-    fn end_behind(&mut self, progress: Progress, all_ended: bool) -> Option<ChannelEnd>
+    fn end_after(&mut self, progress: Progress, all_ended: bool) -> Option<ChannelEnd>
         ensures channel { self.new.channel ≡ self.old.channel }
         ensures ended { self.new.ended ≡ self.old.ended }
         ensures pace { self.new.pace ≡ self.old.pace }
@@ -68,7 +68,7 @@ impl<C: Channel> Lane<C> {
         if matches!(progress, Progress::Quiet) {
             thread::yield_now();
         }
-        self.end_behind(progress, board.have_hosts_ended())
+        self.end_after(progress, board.have_hosts_ended())
     }
 
     /// From when on it may make a turn, in ns of the run's clock; `NO_CLOCK` where there is no such moment.
@@ -95,7 +95,7 @@ impl<C: Channel> Lane<C> {
             return false;
         }
         let progress = self.channel.turn(rt, alloc, now);
-        let end = self.end_behind(progress, false);
+        let end = self.end_after(progress, false);
         self.ended = end.unwrap_or(self.ended);
         let free = self.channel.bus_free();
         let ready = self.channel.next_ready(now);

@@ -23,7 +23,7 @@ use crate::text::report_answer;
 use crate::threads::run_threads;
 use onfi_plan::{Limit, PlainPlanner, Planner};
 use onfi_script::{
-    Answer, EngineFault, InputFault, Purpose, Stop, read_all, refused, write_with_status,
+    Answer, EngineFault, InputFault, Purpose, Stop, answer_refusal, read_all, write_with_status,
 };
 use onfi_seq::Gate;
 use std::alloc::{AllocError, Global};
@@ -130,7 +130,7 @@ fn answer<R: Threads + Wait + Sync, P: Planner + Copy + Send + Drop, G: Gate + S
             let report = run(rt, alloc, planner, limit, clocked, gates, &prepared)?;
             report_answer(alloc, &report)
         }
-        Err(Stop::Refused(refusal)) => refused(alloc, refusal),
+        Err(Stop::Refused(refusal)) => answer_refusal(alloc, refusal),
         Err(Stop::Memory) => Err(AllocError),
     }
 }

@@ -48,7 +48,7 @@ fn within(slot: &Slot, holder: &Slot) -> Breach
 }
 
 // Of two phases that aren't apart, that the one starts while the other holds the bus.
-fn meeting(one: &Slot, other: &Slot) -> Breach
+fn report_overlap(one: &Slot, other: &Slot) -> Breach
     requires { Apart one.now.phase other.now.phase → ⊥ }
     ensures about { condition_of result ≡ no_overlap }
     ensures told { (p : Problem) (s : Schedule) → AreTwo (named p s) (named_slot one.now) (named_slot other.now) → Tells p s result }
@@ -61,7 +61,7 @@ fn meeting(one: &Slot, other: &Slot) -> Breach
 }
 
 // The first of the others that the slot isn't apart from.
-fn met(slot: &Slot, others: &[Slot]) -> Option<Slot>
+fn find_overlap(slot: &Slot, others: &[Slot]) -> Option<Slot>
     ensures none { IsNone result ↔ Each (Apart slot.now.phase) (phases_in others.now) }
     ensures meets { IfSome result (λ other. Apart slot.now.phase other.phase → ⊥) }
     ensures there { IfSome result (Has others.now) }
@@ -81,8 +81,8 @@ pub(crate) fn overlap(slots: &[Slot]) -> Option<Breach>
     ensures told { (p : Problem) (s : Schedule) → named p s ≡ named_in slots.now → IfSome result (Tells p s) }
 {
     for (at, slot) in slots.iter().enumerate() {
-        if let Some(other) = met(slot, &slots[at + 1..]) {
-            return Some(meeting(slot, &other));
+        if let Some(other) = find_overlap(slot, &slots[at + 1..]) {
+            return Some(report_overlap(slot, &other));
         }
     }
     None

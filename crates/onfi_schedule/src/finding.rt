@@ -83,7 +83,7 @@ fn of_shape(problem: &Problem, schedule: &Schedule) -> Option<Breach>
         return breach;
     }
     let wants = waiting_wants(problem);
-    let breach = shape::unknown(wants.as_slice(), groups);
+    let breach = shape::find_unknown(wants.as_slice(), groups);
     if breach.is_some() {
         return breach;
     }

@@ -37,7 +37,7 @@ fn difference(rules: &Rules, first: &Want, member: &Want) -> Option<Difference>
 }
 
 // The first member that differs from the first one in what members share.
-fn mixed(rules: &Rules, members: &[Want]) -> Option<Breach>
+fn find_differing(rules: &Rules, members: &[Want]) -> Option<Breach>
     ensures about { IfSome result (λ b. condition_of b ≡ is_a_group) }
     ensures none { IsNone result → (first : WantValue) → slice_get members.now 0 ≡ Some first → Each (GoesWith rules.now first) members.now }
     ensures told { (p : Problem) (s : Schedule) (starts : List ℕ) → p.rules ≡ rules.now → Has s.groups (record { members = members.now; starts = starts }) → IfSome result (Tells p s) }
@@ -79,7 +79,7 @@ fn fault_of(rules: &Rules, members: &[Want]) -> Breach
     ensures about { condition_of result ≡ is_a_group }
     ensures told { (p : Problem) (s : Schedule) (starts : List ℕ) → p.rules ≡ rules.now → Has s.groups (record { members = members.now; starts = starts }) → length members.now ≤ 4 → (IsGroup rules.now members.now → ⊥) → Tells p s result }
 {
-    if let Some(breach) = mixed(rules, members) {
+    if let Some(breach) = find_differing(rules, members) {
         return breach;
     }
     if let Some(breach) = plane_order(members) {

@@ -111,7 +111,7 @@ pub(crate) fn holds(wants: &[Want], want: &Want) -> bool
     false
 }
 
-fn unknown_among(wants: &[Want], members: &[Want]) -> Option<u64>
+fn find_unknown_among(wants: &[Want], members: &[Want]) -> Option<u64>
     ensures none { IsNone result ↔ Each (Has wants.now) members.now }
     ensures told { IfSome result (λ id. Any (IsUnknown wants.now id) members.now) }
 {
@@ -124,13 +124,13 @@ fn unknown_among(wants: &[Want], members: &[Want]) -> Option<u64>
 }
 
 /// A request of the schedule that the problem doesn't have.
-pub(crate) fn unknown(wants: &[Want], groups: &[Placed]) -> Option<Breach>
+pub(crate) fn find_unknown(wants: &[Want], groups: &[Placed]) -> Option<Breach>
     ensures none { IsNone result ↔ Each (MembersAmong wants.now) groups.now }
     ensures about { IfSome result (λ b. condition_of b ≡ known_requests) }
     ensures told { (p : Problem) (s : Schedule) → p.wants ≡ wants.now → s.groups ≡ groups.now → IfSome result (Tells p s) }
 {
     for group in groups {
-        if let Some(request) = unknown_among(wants, group.members().members()) {
+        if let Some(request) = find_unknown_among(wants, group.members().members()) {
             return Some(Breach::UnknownRequest { request });
         }
     }

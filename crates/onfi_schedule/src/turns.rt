@@ -60,7 +60,7 @@ pub(crate) fn are_before(slots: &[Slot], others: &[Slot]) -> bool
 }
 
 // The one that starts sooner, of two at a time the first.
-fn sooner(first: Slot, slot: &Slot) -> Slot
+fn pick_sooner(first: Slot, slot: &Slot) -> Slot
     ensures one { (result ≡ first) ⊎ (result ≡ slot.now) }
     ensures first { result.phase.start ≤ first.phase.start }
     ensures other { result.phase.start ≤ slot.now.phase.start }
@@ -78,7 +78,7 @@ pub(crate) fn first_slot(slots: &[Slot]) -> Slot
 {
     let mut first = slots.first().copied().unwrap_or_default();
     for slot in slots {
-        first = sooner(first, slot);
+        first = pick_sooner(first, slot);
     }
     first
 }
@@ -171,7 +171,7 @@ pub(crate) fn running_not_over(
 }
 
 // That the one group starts while the other one has their LUN.
-fn taken(own: &[Slot], holder: u64, held: &[Slot]) -> Breach
+fn report_taken_lun(own: &[Slot], holder: u64, held: &[Slot]) -> Breach
     ensures about { condition_of result ≡ takes_turns }
     ensures told { 1 ≤ length own.now → 1 ≤ length held.now → (x y : Named) × StartsFirst (named_in own.now) x × StartsFirst (named_in held.now) y × (result ≡ LunTaken x.name x.phase.lun x.phase.start holder y.phase.start (latest 0 (phases_in held.now))) }
 {
@@ -215,9 +215,9 @@ fn without_turn(timing: &Timing, group: &Placed, other: &Placed) -> Option<Breac
         return None;
     }
     if first_slot(one).phase.start < first_slot(two).phase.start {
-        return Some(taken(two, first_request(group), one));
+        return Some(report_taken_lun(two, first_request(group), one));
     }
-    Some(taken(one, first_request(other), two))
+    Some(report_taken_lun(one, first_request(other), two))
 }
 
 fn without_turn_among(timing: &Timing, group: &Placed, others: &[Placed]) -> Option<Breach>

@@ -3,7 +3,7 @@ ghost use Rattle.std.specs.Prelude.{◌≡◌, ◌++◌, codes, IfOk};
 ghost use Rattle.onfi_script.specs.Answer.{AnswersAlone, AnswersLegal, TellsLegal};
 ghost use Rattle.onfi_script.specs.AnswerOf.{answer_of};
 
-use crate::checking::line_refused;
+use crate::checking::refuse_line;
 use crate::plan_within::{PlanWithin, read_plan_within};
 use crate::text::{Answer, legal_until, refuse};
 use crate::why::Why;
@@ -46,7 +46,7 @@ fn judge_text(alloc: Global, problem: &Problem, text: &[u8]) -> Result<Answer, A
             let schedule = plan.schedule(problem.lun_count());
             report_schedule(alloc, problem, &schedule)
         }
-        Err(number) => line_refused(alloc, number),
+        Err(number) => refuse_line(alloc, number),
     }
 }
 

@@ -12,7 +12,7 @@ use crate::fault::Stop;
 use crate::planning::{plan_by, plan_by_workers, print_plan};
 use crate::reading::{Script, read_script};
 use crate::script::plan_text_of;
-use crate::text::{Answer, refused, report_over};
+use crate::text::{Answer, answer_refusal, report_over};
 use crate::transfer::{EngineFault, InputFault, read_all, write_with_status};
 use onfi_plan::PlanFault;
 use onfi_planners::ChosenPlanner;
@@ -35,7 +35,7 @@ fn plan_script(alloc: Global, options: PlanOptions, script: &Script) -> Result<A
 }
 
 /// The answer that plans a problem, where the plain planner searches by so many workers.
-fn planned_by_workers<T: Threads + Sync>(
+fn answer_plan_by_workers<T: Threads + Sync>(
     rt: &T,
     alloc: Global,
     options: PlanOptions,
@@ -98,7 +98,7 @@ fn answer(alloc: Global, command: Command, input: &[u8]) -> Result<Answer, Alloc
 {
     match read_script(alloc, input) {
         Ok(script) => answer_command(alloc, command, plan_text_of(input), &script),
-        Err(Stop::Refused(refusal)) => refused(alloc, refusal),
+        Err(Stop::Refused(refusal)) => answer_refusal(alloc, refusal),
         Err(Stop::Memory) => Err(AllocError),
     }
 }
@@ -117,8 +117,8 @@ fn answer_by_workers<T: Threads + Sync>(
     ensures { IfOk result (λ a. IsAnswerBy PartsTell (Command.PlanBy options) input.now (answer_of a)) }
 {
     match read_script(alloc, input) {
-        Ok(script) => planned_by_workers(rt, alloc, options, workers, &script),
-        Err(Stop::Refused(refusal)) => refused(alloc, refusal),
+        Ok(script) => answer_plan_by_workers(rt, alloc, options, workers, &script),
+        Err(Stop::Refused(refusal)) => answer_refusal(alloc, refusal),
         Err(Stop::Memory) => Err(AllocError),
     }
 }

@@ -11,12 +11,12 @@ ghost use Rattle.onfi_script.specs.Stop.{IfRefused};
 use crate::fault::{RowStop, ScriptFault, Stop};
 use crate::forms::device_of;
 use crate::purpose::Purpose;
-use crate::reading::{make_problem, read_rows, refused as problem_refused};
+use crate::reading::{make_problem, read_rows, refuse_setup};
 use crate::row::Row;
 use crate::script::plan_text_of;
 use crate::sectors::asks_amiss;
 use crate::setup::{Setup, find_beyond, set_up};
-use crate::text::{Answer, refused};
+use crate::text::{Answer, answer_refusal};
 use arrayvec::ArrayVec;
 use onfi_audit::{AcceptFault, Audit};
 use onfi_flight::Flight;
@@ -43,9 +43,9 @@ fn accept(audit: &mut Audit, want: &Want) -> Result<(), Stop>
     match audit.accept(want.kind, want.lun, want.block, want.page) {
         Ok(_) => Ok(()),
         Err(AcceptFault::NoLun | AcceptFault::ErasePage) => {
-            Err(problem_refused(ProblemFault::BadLun))
+            Err(refuse_setup(ProblemFault::BadLun))
         }
-        Err(AcceptFault::NoLengths) => Err(problem_refused(ProblemFault::NoLengths)),
+        Err(AcceptFault::NoLengths) => Err(refuse_setup(ProblemFault::NoLengths)),
         Err(AcceptFault::Full | AcceptFault::Memory) => Err(Stop::Memory),
     }
 }
@@ -87,7 +87,7 @@ fn begin_audit(alloc: Global, rows: &[Row], setup: Setup) -> Result<(Audit, Requ
     let mut audit = open_audit(alloc, &problem);
     accept_all(&mut audit, wants.as_slice())?;
     if asks_amiss(rows, wants.as_slice()) {
-        return Err(problem_refused(ProblemFault::NoLengths));
+        return Err(refuse_setup(ProblemFault::NoLengths));
     }
     Ok((audit, requests_of(wants.as_slice())))
 }
@@ -166,7 +166,7 @@ pub fn audit_by(alloc: Global, options: AuditOptions, input: &[u8]) -> Result<An
             let answer = judge_log_by(alloc, audit, requests, readies, options.all, log)?;
             Ok(Answer::of(answer.text, answer.status))
         }
-        Err(Stop::Refused(refusal)) => refused(alloc, refusal),
+        Err(Stop::Refused(refusal)) => answer_refusal(alloc, refusal),
         Err(Stop::Memory) => Err(AllocError),
     }
 }
@@ -207,7 +207,7 @@ pub fn audit_gaps(alloc: Global, options: GapOptions, input: &[u8]) -> Result<An
 {
     match read_begun(alloc, input) {
         Ok((audit, requests)) => measure_log(alloc, options, audit, requests, plan_text_of(input)),
-        Err(Stop::Refused(refusal)) => refused(alloc, refusal),
+        Err(Stop::Refused(refusal)) => answer_refusal(alloc, refusal),
         Err(Stop::Memory) => Err(AllocError),
     }
 }

@@ -18,7 +18,7 @@ use onfi_schedule::{Schedule, find_breach, finish};
 use std::alloc::{AllocError, Global};
 
 /// The answer to a plan text of which that line, counted from 1, is the first wrong one.
-pub fn line_refused(alloc: Global, number: u64) -> Result<Answer, AllocError>
+pub fn refuse_line(alloc: Global, number: u64) -> Result<Answer, AllocError>
     ensures { IfOk result (λ a. answer_of a ≡ spec_refused_at (codes "plan") number) }
 {
     refuse(alloc, Why::Line(number))
@@ -132,7 +132,7 @@ fn checked_optimal(
                 judge_plain(alloc, problem, &schedule, ends, certificate)
             }
         }
-        Err(number) => line_refused(alloc, number),
+        Err(number) => refuse_line(alloc, number),
     }
 }
 
@@ -153,7 +153,7 @@ fn check_within(alloc: Global, problem: &Problem, text: &[u8]) -> Result<Answer,
             let schedule = plan.schedule(problem.lun_count());
             judge_within(alloc, problem, &schedule, ends, below, certificate)
         }
-        Err(number) => line_refused(alloc, number),
+        Err(number) => refuse_line(alloc, number),
     }
 }
 

@@ -64,6 +64,6 @@ pub use replans::Replans;
 pub use row::{Row, Subject};
 pub use script::{after_end, script_len};
 pub use setup::{Setup, is_strict, set_up};
-pub use text::{Answer, put_number, refuse, refused};
+pub use text::{Answer, answer_refusal, put_number, refuse};
 pub use transfer::{EngineFault, InputFault, read_all, write_text, write_with_status};
 pub use why::Why;

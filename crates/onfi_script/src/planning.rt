@@ -13,7 +13,7 @@ use crate::text::{Answer, plan_text};
 use onfi_early::Weights;
 use onfi_plan::{Limit, Plan, PlanFault, Planner, certificate_text};
 use onfi_planner::{NoGate, Planned, plan_split};
-use onfi_planners::{ChosenPlanner, made_better};
+use onfi_planners::{ChosenPlanner, make_better};
 use onfi_problem::Problem;
 use onfi_schedule::{Schedule, trace, trace_requests};
 use std::alloc::{AllocError, Global};
@@ -88,7 +88,7 @@ fn improve_plan(
 {
     match options.better {
         None => Ok(plan),
-        Some(per_mille) => made_better(alloc, problem, plan, weights, per_mille),
+        Some(per_mille) => make_better(alloc, problem, plan, weights, per_mille),
     }
 }
 

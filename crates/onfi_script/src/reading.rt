@@ -46,7 +46,7 @@ pub fn read_rows(alloc: Global, purpose: Purpose, input: &[u8]) -> Result<Vec<Ro
 }
 
 /// What was set up is refused.
-pub(crate) fn refused(fault: ProblemFault) -> Stop
+pub(crate) fn refuse_setup(fault: ProblemFault) -> Stop
     ensures { result ≡ Refused (whole (of.Problem fault)) }
 {
     RowStop::Fault(ScriptFault::Problem(fault)).at(0)
@@ -67,15 +67,15 @@ pub(crate) fn make_problem(alloc: Global, rows: &[Row], setup: &Setup) -> Result
     );
     let is_amiss = asks_amiss(rows, setup.wants.as_slice());
     match made {
-        Ok(_) | Err(ProblemFault::Clock) if is_amiss => Err(refused(ProblemFault::NoLengths)),
+        Ok(_) | Err(ProblemFault::Clock) if is_amiss => Err(refuse_setup(ProblemFault::NoLengths)),
         Ok(problem) => {
             problem.in_limits();
             Ok(problem)
         }
-        Err(ProblemFault::TooMany) => Err(refused(ProblemFault::TooMany)),
-        Err(ProblemFault::BadLun) => Err(refused(ProblemFault::BadLun)),
-        Err(ProblemFault::NoLengths) => Err(refused(ProblemFault::NoLengths)),
-        Err(ProblemFault::Clock) => Err(refused(ProblemFault::Clock)),
+        Err(ProblemFault::TooMany) => Err(refuse_setup(ProblemFault::TooMany)),
+        Err(ProblemFault::BadLun) => Err(refuse_setup(ProblemFault::BadLun)),
+        Err(ProblemFault::NoLengths) => Err(refuse_setup(ProblemFault::NoLengths)),
+        Err(ProblemFault::Clock) => Err(refuse_setup(ProblemFault::Clock)),
         Err(ProblemFault::Memory) => Err(Stop::Memory),
     }
 }

@@ -36,7 +36,7 @@ impl Answer {
 }
 
 /// The line that refuses a script.
-fn script_refused(alloc: Global, refusal: Refusal) -> Result<Answer, AllocError>
+fn refuse_script(alloc: Global, refusal: Refusal) -> Result<Answer, AllocError>
     ensures { IfOk result (λ a. answer_of a ≡ spec.refused refusal) }
 {
     let row = refusal.row;
@@ -54,7 +54,7 @@ fn line(alloc: Global, word: &str, number: u64, status: u8) -> Result<Answer, Al
 }
 
 /// The line that refuses for this reason.
-fn refused_for(alloc: Global, reason: &str) -> Result<Answer, AllocError>
+fn refuse_for(alloc: Global, reason: &str) -> Result<Answer, AllocError>
     ensures { IfOk result (λ a. answer_of a ≡ spec.refused_for reason.now) }
 {
     let text = format!(in alloc; "refused {reason}\n")?;
@@ -62,7 +62,7 @@ fn refused_for(alloc: Global, reason: &str) -> Result<Answer, AllocError>
 }
 
 /// The line that refuses for this reason, with a place.
-fn refused_at(alloc: Global, reason: &str, place: u64) -> Result<Answer, AllocError>
+fn refuse_at(alloc: Global, reason: &str, place: u64) -> Result<Answer, AllocError>
     ensures { IfOk result (λ a. answer_of a ≡ spec.refused_at reason.now place) }
 {
     let text = format!(in alloc; "refused {reason} {place}\n")?;
@@ -92,73 +92,73 @@ pub fn legal_until(alloc: Global, ends: u64) -> Result<Answer, AllocError>
 }
 
 /// The line that refuses the tokens of a certificate; none where memory was refused.
-fn cert_refused(alloc: Global, fault: CertFault) -> Result<Answer, AllocError>
+fn refuse_cert(alloc: Global, fault: CertFault) -> Result<Answer, AllocError>
     ensures { IfOk result (λ a. answer_of a ≡ spec.cert_refused fault) }
 {
     match fault {
-        CertFault::Illegal => refused_for(alloc, "1 Illegal"),
-        CertFault::Short => refused_for(alloc, "2 Short"),
-        CertFault::Trailing(place) => refused_at(alloc, "3 Trailing", place as u64),
-        CertFault::Width(place) => refused_at(alloc, "4 Width", place as u64),
-        CertFault::BoundLow(place) => refused_at(alloc, "5 BoundLow", place as u64),
-        CertFault::YieldNoFit(place) => refused_at(alloc, "6 YieldNoFit", place as u64),
-        CertFault::YieldLoop(place) => refused_at(alloc, "7 YieldLoop", place as u64),
-        CertFault::NotEnd(place) => refused_at(alloc, "8 NotEnd", place as u64),
+        CertFault::Illegal => refuse_for(alloc, "1 Illegal"),
+        CertFault::Short => refuse_for(alloc, "2 Short"),
+        CertFault::Trailing(place) => refuse_at(alloc, "3 Trailing", place as u64),
+        CertFault::Width(place) => refuse_at(alloc, "4 Width", place as u64),
+        CertFault::BoundLow(place) => refuse_at(alloc, "5 BoundLow", place as u64),
+        CertFault::YieldNoFit(place) => refuse_at(alloc, "6 YieldNoFit", place as u64),
+        CertFault::YieldLoop(place) => refuse_at(alloc, "7 YieldLoop", place as u64),
+        CertFault::NotEnd(place) => refuse_at(alloc, "8 NotEnd", place as u64),
         CertFault::Memory => Err(AllocError),
     }
 }
 
 /// The line that refuses a text as no certificate; none where memory was refused.
-fn cert_text_refused(alloc: Global, fault: CertTextFault) -> Result<Answer, AllocError>
+fn refuse_cert_text(alloc: Global, fault: CertTextFault) -> Result<Answer, AllocError>
     ensures { IfOk result (λ a. answer_of a ≡ spec.cert_text_refused fault) }
 {
     match fault {
-        CertTextFault::Header => refused_for(alloc, "cert Header"),
-        CertTextFault::BadToken(place) => refused_at(alloc, "cert BadToken", u64::from(place)),
-        CertTextFault::TooLong => refused_for(alloc, "cert TooLong"),
+        CertTextFault::Header => refuse_for(alloc, "cert Header"),
+        CertTextFault::BadToken(place) => refuse_at(alloc, "cert BadToken", u64::from(place)),
+        CertTextFault::TooLong => refuse_for(alloc, "cert TooLong"),
         CertTextFault::Memory => Err(AllocError),
     }
 }
 
 /// The line that refuses the text of a certificate; none where memory was refused.
-fn text_refused(alloc: Global, fault: TextFault) -> Result<Answer, AllocError>
+fn refuse_text(alloc: Global, fault: TextFault) -> Result<Answer, AllocError>
     ensures { IfOk result (λ a. answer_of a ≡ spec.text_refused fault) }
 {
     match fault {
-        TextFault::Text(fault) => cert_text_refused(alloc, fault),
-        TextFault::Cert(fault) => cert_refused(alloc, fault),
-        TextFault::Option => refused_for(alloc, "cert Option"),
+        TextFault::Text(fault) => refuse_cert_text(alloc, fault),
+        TextFault::Cert(fault) => refuse_cert(alloc, fault),
+        TextFault::Option => refuse_for(alloc, "cert Option"),
     }
 }
 
 /// The line that refuses a schedule or the tokens of a certificate that remembers states; none where memory was refused.
-fn known_refused(alloc: Global, fault: KnownFault) -> Result<Answer, AllocError>
+fn refuse_known(alloc: Global, fault: KnownFault) -> Result<Answer, AllocError>
     ensures { IfOk result (λ a. answer_of a ≡ spec.known_refused fault) }
 {
     match fault {
-        KnownFault::Cert(fault) => cert_refused(alloc, fault),
-        KnownFault::Unknown(place) => refused_at(alloc, "10 Unknown", place as u64),
-        KnownFault::OtherLeft(place) => refused_at(alloc, "11 OtherLeft", place as u64),
-        KnownFault::Sooner(place) => refused_at(alloc, "12 Sooner", place as u64),
-        KnownFault::TooMany(place) => refused_at(alloc, "13 TooMany", place as u64),
-        KnownFault::Above => refused_for(alloc, "below"),
+        KnownFault::Cert(fault) => refuse_cert(alloc, fault),
+        KnownFault::Unknown(place) => refuse_at(alloc, "10 Unknown", place as u64),
+        KnownFault::OtherLeft(place) => refuse_at(alloc, "11 OtherLeft", place as u64),
+        KnownFault::Sooner(place) => refuse_at(alloc, "12 Sooner", place as u64),
+        KnownFault::TooMany(place) => refuse_at(alloc, "13 TooMany", place as u64),
+        KnownFault::Above => refuse_for(alloc, "below"),
     }
 }
 
 /// The line that refuses a schedule or the text of a certificate that remembers states; none where memory was refused.
-fn known_text_refused(
+fn refuse_known_text(
     alloc: Global,
     fault: TextFault<KnownFault, KnownTextFault>,
 ) -> Result<Answer, AllocError>
     ensures { IfOk result (λ a. answer_of a ≡ spec.known_text_refused fault) }
 {
     match fault {
-        TextFault::Text(KnownTextFault::Header) => refused_for(alloc, "cert Header"),
+        TextFault::Text(KnownTextFault::Header) => refuse_for(alloc, "cert Header"),
         TextFault::Text(KnownTextFault::BadToken(place)) => {
-            refused_at(alloc, "cert BadToken", place as u64)
+            refuse_at(alloc, "cert BadToken", place as u64)
         }
-        TextFault::Cert(fault) => known_refused(alloc, fault),
-        TextFault::Option => text_refused(alloc, TextFault::Option),
+        TextFault::Cert(fault) => refuse_known(alloc, fault),
+        TextFault::Option => refuse_text(alloc, TextFault::Option),
     }
 }
 
@@ -167,14 +167,14 @@ fn line_of(alloc: Global, why: Why) -> Result<Answer, AllocError>
     ensures { IfOk result (λ a. answer_of a ≡ spec.refused_by why) }
 {
     match why {
-        Why::Script(refusal) => script_refused(alloc, refusal),
+        Why::Script(refusal) => refuse_script(alloc, refusal),
         Why::Over(opened) => line(alloc, "over", u64::from(opened), 6),
-        Why::Line(number) => refused_at(alloc, "plan", number),
-        Why::Illegal(_) => refused_for(alloc, "1 Illegal"),
-        Why::Finish { .. } => refused_for(alloc, "finish"),
-        Why::Below { .. } => refused_for(alloc, "below"),
-        Why::Cert(fault) => text_refused(alloc, fault),
-        Why::Known(fault) => known_text_refused(alloc, fault),
+        Why::Line(number) => refuse_at(alloc, "plan", number),
+        Why::Illegal(_) => refuse_for(alloc, "1 Illegal"),
+        Why::Finish { .. } => refuse_for(alloc, "finish"),
+        Why::Below { .. } => refuse_for(alloc, "below"),
+        Why::Cert(fault) => refuse_text(alloc, fault),
+        Why::Known(fault) => refuse_known_text(alloc, fault),
         Why::Memory => Err(AllocError),
     }
 }
@@ -196,7 +196,7 @@ pub fn refuse(alloc: Global, why: Why) -> Result<Answer, AllocError>
 ///
 /// # Errors
 /// Where memory was refused.
-pub fn refused(alloc: Global, refusal: Refusal) -> Result<Answer, AllocError>
+pub fn answer_refusal(alloc: Global, refusal: Refusal) -> Result<Answer, AllocError>
     ensures { IfOk result (λ a. answer_of a ≡ spec.refused refusal) }
 {
     refuse(alloc, Why::Script(refusal))

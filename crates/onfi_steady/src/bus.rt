@@ -51,13 +51,13 @@ pub fn kept_from(timing: &Timing, from: u64, luns: &[LunState]) -> Option<u64>
 {
     let mut first = None;
     for state in luns {
-        first = kept_with(first, timing, from, state);
+        first = earliest_kept(first, timing, from, state);
     }
     first
 }
 
 // .. where one LUN more is looked at.
-fn kept_with(known: Option<u64>, timing: &Timing, from: u64, state: &LunState) -> Option<u64>
+fn earliest_kept(known: Option<u64>, timing: &Timing, from: u64, state: &LunState) -> Option<u64>
     ensures { (luns : List AnyState) (books : Books) → result ≡ kept_with (channel timing.now from luns books) known state.now }
 {
     if keeps_bus(timing, from, state) {

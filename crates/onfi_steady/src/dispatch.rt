@@ -6,7 +6,7 @@ ghost use Rattle.onfi_steady.specs.Rule.{IsRuleRun};
 ghost use Rattle.onfi_steady.specs.Choosing.{AreGiven};
 
 use crate::choosing::next_step;
-use crate::given::{Given, all_given, given_by};
+use crate::given::{Given, give_all, given_by};
 use onfi_planner::{Begun, Best};
 use onfi_problem::Problem;
 use std::alloc::{AllocError, Global};
@@ -23,7 +23,7 @@ pub fn run_by_rule(alloc: Global, problem: &Problem) -> Result<Best, AllocError>
     ensures small { IfOk result (λ best. best.finish < 2 ^ 62) }
 {
     let mut left = problem.copy(alloc)?;
-    let mut given = all_given(&left);
+    let mut given = give_all(&left);
     let mut steps = Vec::new(alloc);
     let finish = rule_run(&mut left, &mut given, &mut steps)?;
     Ok(Best { finish, steps })

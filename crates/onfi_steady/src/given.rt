@@ -39,7 +39,7 @@ impl Given {
 }
 
 /// What each LUN gives.
-pub fn all_given(problem: &Problem) -> [Option<Given>; 8]
+pub fn give_all(problem: &Problem) -> [Option<Given>; 8]
     ensures given { AreGiven problem.now result }
     ensures length { length result ≡ 8 }
 {

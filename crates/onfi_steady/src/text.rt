@@ -70,12 +70,12 @@ fn text_below(
     requires accepted { AcceptsTokens tokens.now problem.now.problem below }
     ensures { IfOk result (λ text. ShowsBelow (Remembering text.items) problem.now.all problem.now.problem below) }
 {
-    let token = remembered(tokens[0]);
+    let token = convert_token(tokens[0]);
     text_of(alloc, problem.rules().strict, &[token])
 }
 
 // The same token of a certificate that remembers states.
-fn remembered(token: PlainToken) -> Token
+fn convert_token(token: PlainToken) -> Token
     ensures { result ≡ of_plain token }
 {
     match token {

@@ -46,7 +46,7 @@ impl Parameter {
     }
 
     /// The parameter of that name, or None.
-    pub fn named(name: &[u8]) -> Option<Parameter>
+    pub fn from_name(name: &[u8]) -> Option<Parameter>
         ensures { result ≡ parameter_named name.now }
     {
         if name == b"tWC".as_slice() {

@@ -84,7 +84,7 @@ impl Sheet {
     pub fn put(&mut self, row: usize, name: &[u8], value: &[u8]) -> Result<(), SheetFault>
         ensures { MatchResult result (λ _. with_row self.old row name.now value.now ≡ Ok self.new) (λ fault. (with_row self.old row name.now value.now ≡ Err fault) × (self.new ≡ self.old)) }
     {
-        let Some(parameter) = Parameter::named(name) else {
+        let Some(parameter) = Parameter::from_name(name) else {
             return Err(SheetFault::Unknown(row));
         };
         if self.get(parameter).is_some() {

@@ -43,7 +43,7 @@ impl Strobe {
     }
 
     /// The parameter of that name, or None.
-    pub fn named(name: &[u8]) -> Option<Strobe>
+    pub fn from_name(name: &[u8]) -> Option<Strobe>
         ensures { result ≡ strobe_named name.now }
     {
         if name == b"tRPRE".as_slice() {

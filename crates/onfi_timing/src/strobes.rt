@@ -81,7 +81,7 @@ impl Strobes {
     pub fn put(&mut self, row: usize, name: &[u8], value: &[u8]) -> Result<(), StrobeFault>
         ensures { MatchResult result (λ _. with_strobe_row self.old row name.now value.now ≡ Ok self.new) (λ fault. (with_strobe_row self.old row name.now value.now ≡ Err fault) × (self.new ≡ self.old)) }
     {
-        let Some(strobe) = Strobe::named(name) else {
+        let Some(strobe) = Strobe::from_name(name) else {
             return Err(StrobeFault::Unknown(row));
         };
         if self.get(strobe).is_some() {

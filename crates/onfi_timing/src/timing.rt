@@ -39,13 +39,13 @@ fn least_of(post: u64, sectors: &[Option<Spans>; 7]) -> u64
 {
     let mut least = post;
     for spans in sectors {
-        least = lesser_of(least, spans);
+        least = lower_post(least, spans);
     }
     least
 }
 
 // The lesser of a post and the one that is stated.
-fn lesser_of(post: u64, spans: &Option<Spans>) -> u64
+fn lower_post(post: u64, spans: &Option<Spans>) -> u64
     ensures { result ≡ lesser_post post spans.now }
 {
     match spans {
@@ -162,12 +162,12 @@ impl Timing {
     {
         match kind.sectors() {
             0 => true,
-            count => self.stated(count).is_some(),
+            count => self.spans_of_sectors(count).is_some(),
         }
     }
 
     // What is stated of reads of so many sectors.
-    fn stated(&self, count: u8) -> Option<Spans>
+    fn spans_of_sectors(&self, count: u8) -> Option<Spans>
         requires { 1 ≤ count }
         ensures { result ≡ stated self.now count }
     {
@@ -181,7 +181,7 @@ impl Timing {
         match kind {
             Kind::Read => self.read,
             Kind::ReadSectors { count: 0, .. } => self.read,
-            Kind::ReadSectors { count, .. } => self.stated(count).unwrap_or(self.read),
+            Kind::ReadSectors { count, .. } => self.spans_of_sectors(count).unwrap_or(self.read),
             Kind::Program => self.program,
             Kind::Erase => self.erase,
         }

@@ -4,7 +4,7 @@ ghost use Rattle.onfi_chip.specs.SimChip.{chip_in};
 ghost use Rattle.onfi_core.specs.Queues.{IsFresh};
 
 use crate::ended::Ended;
-use crate::rows::{Row, Word, capped_u8, capped_u16};
+use crate::rows::{Row, Word, cap_u8, cap_u16};
 use crate::saying::{say_outcome, say_plan};
 use crate::stage::Stage;
 use onfi_addr::Place;
@@ -21,20 +21,20 @@ use std::marker::Model;
 pub(crate) fn request_in(alloc: Global, kind: Kind, row: &Row) -> Result<Request, AllocError> {
     let [lun, block, page, byte, ..] = row.numbers;
     let place = Place {
-        lun: capped_u8(lun),
-        block: capped_u16(block),
-        page: capped_u16(page),
+        lun: cap_u8(lun),
+        block: cap_u16(block),
+        page: cap_u16(page),
     };
-    request_of(alloc, &sample_geometry(), kind, place, capped_u8(byte))
+    request_of(alloc, &sample_geometry(), kind, place, cap_u8(byte))
 }
 
 /// The event of a row; none where it has none.
 fn event_of(alloc: Global, row: &Row) -> Result<Option<Event>, AllocError> {
-    let first = capped_u8(row.numbers[0]);
+    let first = cap_u8(row.numbers[0]);
     Ok(Some(match row.word {
         Word::Submit(kind) => Event::Submit {
-            host: capped_u8(row.numbers[4]),
-            channel: capped_u8(row.numbers[5]),
+            host: cap_u8(row.numbers[4]),
+            channel: cap_u8(row.numbers[5]),
             request: request_in(alloc, kind, row)?,
         },
         Word::Accept => Event::Accept { channel: first },

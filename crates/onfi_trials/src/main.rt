@@ -59,7 +59,7 @@ fn try_calls<R: Input + Print + Threads + Wait + Sync>(
     }
 }
 
-fn tried(
+fn try_named(
     rt: &(impl std::rt::Env + AllocGlobal + Input + Print + Threads + Wait + Sync),
 ) -> Result<(), Ended> {
     let name = name_of(rt)?;
@@ -67,7 +67,7 @@ fn tried(
 }
 
 fn main(rt: HostRuntime) -> ExitCode {
-    match tried(&rt) {
+    match try_named(&rt) {
         Ok(()) => ExitCode::SUCCESS,
         Err(Ended::Memory) => {
             let _ = rt.println("memory");

@@ -130,7 +130,7 @@ fn reads_apart(alloc: Global) -> Result<Problem, Ended> {
 }
 
 /// A data output of LUN 0, a status of LUN 1 that is ready later, and an erase after it.
-fn erase_behind(alloc: Global) -> Result<Problem, Ended> {
+fn erase_last(alloc: Global) -> Result<Problem, Ended> {
     let luns = [
         running(alloc, want(0, Kind::Read, 0, 0), 0),
         running(alloc, want(0, Kind::Erase, 1, 0), 50),
@@ -148,14 +148,14 @@ pub(crate) fn plan_apart(rt: &impl Print, alloc: Global) -> Result<(), Ended> {
 
 /// Plans beside running groups, one node too few first.
 pub(crate) fn plan_running(rt: &impl Print, alloc: Global) -> Result<(), Ended> {
-    let problem = erase_behind(alloc)?;
+    let problem = erase_last(alloc)?;
     plan_within(rt, alloc, &problem, 6)?;
     plan_within(rt, alloc, &problem, 7)
 }
 
 /// Plans of both by two workers, of the first with one node too few for its parts first.
 pub(crate) fn plan_in_parts<R: Print + Threads + Sync>(rt: &R, alloc: Global) -> Result<(), Ended> {
-    let (apart, behind) = (reads_apart(alloc)?, erase_behind(alloc)?);
+    let (apart, behind) = (reads_apart(alloc)?, erase_last(alloc)?);
     split_within(rt, alloc, &apart, 3)?;
     split_within(rt, alloc, &apart, 4)?;
     split_within(rt, alloc, &behind, 1_048_576)
@@ -163,7 +163,7 @@ pub(crate) fn plan_in_parts<R: Print + Threads + Sync>(rt: &R, alloc: Global) ->
 
 /// Plans of both with searches that remember states.
 pub(crate) fn plan_remembering(rt: &impl Print, alloc: Global) -> Result<(), Ended> {
-    let (apart, behind) = (reads_apart(alloc)?, erase_behind(alloc)?);
+    let (apart, behind) = (reads_apart(alloc)?, erase_last(alloc)?);
     recall(rt, alloc, &apart)?;
     recall(rt, alloc, &behind)
 }

@@ -115,8 +115,8 @@ impl Word {
     fn with_sectors(self, numbers: &[u64; 7]) -> Word {
         match self {
             Word::Submit(Kind::ReadSectors { .. }) => Word::Submit(Kind::ReadSectors {
-                first: capped_u8(numbers[3]),
-                count: capped_u8(numbers[6]),
+                first: cap_u8(numbers[3]),
+                count: cap_u8(numbers[6]),
             }),
             word => word,
         }
@@ -131,15 +131,15 @@ pub(crate) struct Row {
 }
 
 /// The number, or the greatest of its type where it is greater.
-pub(crate) fn capped_u8(number: u64) -> u8 {
+pub(crate) fn cap_u8(number: u64) -> u8 {
     number.min(255) as u8
 }
 
-pub(crate) fn capped_u16(number: u64) -> u16 {
+pub(crate) fn cap_u16(number: u64) -> u16 {
     number.min(65_535) as u16
 }
 
-pub(crate) fn capped_u32(number: u64) -> u32 {
+pub(crate) fn cap_u32(number: u64) -> u32 {
     number.min(4_294_967_295) as u32
 }
 

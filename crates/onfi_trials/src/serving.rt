@@ -2,7 +2,7 @@ ghost use Rattle.std.specs.Prelude.{◌≡◌, ◌<◌};
 
 use crate::channel::request_in;
 use crate::ended::Ended;
-use crate::rows::{Row, Word, capped_u8};
+use crate::rows::{Row, Word, cap_u8};
 use crate::saying::{say_plan, say_reply};
 use crate::stage::Stage;
 use onfi_chip::SimChip;
@@ -344,7 +344,7 @@ pub(crate) fn serve<R: Print + Wait>(rt: &R, alloc: Global, rows: &[Row]) -> Res
     let (Some(open), Some(rest)) = (rows.get(place), rows.get(place.saturating_add(1)..)) else {
         return Err(Ended::NoTrial);
     };
-    let channel = capped_u8(open.numbers[6]);
+    let channel = cap_u8(open.numbers[6]);
     let setup = match stage.setup(open) {
         Ok(setup) if setup.hosts == 4 && channel < setup.channels => setup,
         _ => return Err(Ended::NoTrial),

@@ -5,7 +5,7 @@ ghost use Rattle.onfi_chip.specs.SimChip.{chip_in};
 ghost use Rattle.onfi_core.specs.Queues.{IsFresh};
 
 use crate::ended::Ended;
-use crate::rows::{Row, Word, capped_u8, capped_u16, capped_u32};
+use crate::rows::{Row, Word, cap_u8, cap_u16, cap_u32};
 use onfi_addr::Geometry;
 use onfi_chip::{ArrayTime, SimChip};
 use onfi_core::{Choice, Setup, SetupFault};
@@ -68,8 +68,8 @@ impl Stage {
             Word::Apart => self.together = false,
             Word::Longest => self.timing = longest()?,
             Word::Sectored => {
-                self.geometry = sectored()?;
-                self.timing = timed_by_sectors()?;
+                self.geometry = divide_pages()?;
+                self.timing = time_sectors()?;
             }
             Word::ByLun => self.choice = Choice::ByLun,
             Word::ReadsFirst => self.choice = Choice::ReadsFirst,
@@ -85,15 +85,15 @@ impl Stage {
         let [first, second, third, ..] = row.numbers;
         match row.word {
             Word::Fault => self.faults.push(Fault {
-                lun: capped_u8(first),
-                block: capped_u16(second),
-                number: capped_u32(third),
+                lun: cap_u8(first),
+                block: cap_u16(second),
+                number: cap_u32(third),
             })?,
-            Word::ChipFail => self.calls.push(capped_u32(first))?,
-            Word::NotReady => self.statuses.push(capped_u32(first))?,
+            Word::ChipFail => self.calls.push(cap_u32(first))?,
+            Word::NotReady => self.statuses.push(cap_u32(first))?,
             _ => self.times.push(ArrayTime {
-                lun: capped_u8(first),
-                number: capped_u32(second),
+                lun: cap_u8(first),
+                number: cap_u32(second),
                 length: third,
             })?,
         }
@@ -107,12 +107,12 @@ impl Stage {
             self.geometry,
             self.timing,
             Rules::new(true, self.together, false, 1),
-            capped_u8(channels),
-            capped_u8(hosts),
-            capped_u8(batch),
-            capped_u16(submit_cap),
-            capped_u16(post_cap),
-            capped_u32(limit),
+            cap_u8(channels),
+            cap_u8(hosts),
+            cap_u8(batch),
+            cap_u16(submit_cap),
+            cap_u16(post_cap),
+            cap_u32(limit),
         )?;
         Ok(setup.with_choice(self.choice))
     }
@@ -142,7 +142,7 @@ fn longest() -> Result<Timing, Ended> {
 }
 
 /// The sample device with four sectors of a page.
-fn sectored() -> Result<Geometry, Ended> {
+fn divide_pages() -> Result<Geometry, Ended> {
     match sample_geometry().with_sector_bytes(132) {
         Some(geometry) => Ok(geometry),
         None => Err(Ended::NoTrial),
@@ -150,7 +150,7 @@ fn sectored() -> Result<Geometry, Ended> {
 }
 
 /// Its timing: a sector takes 2,640 ns, and 440 ns come before the first.
-fn timed_by_sectors() -> Result<Timing, Ended> {
+fn time_sectors() -> Result<Timing, Ended> {
     let mut timing = sample_timing();
     for count in 1..5u8 {
         let Ok(more) = timing.with_sectors(count, 440 + 2_640 * u64::from(count)) else {

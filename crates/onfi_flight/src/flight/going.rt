@@ -28,7 +28,7 @@ impl Flight {
     ///
     /// # Errors
     /// Where a start would be at 2^62 ns or later; then nothing changes.
-    pub fn ran_late(&mut self, alloc: Global, due: &Due, started: u64) -> Result<(), TooLate>
+    pub fn run_late(&mut self, alloc: Global, due: &Due, started: u64) -> Result<(), TooLate>
         requires due { IsDue self.old due.now }
         requires late { due.now.start ≤ started }
         ensures ran { IfOk result (λ _. self.new ≡ after_late self.old due.now started) }

@@ -77,7 +77,7 @@ impl<C: Chip, P: Planner> Sequencer<C, P> {
             }
             let turn = self.turn_at(rt, alloc, gate, now);
             made += 1;
-            if let Some(end) = self.end_behind_turn(turn) {
+            if let Some(end) = self.end_after_turn(turn) {
                 return end;
             }
         }
@@ -126,7 +126,7 @@ impl<C: Chip, P: Planner> Sequencer<C, P> {
     }
 
     // How a draining ends after that answer, if it does.
-    fn end_behind_turn(&self, turn: TurnAt) -> Option<DrainedAt>
+    fn end_after_turn(&self, turn: TurnAt) -> Option<DrainedAt>
         ensures some { IfSome result (λ end. EndsBehind end turn self.now.0.half) }
         ensures none { IfNone result (ends_it turn self.now.0.half ≡ false) }
     {

@@ -53,5 +53,5 @@ returns c = λ by measured of.
     let said = said_here by channel luns c.args.timing.now c.rules-rules.result whole measured c.rules-rules.ensures c.few_states_of-states.ensures in
     let tells = c.in-None.ensures in
     gives_audit p said tells.0 tells.1
-    (subst (λ x. IsAuditSaid x (opening p)) (sym c.plain_begun.ensures)
+    (subst (λ x. IsAuditSaid x (opening p)) (sym c.begin_plain.ensures)
     (begun_says by c.args.lengths.now channel luns p measured.said said of c.requires.few)) refl

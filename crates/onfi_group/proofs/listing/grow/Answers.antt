@@ -12,7 +12,7 @@ pub loop-at-preserved : goal.loop-at-preserved
 loop-at-preserved c =
     let i = c.loop-at.invariant in
     let lt : c.loop-at.at < length c.args.groups.now.items = omega arith in
-    elim c.match-larger.branch [
+    elim c.match-join.branch [
       | in-Some+in_ok-push-2 w ↦ (
           let made = w.in-Some.ensures.value in
           let grown = grows_kept i.grows lt c.index.result.now w.in-Some.more c.index.ensures made.0 made.1 in

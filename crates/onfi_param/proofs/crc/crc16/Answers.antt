@@ -8,7 +8,7 @@ use Rattle.onfi_param.proofs.crc.crc16.Goals as goal
 
 pub loop-byte-preserved : goal.loop-byte-preserved
 loop-byte-preserved c =
-    ap (λ r. after_bytes r (drop (c.loop-byte.byte-index + 1) c.args.bytes.now)) c.taken-register.ensures
+    ap (λ r. after_bytes r (drop (c.loop-byte.byte-index + 1) c.args.bytes.now)) c.take_byte-register.ensures
     ∙ after_bytes_at c.loop-byte.register c.loop-byte.byte-index c.args.bytes.now (omega arith)
     ∙ c.loop-byte.invariant
 

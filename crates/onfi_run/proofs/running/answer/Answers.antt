@@ -21,5 +21,5 @@ returns-in-Err-Refused g c =
     let input = c.args.input.now in
     let why = subst (λ s. IfRefused s (λ r. IsRefused (purpose_of c.args.clocked) input r)) c.in-Err-Refused.field-0-is
     (subst (λ x. IfRefused c.in-Err-Refused.field-0 (λ r. IsRefused x input r)) c.purpose_of.ensures c.in-Err-Refused.ensures) in
-    let refuses = subst (λ r. IfOk c.refused.result (λ a. answer_of a ≡ refused r)) c.in-Err-Refused.refusal-is c.refused.ensures in
-    IfOk-weaker c.refused.result (λ a. answer_of a ≡ refused c.in-Err-Refused.refusal) (λ a. IsAnswer c.args.clocked input (answer_of a)) (λ a e. is_refused c.in-Err-Refused.refusal why e) refuses
+    let refuses = subst (λ r. IfOk c.answer_refusal.result (λ a. answer_of a ≡ refused r)) c.in-Err-Refused.refusal-is c.answer_refusal.ensures in
+    IfOk-weaker c.answer_refusal.result (λ a. answer_of a ≡ refused c.in-Err-Refused.refusal) (λ a. IsAnswer c.args.clocked input (answer_of a)) (λ a e. is_refused c.in-Err-Refused.refusal why e) refuses

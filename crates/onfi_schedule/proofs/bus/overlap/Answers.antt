@@ -14,4 +14,4 @@ returns-in-Some-clause-told c = λ p s e.
     let other = c.in-Some.other in
     let pair : ArePair slots slot other =
     subst (λ (z : Slot). ArePair slots z other) (sym c.index-slots-at.is) (pair_at slots at (at + 1) slot other refl c.loop-at-test.true (has_taken _ _ other c.in-Some.ensures.there)) in
-    c.meeting.ensures.told p s (inl (subst (λ (xs : List Named). ArePair xs (named_slot slot) (named_slot other)) (sym e) (pair_mapped named_slot slots slot other pair)))
+    c.report_overlap.ensures.told p s (inl (subst (λ (xs : List Named). ArePair xs (named_slot slot) (named_slot other)) (sym e) (pair_mapped named_slot slots slot other pair)))

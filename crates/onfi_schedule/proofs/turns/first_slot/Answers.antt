@@ -15,9 +15,9 @@ loop-slot-preserved c =
     let slot = c.slot-item.result in
     let here : Has slots slot = subst (λ (z : Slot). Has slots z) (sym c.slot-item.is) (Has-get slots i slot c.loop-slot-test.true) in
     record {
-      there = λ some. elim c.sooner-first.ensures.one [
+      there = λ some. elim c.pick_sooner-first.ensures.one [
         | inl e ↦ subst (λ (z : Slot). Has slots z) (sym e) (c.loop-slot.invariant.there some)
         | inr e ↦ subst (λ (z : Slot). Has slots z) (sym e) here
       ];
-      least = least_more slots i c.loop-slot.first slot c.sooner-first.result c.loop-slot-test.true c.slot-item.is c.sooner-first.ensures.first c.sooner-first.ensures.other c.loop-slot.invariant.least;
+      least = least_more slots i c.loop-slot.first slot c.pick_sooner-first.result c.loop-slot-test.true c.slot-item.is c.pick_sooner-first.ensures.first c.pick_sooner-first.ensures.other c.loop-slot.invariant.least;
     }

@@ -19,7 +19,7 @@ returns-then-first_slot-clause-told c = λ p s et two.
     let two_named = ap named_in c.as_slice-two.ensures.value ∙ c.slots_of-two.ensures.named in
     takes_lun p s c.args.timing.now c.args.other.now c.args.group.now c.as_slice-two.result.now c.as_slice-one.result.now _ (named_slot c.first_slot-2.result) (named_slot c.first_slot.result) _
     et (exchanged s.groups c.args.group.now c.args.other.now two) same two_named one_named one_phases (sym c.first_request.ensures)
-    (λ b. true≢false (sym (c.are_apart.ensures.1 (inl b)) ∙ c.if-are_apart.false)) c.first_slot-2.ensures c.first_slot.ensures (omega (arith, c.if-first_slot.true)) c.taken.ensures.told
+    (λ b. true≢false (sym (c.are_apart.ensures.1 (inl b)) ∙ c.if-are_apart.false)) c.first_slot-2.ensures c.first_slot.ensures (omega (arith, c.if-first_slot.true)) c.report_taken_lun.ensures.told
 
 pub returns-clause-told : goal.returns-clause-told
 returns-clause-told c = λ p s et two.
@@ -29,7 +29,7 @@ returns-clause-told c = λ p s et two.
     let two_named = ap named_in c.as_slice-two.ensures.value ∙ c.slots_of-two.ensures.named in
     takes_lun p s c.args.timing.now c.args.group.now c.args.other.now c.as_slice-one.result.now c.as_slice-two.result.now _ (named_slot c.first_slot.result) (named_slot c.first_slot-2.result) _
     et two same one_named two_named two_phases (sym c.first_request-2.ensures)
-    (λ b. true≢false (sym (c.are_apart.ensures.1 (inr b)) ∙ c.if-are_apart.false)) c.first_slot.ensures c.first_slot-2.ensures c.if-first_slot.false c.taken-2.ensures.told
+    (λ b. true≢false (sym (c.are_apart.ensures.1 (inr b)) ∙ c.if-are_apart.false)) c.first_slot.ensures c.first_slot-2.ensures c.if-first_slot.false c.report_taken_lun-2.ensures.told
 
 pub returns-then-first_slot-clause-none : goal.returns-then-first_slot-clause-none
 returns-then-first_slot-clause-none c =

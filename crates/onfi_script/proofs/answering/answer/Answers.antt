@@ -18,5 +18,5 @@ pub returns-in-Err-Refused : goal.returns-in-Err-Refused
 returns-in-Err-Refused c =
     let refusal = c.in-Err-Refused.refusal in
     let told = rw c.in-Err-Refused.field-0-is at c.in-Err-Refused.ensures.told in
-    IfOk-weaker c.refused.result (λ a. answer_of a ≡ refused refusal) (λ a. IsAnswerBy OneTells c.args.command c.args.input.now (answer_of a))
-    (λ a h. inr (is_unread refusal told h)) (rw c.in-Err-Refused.field-0-is at c.refused.ensures)
+    IfOk-weaker c.answer_refusal.result (λ a. answer_of a ≡ refused refusal) (λ a. IsAnswerBy OneTells c.args.command c.args.input.now (answer_of a))
+    (λ a h. inr (is_unread refusal told h)) (rw c.in-Err-Refused.field-0-is at c.answer_refusal.ensures)

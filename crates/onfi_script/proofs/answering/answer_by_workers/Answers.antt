@@ -10,12 +10,12 @@ pub returns-in-Ok : goal.returns-in-Ok
 returns-in-Ok g c =
     let input = c.args.input.now in
     let p = c.in-Ok.script.problem.problem in
-    IfOk-weaker c.planned_by_workers.result (λ a. AnswersPlan PartsTell c.args.options p (answer_of a)) (λ a. IsAnswerBy PartsTell (PlanBy c.args.options) input (answer_of a))
-    (λ a h. inr (is_read p c.in-Ok.ensures.told h)) c.planned_by_workers.ensures
+    IfOk-weaker c.answer_plan_by_workers.result (λ a. AnswersPlan PartsTell c.args.options p (answer_of a)) (λ a. IsAnswerBy PartsTell (PlanBy c.args.options) input (answer_of a))
+    (λ a h. inr (is_read p c.in-Ok.ensures.told h)) c.answer_plan_by_workers.ensures
 
 pub returns-in-Err-Refused : goal.returns-in-Err-Refused
 returns-in-Err-Refused g c =
     let refusal = c.in-Err-Refused.refusal in
     let told = rw c.in-Err-Refused.field-0-is at c.in-Err-Refused.ensures.told in
-    IfOk-weaker c.refused.result (λ a. answer_of a ≡ refused refusal) (λ a. IsAnswerBy PartsTell (PlanBy c.args.options) c.args.input.now (answer_of a))
-    (λ a h. inr (is_unread refusal told h)) (rw c.in-Err-Refused.field-0-is at c.refused.ensures)
+    IfOk-weaker c.answer_refusal.result (λ a. answer_of a ≡ refused refusal) (λ a. IsAnswerBy PartsTell (PlanBy c.args.options) c.args.input.now (answer_of a))
+    (λ a h. inr (is_unread refusal told h)) (rw c.in-Err-Refused.field-0-is at c.answer_refusal.ensures)

@@ -12,8 +12,8 @@ pub returns-in-Err-Refused : goal.returns-in-Err-Refused
 returns-in-Err-Refused c =
     let refusal = c.in-Err-Refused.refusal in
     let told = subst (λ s. IfRefused s (λ r. TellsLog c.args.input.now (Err r))) c.in-Err-Refused.field-0-is c.in-Err-Refused.ensures in
-    IfOk-weaker c.refused.result (λ a. answer_of a ≡ refused refusal) (λ a. AnswersAuditBy c.args.options c.args.input.now (answer_of a))
-    (λ a h. is_unread refusal told h) (subst (λ r. IfOk c.refused.result (λ a. answer_of a ≡ refused r)) c.in-Err-Refused.refusal-is c.refused.ensures)
+    IfOk-weaker c.answer_refusal.result (λ a. answer_of a ≡ refused refusal) (λ a. AnswersAuditBy c.args.options c.args.input.now (answer_of a))
+    (λ a h. is_unread refusal told h) (subst (λ r. IfOk c.answer_refusal.result (λ a. answer_of a ≡ refused r)) c.in-Err-Refused.refusal-is c.answer_refusal.ensures)
 
 pub returns-in_ok-answer-in-Ok : goal.returns-in_ok-answer-in-Ok
 returns-in_ok-answer-in-Ok c =

@@ -15,11 +15,11 @@ pub returns-in-Some-clause-plan : goal.returns-in-Some-clause-plan
 returns-in-Some-clause-plan c =
     let o = c.args.options in
     let p = c.args.problem.now.problem in
-    let e = c.made_better.ensures in
-    subst (λ better. IfOk c.made_better.result (IsPlan o.planner (slack_in better) o.limit p)) (sym c.in-Some.is) (better_plans o.planner c.in-Some.per_mille o.limit p c.args.plan c.made_better.result c.requires e.legal e.finish e.rising e.made)
+    let e = c.make_better.ensures in
+    subst (λ better. IfOk c.make_better.result (IsPlan o.planner (slack_in better) o.limit p)) (sym c.in-Some.is) (better_plans o.planner c.in-Some.per_mille o.limit p c.args.plan c.make_better.result c.requires e.legal e.finish e.rising e.made)
 
 pub returns-in-Some-clause-by_rule : goal.returns-in-Some-clause-by_rule
 returns-in-Some-clause-by_rule c = λ rule.
     let o = c.args.options in
     let p = c.args.problem.now.problem in
-    subst (λ better. IfOk c.made_better.result (IsFromRule better o.limit p)) (sym c.in-Some.is) (made_from c.in-Some.per_mille o.limit p c.args.plan c.made_better.result rule c.made_better.ensures.made)
+    subst (λ better. IfOk c.make_better.result (IsFromRule better o.limit p)) (sym c.in-Some.is) (made_from c.in-Some.per_mille o.limit p c.args.plan c.make_better.result rule c.make_better.ensures.made)

@@ -10,8 +10,8 @@ pub returns : goal.returns
 returns c =
     let x = c.args.problem.now in
     let tokens = c.args.tokens.now in
-    let token = c.remembered-token.result in
+    let token = c.convert_token-token.result in
     let there = slice_get_read tokens (length tokens) 0 c.index-tokens-0.result refl (omega (arith, c.requires.one)) c.index-tokens-0.is in
     IfOk-weaker c.text_of.result (λ text. text.items ≡ header c.rules.result.strict ++ line (token ∷ [])) (λ text. ShowsBelow (Remembering text.items) x.all x.problem c.args.below)
     (λ text spelled. one_token_text x c.args.below tokens c.index-tokens-0.result text.items c.requires.limits c.requires.one there c.requires.accepted
-    (spelled ∙ (ap (λ rules. header rules.strict ++ line (token ∷ [])) c.rules.ensures ∙ ap (λ t. header x.problem.rules.strict ++ line (t ∷ [])) c.remembered-token.ensures))) c.text_of.ensures
+    (spelled ∙ (ap (λ rules. header rules.strict ++ line (token ∷ [])) c.rules.ensures ∙ ap (λ t. header x.problem.rules.strict ++ line (t ∷ [])) c.convert_token-token.ensures))) c.text_of.ensures

@@ -15,14 +15,14 @@ returns-clause-due g c turned =
 
 pub returns-clause-turned : goal.returns-clause-turned
 returns-clause-turned g c turned =
-    let kept = c.end_behind-end.ensures.ended in
-    let end = c.end_behind-end.ensures.end in
+    let kept = c.end_after-end.ensures.ended in
+    let end = c.end_after-end.ensures.end in
     let told = c.unwrap_or-self.ensures in
-    let pace = c.end_behind-end.ensures.pace in
-    let channel = c.end_behind-end.ensures.channel in
+    let pace = c.end_after-end.ensures.pace in
+    let channel = c.end_after-end.ensures.channel in
     let last = c.is_some.ensures in
     let free = c.bus_free-free.ensures in
     let ready = c.next_ready-ready.ensures in
     let paced = c.turn.ensures in
     let proceeds = g.C.Channel.proceeds c.args.now c.args.self.now.channel c.turn-progress.result in
-    (c.turn-progress.result, subst proceeds (sym channel) c.turn-progress.ensures.turned, record { ended = cc; refusals = c.end_behind-end.ensures.refusals; pace = cc })
+    (c.turn-progress.result, subst proceeds (sym channel) c.turn-progress.ensures.turned, record { ended = cc; refusals = c.end_after-end.ensures.refusals; pace = cc })

@@ -51,8 +51,8 @@ returns-in-Some-clause-inboxes g c = all_grown_all c.args.inboxes.now c.loop-all
 pub returns-in-Some-clause-same : goal.returns-in-Some-clause-same
 returns-in-Some-clause-same g c = c.loop-alloc.invariant.so_far.same
 
-pub returns-in-Some-end_behind_turn-clause-drains : goal.returns-in-Some-end_behind_turn-clause-drains
-returns-in-Some-end_behind_turn-clause-drains g c =
+pub returns-in-Some-end_after_turn-clause-drains : goal.returns-in-Some-end_after_turn-clause-drains
+returns-in-Some-end_after_turn-clause-drains g c =
     let st = g.C.Chip.state in
     let l = c.loop-alloc in
     let q = seen_in st c.args.self.now in
@@ -60,14 +60,14 @@ returns-in-Some-end_behind_turn-clause-drains g c =
     let none = if_ok c.take_in_all.result (sym c.is_err.ensures.value ∙ c.if-is_err.false) c.take_in_all.ensures.taken in
     let taken = draining_taken c.args.now q c.args.inboxes.now l.made here l.inboxes l.invariant.so_far c.take_in_all.new.inboxes c.take_in_all.ensures.grown none in
     drains_behind c.args.now q c.args.inboxes.now l.made here c.take_in_all.new.inboxes taken c.args.hosts.now c.args.turns
-    c.turn_at-turn.result (seen_in st c.turn_at-turn.new.self) c.in-Some-end_behind_turn.end c.in_default.ensures.none c.turn_at-turn.ensures.turned c.in-Some-end_behind_turn.ensures.some
+    c.turn_at-turn.result (seen_in st c.turn_at-turn.new.self) c.in-Some-end_after_turn.end c.in_default.ensures.none c.turn_at-turn.ensures.turned c.in-Some-end_after_turn.ensures.some
 
-pub returns-in-Some-end_behind_turn-clause-inboxes : goal.returns-in-Some-end_behind_turn-clause-inboxes
-returns-in-Some-end_behind_turn-clause-inboxes g c =
+pub returns-in-Some-end_after_turn-clause-inboxes : goal.returns-in-Some-end_after_turn-clause-inboxes
+returns-in-Some-end_after_turn-clause-inboxes g c =
     all_grown_all c.args.inboxes.now c.loop-alloc.inboxes c.take_in_all.new.inboxes c.loop-alloc.invariant.so_far.grown c.take_in_all.ensures.grown
 
-pub returns-in-Some-end_behind_turn-clause-same : goal.returns-in-Some-end_behind_turn-clause-same
-returns-in-Some-end_behind_turn-clause-same g c =
+pub returns-in-Some-end_after_turn-clause-same : goal.returns-in-Some-end_after_turn-clause-same
+returns-in-Some-end_after_turn-clause-same g c =
     let st = g.C.Chip.state in
     same_channel_all (seen_in st c.args.self.now) (seen_in st c.loop-alloc.self) (seen_in st c.turn_at-turn.new.self) c.loop-alloc.invariant.so_far.same c.turn_at-turn.ensures.same
 
@@ -77,8 +77,8 @@ returns-then-is_err-clause-short g c short = ap (λ (x : Seen). x.0.short) c.not
 pub returns-in-Some-clause-short : goal.returns-in-Some-clause-short
 returns-in-Some-clause-short g c = c.loop-alloc.invariant.so_far.short
 
-pub returns-in-Some-end_behind_turn-clause-short : goal.returns-in-Some-end_behind_turn-clause-short
-returns-in-Some-end_behind_turn-clause-short g c short = c.turn_at-turn.ensures.short (c.loop-alloc.invariant.so_far.short short)
+pub returns-in-Some-end_after_turn-clause-short : goal.returns-in-Some-end_after_turn-clause-short
+returns-in-Some-end_after_turn-clause-short g c short = c.turn_at-turn.ensures.short (c.loop-alloc.invariant.so_far.short short)
 
 pub loop-alloc-preserved : goal.loop-alloc-preserved
 loop-alloc-preserved g c =
@@ -92,5 +92,5 @@ loop-alloc-preserved g c =
       few = omega (arith, c.in_default.ensures.none);
       right = c.turn_at-turn.ensures.right;
       so_far = draining_turned c.args.now q c.args.inboxes.now l.made here c.take_in_all.new.inboxes taken
-          c.turn_at-turn.result (seen_in st c.turn_at-turn.new.self) c.turn_at-turn.ensures.turned c.turn_at-turn.ensures.same c.turn_at-turn.ensures.short c.in_default-end_behind_turn.ensures.none;
+          c.turn_at-turn.result (seen_in st c.turn_at-turn.new.self) c.turn_at-turn.ensures.turned c.turn_at-turn.ensures.same c.turn_at-turn.ensures.short c.in_default-end_after_turn.ensures.none;
     }

@@ -1,7 +1,0 @@
-use Rattle.std.proofs.Common.{inl}
-use Rattle.std.proofs.lemmas.Result.{IfOk-weaker}
-use Rattle.onfi_script.proofs.answering.planned_by_workers.Goals as goal
-
-pub returns-in-Ok : goal.returns-in-Ok
-returns-in-Ok g c =
-    IfOk-weaker c.print_plan.result _ _ (λ a h. inl (record { plan = c.in-Ok.best; is_plan = c.in-Ok.ensures.plan; by_rule = c.in-Ok.ensures.by_rule; text = h.0; spelled = h.1; printed = h.2 })) c.print_plan.ensures
