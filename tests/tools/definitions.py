@@ -2,16 +2,17 @@
 
 import re
 from functools import lru_cache
-from typing import Dict, Iterator, List, NamedTuple, Set, Tuple
+from typing import Callable, Dict, Iterable, Iterator, List, NamedTuple, Set, Tuple, TypeVar
 
 import support
+
+from onfi_tools.changes import imports_in
 
 WORD = re.compile(r"[A-Za-z_][A-Za-z0-9_]*")
 START = re.compile(r"(?:(?:abbrev |unfoldable )?pub (?!use |mod )|(?:abbrev )?mutual\b)")
 NAME = re.compile(r"\s*(?:abbrev |unfoldable )?pub (?:record |data )?(\w+)\b")
 INNER = re.compile(r"  pub (?:record |data )?(\w+)\b")
-USE = re.compile(r"^\s*(?:ghost |pub )?use Rattle\.(onfi_\w+)\.specs\.(\w+)(\.\w+)?(?:\.\{([^}]*)\}| as (\w+))?",
-                 re.MULTILINE)
+SPECS = re.compile(r"Rattle\.(onfi_\w+)\.specs\.(\w+)(?:\.(\w+))?")
 
 
 class Definition(NamedTuple):
@@ -22,6 +23,19 @@ class Definition(NamedTuple):
 
 
 Key = Tuple[str, str, str]
+Thing = TypeVar("Thing")
+
+
+def reached_from(begin: Iterable[Thing], onward: Callable[[Thing], Iterable[Thing]]) -> Set[Thing]:
+    """All that these lead to, by what each leads to, and they themselves."""
+    seen: Set[Thing] = set()
+    left = list(begin)
+    while left:
+        it = left.pop()
+        if it not in seen:
+            seen.add(it)
+            left.extend(onward(it))
+    return seen
 
 
 def is_code(line: str) -> bool:
@@ -80,14 +94,7 @@ class Definitions:
 
     def below(self, keys: Set[Key]) -> Set[Key]:
         """The definitions that these rest on, and they themselves."""
-        seen: Set[Key] = set()
-        left = list(keys)
-        while left:
-            key = left.pop()
-            if key not in seen:
-                seen.add(key)
-                left.extend(self.cited(self.found[key]) - seen)
-        return seen
+        return reached_from(keys, lambda key: self.cited(self.found[key]))
 
     def lines(self, keys: Set[Key]) -> int:
         """How many lines of definitions, a mutual block counted once."""
@@ -98,13 +105,13 @@ class Definitions:
 
 
 def uses_of(text: str) -> Tuple[Dict[str, Key], Dict[str, Tuple[str, str]]]:
+    """The definitions that a file names in a word, and the files of definitions."""
     taken: Dict[str, Key] = {}
     whole: Dict[str, Tuple[str, str]] = {}
-    for crate, module, data, names, alias in USE.findall(text):
-        if alias or not names:
-            whole[alias or module] = (crate, module)
-        for word in names.split(","):
-            parts = word.split(" as ")
-            if parts[0].strip():
-                taken[parts[-1].strip()] = (crate, module, data[1:] or parts[0].strip())
+    for name, _, path in imports_in(text):
+        found = SPECS.match(path)
+        if found and found[3]:
+            taken[name] = (found[1], found[2], found[3])
+        elif found:
+            whole[name] = (found[1], found[2])
     return taken, whole

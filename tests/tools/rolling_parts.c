@@ -106,23 +106,20 @@ static bool never(const way *way, mind *mind, const machine *m, const batch *bat
     return false;
 }
 
-static void print_run(unsigned luns, const way *way)
-{
-    setup setup = setup_of(luns);
-    figures figures;
-    if (figures_begin(&figures, &setup))
-        print_judgement(way->name, simulate(&setup, way, NULL, &figures));
-    figures_end(&figures);
-}
-
 static void print_runs(void)
 {
-    const way good = {"as it should be", everything, by_rule, &READS_FIRST, NULL, 0};
-    const way bus = {"too soon on the bus", everything, too_soon, &READS_FIRST, NULL, 0};
-    const way idle = {"never", everything, never, NULL, NULL, 0};
-    print_run(8, &good);
-    print_run(8, &bus);
-    print_run(8, &idle);
+    const way all[] = {
+        {"as it should be", everything, by_rule, &READS_FIRST, NULL, 0},
+        {"too soon on the bus", everything, too_soon, &READS_FIRST, NULL, 0},
+        {"never", everything, never, NULL, NULL, 0},
+    };
+    setup setup = setup_of(8);
+    for (size_t at = 0; at < sizeof all / sizeof *all; at++) {
+        figures figures;
+        if (figures_begin(&figures, &setup))
+            print_judgement(all[at].name, simulate(&setup, &all[at], NULL, &figures));
+        figures_end(&figures);
+    }
 }
 
 /* Of fifteen requests. */

@@ -114,10 +114,9 @@ class Instructions(unittest.TestCase):
             built = support.library(Path(folder))
             if built is None:
                 self.skipTest("no built library")
-            driver = driver_costs.Driver(built, Path(folder))
-            few, many = (driver.turns("greedy", ["depth", depth]) for depth in ("1", "256"))
-            self.assertTrue(driver.has("plans by LUN"))
-            self.assertRaises(subprocess.CalledProcessError, driver.turns, "greedy", ["luns", "9"])
+            driver = driver_costs.built_driver(built, Path(folder))
+            few, many = (driver_costs.turns_by(driver, "greedy", ["depth", depth]) for depth in ("1", "256"))
+            self.assertRaises(subprocess.CalledProcessError, driver_costs.turns_by, driver, "greedy", ["luns", "9"])
         self.assertEqual((sorted(few.calls), few.plans), (["onfi_output_of", "onfi_row"], 0))
         self.assertTrue(100 < few.whole < many.whole < 1_000_000, (few, many))
 
@@ -224,8 +223,9 @@ class Built(unittest.TestCase):
         self.assertRegex(said, r"\n\| 65,536 \| \d+\.\d % \|")
 
 
-# Plans by parts of 300, 100, 200 and 200 ms, 100 ms before them and 100 after; by several workers each part takes 10 ms
-# more. The work is counted, not done: the clock that it defines in front of the C library's gives the count.
+# Plans by parts of 300, 100, 200 and 200 ms, 100 ms before them and 100 after. Each of several workers begins the next one, the last has
+# the first part, and each part takes 10 ms more. The work is counted, not done: the clock that it defines in front of the C library's
+# gives the count.
 PROGRAM = r"""
 #include <pthread.h>
 #include <stdio.h>
@@ -238,8 +238,6 @@ static _Thread_local long done;
 static const long parts[] = {300, 100, 200, 200};
 static int workers = 1;
 
-struct share { int from, count; };
-
 int clock_gettime(clockid_t clock, struct timespec *time)
 {
     time->tv_sec = done / 1000;
@@ -249,33 +247,26 @@ int clock_gettime(clockid_t clock, struct timespec *time)
 
 static void *work(void *given)
 {
-    struct share *share = given;
-    struct share low = {share->from, share->count / 2}, high = {share->from + low.count, share->count - low.count};
-    if (share->count == 1) {
-        for (int part = share->from; part < 4; part += workers)
-            done += parts[part] + (workers > 1 ? 10 : 0);
-        return NULL;
-    }
-    pthread_t thread;
-    if (pthread_create(&thread, NULL, work, &low))
+    long worker = (long)given;
+    pthread_t next;
+    if (worker + 1 < workers && pthread_create(&next, NULL, work, (void *)(worker + 1)))
         exit(9);
-    work(&high);
-    pthread_join(thread, NULL);
+    for (long part = workers - 1 - worker; part < 4; part += workers)
+        done += parts[part] + (workers > 1 ? 10 : 0);
+    if (worker + 1 < workers)
+        pthread_join(next, NULL);
     return NULL;
-}
-
-static int over(void)
-{
-    printf("over 1048576\n");
-    return 6;
 }
 
 static int plan(const char *shape, long limit)
 {
-    if (limit < 20000 || !strcmp(shape, "shape,8,0,0,0\n") || (workers > 1 && !strcmp(shape, "shape,8,2,1,0\n")))
-        return over();
+    if (limit < 20000 || !strcmp(shape, "shape,8,0,0,0\n") || (workers > 1 && !strcmp(shape, "shape,8,2,1,0\n"))) {
+        printf("over 1048576\n");
+        fprintf(stderr, "within 1048576 nodes\n");
+        return 6;
+    }
     done += 100;
-    work(&(struct share){0, workers});
+    work(NULL);
     done += 100;
     printf("ONFIPLAN 1\nfinish 7\n%s", PLAN);
     return 0;
@@ -318,13 +309,10 @@ class Workers(unittest.TestCase):
         self.assertEqual(lines[-1], "random, 4 workers: speed-up 1.96 at most, 1.96 median, 1.96 at least; "
                                     "work 1.04 at most, 1.04 median, 1.04 at least")
 
-    def test_what_has_no_plan_is_told_and_not_counted(self) -> None:
-        lines = said_of('""', "_exit").stdout.splitlines()
+        # What has no plan is shown and not counted, and a program that returns from its main function gives the same.
         self.assertIn("programs-on-one-plane.onfi: no plan by 1: over 1048576", lines)
         self.assertIn("long-certificate.onfi: no plan by 2: over 1048576", lines)
-
-    def test_a_program_that_returns_from_main_tells_the_same(self) -> None:
-        self.assertEqual(said_of('""', "return ").stdout, said_of('""', "_exit").stdout)
+        self.assertEqual(said_of('""', "return ").stdout, said.stdout)
 
     def test_plans_that_differ_are_a_fault(self) -> None:
         said = said_of('workers == 4 ? "group 1\\n" : ""', "_exit")

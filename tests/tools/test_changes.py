@@ -202,12 +202,10 @@ def landings(*whole: str) -> List[Landing]:
 
 
 class Pages(unittest.TestCase):
-    def test_a_line_is_a_commit_and_the_crates_that_it_tried_whole(self) -> None:
-        self.assertEqual(read_landings("1f a b\n\n2f\n"), [Landing("1f", frozenset("ab")), Landing("2f", frozenset())])
+    def test_a_line_is_a_commit_with_the_crates_that_it_tried_whole_and_those_that_it_left(self) -> None:
+        self.assertEqual(read_landings("1f a b\n\n2f\n3f -b a -c\n"), [
+            Landing("1f", frozenset("ab")), Landing("2f", frozenset()), Landing("3f", frozenset("a"), frozenset("bc"))])
         self.assertEqual(read_landings(""), [])
-
-    def test_a_crate_of_which_something_was_left_has_a_mark(self) -> None:
-        self.assertEqual(read_landings("1f -b a -c\n"), [Landing("1f", frozenset("a"), frozenset("bc"))])
 
     def test_costs_and_room(self) -> None:
         costs = read_costs("# minutes\nroom: 90\na: 2.5\n")
@@ -259,18 +257,18 @@ class Turns(unittest.TestCase):
         self.assertGreater(landings_ago("d", some), 3)
 
     def test_those_whose_turn_is_longest_ago_come_first_as_far_as_there_is_room(self) -> None:
+        four: Dict[str, float] = {"c": 1, "b": 2, "a": 3, "d": 4}
+        dear: Dict[str, float] = {"a": 26, "b": 1}
         some = landings("a", "b", "c", "", "")
-        self.assertEqual(in_turn({"c": 1, "b": 2, "a": 3, "d": 4}, some, 9), (["d", "a", "b"], ["c"]))
-        self.assertEqual(in_turn({"c": 1, "b": 2, "a": 3, "d": 4}, some, 8), (["d", "a", "c"], ["b"]))
-        self.assertEqual(in_turn({"c": 1, "b": 2, "a": 3, "d": 4}, some, 10), (["d", "a", "b", "c"], []))
-
-    def test_one_is_taken_where_there_is_no_room(self) -> None:
-        self.assertEqual(in_turn({"a": 26, "b": 1}, landings("b"), -40), (["a"], []))
-        self.assertEqual(in_turn({"a": 26, "b": 1}, landings("b", "", ""), 0), (["a"], ["b"]))
-        self.assertEqual(in_turn({}, landings("b"), 9), ([], []))
-
-    def test_no_crate_comes_a_second_time_within_three_landings_while_another_waits(self) -> None:
-        self.assertEqual(in_turn({"a": 1, "b": 1, "c": 1}, landings("a", "b", "c"), 99), (["a"], []))
+        rows: List[Tuple[Dict[str, float], List[Landing], float, str, str]] = [
+            (four, some, 8, "dac", "b"), (four, some, 9, "dab", "c"), (four, some, 10, "dabc", ""),
+            # (one is taken where there is no room)
+            (dear, landings("b"), -40, "a", ""), (dear, landings("b", "", ""), 0, "a", "b"), ({}, landings("b"), 9, "", ""),
+            # (none comes a second time within three landings while another waits)
+            ({"a": 1, "b": 1, "c": 1}, landings("a", "b", "c"), 99, "a", ""),
+        ]
+        for minutes, past, room, taken, left in rows:
+            self.assertEqual(in_turn(minutes, past, room), ([*taken], [*left]))
 
     def tried(self, minutes: Dict[str, float], room: float, count: int) -> List[List[str]]:
         """The crates that so many landings try whole, one after the other."""
@@ -286,14 +284,10 @@ class Turns(unittest.TestCase):
         for at in range(30 - TURNS):
             self.assertEqual(tried[at], tried[at + TURNS])
 
-    def test_without_room_each_crate_comes_in_as_many_landings_as_there_are(self) -> None:
-        minutes = {str(at): 1.0 + at for at in range(7)}
-        tried = self.tried(minutes, 0, 21)
-        for at in range(14):
-            self.assertEqual(sorted(it for crates in tried[at : at + 7] for it in crates), sorted(minutes))
-
-    def test_a_dear_crate_is_not_passed_over_for_ever(self) -> None:
-        minutes = {"dear": 50.0, **{str(at): 1.0 for at in range(8)}}
-        tried = self.tried(minutes, 4, 30)
-        for at in range(20):
-            self.assertIn("dear", [it for crates in tried[at : at + len(minutes)] for it in crates])
+    def test_each_crate_comes_in_as_many_landings_as_there_are(self) -> None:
+        """Where there is no room, and where one is dear."""
+        some: List[Tuple[Dict[str, float], float]] = [({str(at): 1.0 + at for at in range(7)}, 0), ({"dear": 50.0, **{str(at): 1.0 for at in range(8)}}, 4)]
+        for minutes, room in some:
+            tried = self.tried(minutes, room, 30)
+            for at in range(30 - len(minutes)):
+                self.assertEqual({it for crates in tried[at : at + len(minutes)] for it in crates}, {*minutes})

@@ -5,6 +5,7 @@ import tempfile
 import unittest
 from pathlib import Path
 from typing import Any, Dict, List, Tuple
+from unittest import mock
 
 import support
 from onfi_tools.cases import Case
@@ -81,8 +82,9 @@ class Texts(unittest.TestCase):
 
     def test_what_is_told(self) -> None:
         functions = [COVERAGE.Function(*it) for it in (("onfi_a", 9, 0), ("onfi_b", 10, 4), ("onfi_c", 5, 3), ("onfi_d", 6, 6))]
-        self.assertEqual(COVERAGE.told(functions, 1), ["no case runs onfi_a (9 instructions)", "cases run 4 of 10 instructions of onfi_b",
-                                                       "3 of 4 functions, 13 of 30 instructions (43.3 %)"])
+        with mock.patch.object(COVERAGE, "SHOWN", 1):
+            self.assertEqual(COVERAGE.told(functions), ["no case runs onfi_a (9 instructions)", "cases run 4 of 10 instructions of onfi_b",
+                                                        "3 of 4 functions, 13 of 30 instructions (43.3 %)"])
 
 
 @unittest.skipUnless(all(map(shutil.which, ("valgrind", "objdump", "cc"))), "no valgrind, objdump or cc")
@@ -90,7 +92,7 @@ class Programs(unittest.TestCase):
     def measured(self, *cases: Case) -> Tuple[Dict[str, Tuple[int, int]], List[str]]:
         with tempfile.TemporaryDirectory() as folder:
             program = Path(support.compiled(folder, PROGRAM, "-O1")).resolve()
-            functions, differences = COVERAGE.measured(str(program), cases, 2)
+            functions, differences = COVERAGE.measured(str(program), cases)
         return {it.name: (it.ran, it.whole) for it in functions}, differences
 
     def test_each_function_is_told_by_what_ran(self) -> None:

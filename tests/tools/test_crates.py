@@ -6,7 +6,7 @@ import tempfile
 import unittest
 import xml.etree.ElementTree as ET
 from pathlib import Path
-from typing import Dict, FrozenSet, List, NamedTuple, Set, Tuple
+from typing import Dict, List, NamedTuple, Set, Tuple
 
 import support
 from onfi_tools import layers
@@ -19,28 +19,29 @@ PICTURE = support.ROOT / "docs/pictures/crates.svg"
 LINE = re.compile(r"(\w+) stands on (\w+)")
 
 
+# What each crate of the repository stands on there.
+BELOW = {name: frozenset(it for it in uses if it.startswith("onfi_")) for name, uses in crates_below(CRATES).items()}
+
+
 class Box(NamedTuple):
     left: float
     top: float
     right: float
     bottom: float
+    # How it is filled, and whether its edge is dashed.
+    look: Tuple[str, bool]
 
     def meets(self, x: float, y: float) -> bool:
         return self.left <= x <= self.right and self.top <= y <= self.bottom
 
 
-def below_of(text: str) -> Dict[str, FrozenSet[str]]:
-    lines = re.findall(r"^(onfi_\w+)[^:\n]*:(.*)$", text, re.MULTILINE)
-    return {name: frozenset(re.findall(r"onfi_\w+", others)) for name, others in lines}
-
-
 def boxes_of(root: ET.Element) -> Dict[str, Box]:
     found: Dict[str, Box] = {}
     for group in root.iter(SVG + "g"):
-        rect, text = group.find(SVG + "rect"), group.find(SVG + "text")
-        assert rect is not None and text is not None and text.text
+        rect = group.find(SVG + "rect")
+        assert rect is not None
         left, top, width, height = (float(rect.attrib[name]) for name in ("x", "y", "width", "height"))
-        found[text.text] = Box(left, top, left + width, top + height)
+        found[group.findtext(SVG + "text") or ""] = Box(left, top, left + width, top + height, (rect.attrib["fill"], "stroke-dasharray" in rect.attrib))
     return found
 
 
@@ -57,7 +58,7 @@ def lines_of(root: ET.Element) -> Dict[Tuple[str, str], List[Tuple[float, float]
 class Lines(unittest.TestCase):
     def test_a_crate_stands_on_what_its_files_name(self) -> None:
         # (the kit makes its sums of a crate by each way down from it, so a name that isn't needed costs minutes of every gate)
-        for name, others in below_of(CRATES).items():
+        for name, others in BELOW.items():
             files = [it for part in ("src", "specs", "proofs") for it in (support.ROOT / "crates" / name / part).rglob("*.[ra][tn]*")]
             named = set(re.findall(r"\bonfi_\w+", "\n".join(re.sub(r"//.*", "", it.read_text()) for it in files)))
             self.assertLessEqual(others, named, name)
@@ -66,7 +67,6 @@ class Lines(unittest.TestCase):
 class Picture(unittest.TestCase):
     drawn = support.run_tool("draw-crates")
     root = ET.fromstring(drawn.stdout)
-    below = below_of(CRATES)
 
     def test_the_picture_of_the_pages_is_what_the_tool_draws(self) -> None:
         self.assertEqual((self.drawn.returncode, self.drawn.stderr), (0, ""))
@@ -75,18 +75,18 @@ class Picture(unittest.TestCase):
 
     def test_each_crate_has_a_box_and_stands_above_others(self) -> None:
         boxes = boxes_of(self.root)
-        self.assertGreater(len(self.below), 30)
-        self.assertLessEqual(set(self.below), set(boxes))
-        for name, others in self.below.items():
+        self.assertGreater(len(BELOW), 30)
+        self.assertLessEqual(set(BELOW), set(boxes))
+        for name, others in BELOW.items():
             for other in others:
                 self.assertLess(boxes[name].bottom, boxes[other].top, f"{name} {other}")
 
     def test_its_lines_say_what_each_crate_stands_on(self) -> None:
-        drawn: Dict[str, Set[str]] = {name: set() for name in self.below}
+        drawn: Dict[str, Set[str]] = {name: set() for name in BELOW}
         for upper, lower in lines_of(self.root):
-            self.assertIn(lower, self.below[upper])
+            self.assertIn(lower, BELOW[upper])
             drawn[upper].add(lower)
-        self.assertEqual(layers.all_below({name: frozenset(it) for name, it in drawn.items()}), layers.all_below(self.below))
+        self.assertEqual(layers.all_below({name: frozenset(it) for name, it in drawn.items()}), layers.all_below(BELOW))
 
     def test_nothing_hides_anything(self) -> None:
         boxes = boxes_of(self.root)
@@ -104,16 +104,10 @@ class Picture(unittest.TestCase):
             self.assertTrue(0 <= box.left and box.right <= width and 0 <= box.top and box.bottom <= height)
 
     def test_tests_and_crates_that_wait_look_so(self) -> None:
-        fills: Dict[str, Tuple[str, bool]] = {}
-        for group in self.root.iter(SVG + "g"):
-            rect = group.find(SVG + "rect")
-            assert rect is not None
-            fills[group.findtext(SVG + "text") or ""] = rect.attrib["fill"], "stroke-dasharray" in rect.attrib
-        for line in CRATES.splitlines():
-            name = line.split(":")[0].split(" ")[0]
-            if name in self.below:
-                like = "may wait" if "may_wait=" in line else "a library"
-                self.assertEqual(fills[name], (fills[like][0], name.endswith("_tests")), name)
+        looks = {name: box.look for name, box in boxes_of(self.root).items()}
+        for name in BELOW:
+            like = "may wait" if re.search(rf"^{name}\b[^:]* may_wait=", CRATES, re.MULTILINE) else "a library"
+            self.assertEqual(looks[name], (looks[like][0], name.endswith("_tests")), name)
 
 
 class Files(unittest.TestCase):
@@ -187,4 +181,4 @@ class Below(unittest.TestCase):
     def test_all_is_below_the_program(self) -> None:
         names = lines_below(CRATES, "onfi_program")
         for name in names:
-            self.assertTrue(all(it in names for it in crates_below(CRATES)[name] if it.startswith("onfi_")), name)
+            self.assertLessEqual(BELOW[name], names.keys(), name)

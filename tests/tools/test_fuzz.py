@@ -22,14 +22,9 @@ def say(text, status):
 {body}
 """
 REFUSES = """
-form = " ".join("N" if word.isdigit() else word for word in words)
-taken = ["plan", "plan --limit N", "plan --limit N --trace", "plan --workers N", "check", "check --remember", "run --limit N"]
-taken += ["check --within", "plan --within --limit N", "plan --within --limit N --trace", "plan --within --limit N --requests"]
-taken += ["plan --within", "run --plain --limit N", "run --within --limit N"]
-taken += ["plan --remember", "plan --remember --limit N", "plan --remember --limit N --trace"]
-taken += ["check --legal", "plan --limit N --requests", "plan --remember --limit N --requests", "run --slack N --limit N"]
-taken += [it.replace("--limit", early + " --limit") for it in taken if it.startswith("plan --") for early in ("--early", "--early --slack N")]
-if form not in taken:
+taken = {*"--limit --trace --requests --workers --remember --within --legal --early --slack --plain".split()}
+options = [word for word in words[1:] if not word.isdigit()]
+if command not in ("plan", "check", "run") or sorted(options) != sorted(taken.intersection(options)):
     sys.stderr.write("error: a word\\n")
     sys.exit(5)
 """
@@ -66,22 +61,22 @@ MISSES = {
     "an answer of no form": ('say("script refused\\n", 1)', "status 1", 40),
     "a word on standard error": ('sys.stderr.write("oh")\nsay("script refused 0 NoEnd\\n", 1)', "standard error b'oh'", 40),
     "a message beside an answer": (REFUSES + MESSAGE + ANSWERS, "standard error b'onfi_sim: row 1", 40),
-    "a plan that is refused": (RIGHT.replace("accepted 7", "refused 1 Illegal").replace(", 0) if", ", 2) if"), "['check'] doesn't accept the plan", 40),
-    "a plan that is refused with the other header": (RIGHT.replace("if remembers", "if 0", 1), "['check', '--remember'] doesn't accept the plan", 40),
+    "a plan that is refused": (RIGHT.replace("accepted 7", "refused 1 Illegal").replace(", 0) if", ", 2) if"), "['check'] says b'refused 1 Illegal", 40),
+    "a plan that is refused with the other header": (RIGHT.replace("if remembers", "if 0", 1), "['check', '--remember'] says b'refused plan 1", 40),
     "another finish of a plan that remembers": (
         OTHER_FINISH.replace('say("accepted 7\\n", 0)', 'say("accepted 6\\n" if remembers else "accepted 7\\n", 0)'),
-        "of a plan that remembers is another than that of the plan", 100),
-    "a sooner finish that is accepted": (RIGHT.replace('say("refused plan 1\\n", 2)', 'say("accepted 6\\n", 0)'), "another finish than that of the plan", 40),
+        "['plan'] says that the best plan ends from 7 to 7, and ['plan', '--remember', ", 100),
+    "a sooner finish that is accepted": (RIGHT.replace('say("refused plan 1\\n", 2)', 'say("accepted 6\\n", 0)'), "says that the best plan ends from 6 to 6, and ", 40),
     "a time above the optimum": (
-        RIGHT.replace(NEAR, FAR).replace("within 7 6", "within 9 8"), "nothing ends before 8, and a legal schedule ends at 9; the plan at 7", 100),
-    "a plan that is judged otherwise": (RIGHT.replace("within 7 6", "within 7 5"), "check --within says b'within 7 5", 100),
-    "a legal schedule that ends sooner": (RIGHT.replace("legal 7", "legal 6"), "a schedule is legal that ends at 6, sooner than the plan at 7", 40),
+        RIGHT.replace(NEAR, FAR).replace("within 7 6", "within 9 8"), "'] from 8 to 9", 100),
+    "a plan that is judged otherwise": (RIGHT.replace("within 7 6", "within 7 5"), "['check', '--within'] says b'within 7 5", 100),
+    "a legal schedule that ends sooner": (RIGHT.replace("legal 7", "legal 6"), "['check', '--legal'] from 0 to 6", 40),
     "another plan by several workers": (REFUSES + f'if split: say("{OTHER_PLAN}", 0)' + ANSWERS, f"another plan b'{OTHER_PLAN}'", 100),
     "a reply twice": (RIGHT.replace("closed", "reply,0,0,1,done\\nreply,0,0,1,done\\nclosed"), "replies that don't rise", 40),
     "a stopped channel with another status": (RIGHT.replace("closed", "stopped,0,Bus\\nclosed"), "status 0 of the report", 40),
     "a command line that is refused without a word": (RIGHT.replace("error: a word", ""), "status 5", 100),
     "a command line that is refused with an answer": (RIGHT.replace("sys.exit(5)", 'say("refused\\n", 5)'), "status 5", 100),
-    "words that are refused though nothing changed them": (RIGHT.replace("if form", "if remembers or form"), "status 5", 40),
+    "words that are refused though nothing changed them": (RIGHT.replace("if command", "if remembers or command"), "status 5", 40),
 }
 
 

@@ -3,7 +3,6 @@
 from __future__ import annotations
 
 import copy
-import os
 import random
 import unittest
 from typing import List, Optional, Tuple
@@ -11,8 +10,8 @@ from typing import List, Optional, Tuple
 import support
 from log_model import Entry, Judge, Line, Poll, answer_of
 
-# How many logs, and how many phases one has at most; ONFI_LOGS=2000x1000 is for a long run.
-COUNT, PHASES = (int(it) for it in os.environ.get("ONFI_LOGS", "150x80").split("x"))
+# How many logs, and how many phases one has at most.
+COUNT, PHASES = 150, 80
 KINDS = ("read", "program", "erase")
 
 
@@ -163,7 +162,3 @@ class Logs(unittest.TestCase):
 
     def test_so_they_do_where_statuses_are_polled(self) -> None:
         self.compare(True)
-
-
-if __name__ == "__main__":
-    unittest.main()

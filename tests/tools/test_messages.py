@@ -6,7 +6,7 @@ import subprocess
 import tempfile
 import unittest
 from pathlib import Path
-from typing import List, NamedTuple, Sequence, Tuple, Union
+from typing import Any, Dict, List, NamedTuple, Optional, Sequence, Tuple, Union
 
 import support
 from onfi_tools.cases import read_cases
@@ -30,9 +30,11 @@ class Ran(NamedTuple):
     status: int
 
 
-def ran(*words: Word, given: bytes = b"") -> Ran:
-    done = subprocess.run([str(support.program()), *words], input=given, capture_output=True, timeout=SECONDS)
-    return Ran(done.stdout.decode(), done.stderr.decode(), done.returncode)
+def ran(*words: Word, given: Optional[bytes] = b"", **streams: Any) -> Ran:
+    """What the program answers and says, each through a pipe, or nothing of what goes to another of these streams."""
+    how: Dict[str, Any] = {"input": given, "stdout": subprocess.PIPE, "stderr": subprocess.PIPE, **streams}
+    done = subprocess.run([str(support.program()), *words], timeout=SECONDS, **how)
+    return Ran((done.stdout or b"").decode(), (done.stderr or b"").decode(), done.returncode)
 
 
 @unittest.skipUnless(support.program(), "no built program")
@@ -274,32 +276,27 @@ class Streams(unittest.TestCase):
     def test_nothing_is_said_where_a_read_fails(self) -> None:
         folder = os.open(support.ROOT, os.O_RDONLY)
         for words, _ in self.ANSWERED:
-            done = subprocess.run([str(support.program()), *words], stdin=folder, capture_output=True, timeout=SECONDS)
-            self.assertEqual((done.stdout, done.stderr, done.returncode), (b"", b"", FAILED_STREAM), words)
+            self.assertEqual(ran(*words, given=None, stdin=folder), ("", "", FAILED_STREAM), words)
         os.close(folder)
 
     def test_nothing_is_said_where_the_answer_cannot_be_written(self) -> None:
-        for words, given in (*self.GIVEN, *self.ANSWERED):
-            with open("/dev/full", "wb") as full:
-                done = subprocess.run([str(support.program()), *words], input=given, stdout=full, stderr=subprocess.PIPE, timeout=SECONDS)
-            self.assertEqual((done.stderr, done.returncode), (b"", FAILED_STREAM), words)
+        with open("/dev/full", "wb") as full:
+            for words, given in (*self.GIVEN, *self.ANSWERED):
+                self.assertEqual(ran(*words, given=given, stdout=full), ("", "", FAILED_STREAM), words)
 
     def test_nothing_is_said_where_standard_output_is_closed(self) -> None:
         for words, given in self.GIVEN:
-            line = '"$0" "$@" >&-'
-            done = subprocess.run(["sh", "-c", line, str(support.program()), *words], input=given, stderr=subprocess.PIPE, timeout=SECONDS)
-            self.assertEqual((done.stderr, done.returncode), (b"", FAILED_STREAM), words)
+            found = ran(*words, given=given, stdout=None, preexec_fn=lambda: os.close(1))
+            self.assertEqual(found, ("", "", FAILED_STREAM), words)
 
     def test_an_answer_stands_where_standard_error_cannot_be_written(self) -> None:
-        for words, given in self.GIVEN:
-            said = ran(*words, given=given)
-            self.assertTrue(said.said)
-            with open("/dev/full", "wb") as full:
-                done = subprocess.run([str(support.program()), *words], input=given, stdout=subprocess.PIPE, stderr=full, timeout=SECONDS)
-            self.assertEqual((done.stdout.decode(), done.returncode), (said.output, said.status), words)
-            done = subprocess.run(["sh", "-c", '"$0" "$@" 2>&-', str(support.program()), *words], input=given, stdout=subprocess.PIPE,
-                                  timeout=SECONDS)
-            self.assertEqual((done.stdout.decode(), done.returncode), (said.output, said.status), words)
+        with open("/dev/full", "wb") as full:
+            ways: List[Dict[str, Any]] = [{"stderr": full}, {"stderr": None, "preexec_fn": lambda: os.close(2)}]
+            for words, given in self.GIVEN:
+                said = ran(*words, given=given)
+                self.assertTrue(said.said)
+                for way in ways:
+                    self.assertEqual(ran(*words, given=given, **way), (said.output, "", said.status), words)
 
 
 @unittest.skipUnless(support.program(), "no built program")

@@ -8,7 +8,7 @@ from pathlib import Path
 from typing import Dict, List, Set, Tuple
 
 import support
-from definitions import Definitions, Key, is_code
+from definitions import Definitions, Key, is_code, reached_from
 
 ROOT = support.ROOT
 README = (ROOT / "README.md").read_text()
@@ -54,16 +54,10 @@ class Links(unittest.TestCase):
                 self.assertTrue((ROOT / name).exists() or (ROOT / (name + ".py")).exists(), f"{page.name}: {name}")
 
     def test_each_page_can_be_reached_from_the_readme(self) -> None:
-        seen: Set[Path] = set()
-        left = [ROOT / "README.md"]
-        while left:
-            page = left.pop()
-            if page not in seen and page.suffix == ".md":
-                seen.add(page)
-                left += [(page.parent / link.partition("#")[0]).resolve() for link in LINK.findall(page.read_text())
-                         if not link.startswith(("http", "#"))]
-        for page in PAGES:
-            self.assertIn(page, seen)
+        def linked(page: Path) -> List[Path]:
+            links = LINK.findall(page.read_text()) if page.suffix == ".md" else []
+            return [(page.parent / link.partition("#")[0]).resolve() for link in links if not link.startswith(("http", "#"))]
+        self.assertLessEqual({*PAGES}, reached_from([ROOT / "README.md"], linked))
 
 
 class Cells(unittest.TestCase):

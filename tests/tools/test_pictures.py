@@ -2,25 +2,21 @@
 
 import json
 import re
-import tempfile
+import subprocess
 import unittest
 import xml.etree.ElementTree as ET
-from pathlib import Path
 from typing import Dict, Iterator, List, NamedTuple, Tuple
 
 import support
-from onfi_tools import perfetto, svg, text, vcd
+from onfi_tools import perfetto, svg, vcd
 from onfi_tools.device import KINDS
 from onfi_tools.trace import Part, Phase, by_lun, read_trace, stretches
 
 SVG = "{http://www.w3.org/2000/svg}"
 TITLE = re.compile(r"LUN (\d), (\w+), ([a-z ]+)(?:, block (\d+), page (\d+))?: ([\d,]+) to ([\d,]+) ns")
-TEXT_OF_BATCH = """\
-bus    *                         1111111111100000000000000000000000
-LUN 0  c------------------------------------ppppppppppppppppppppppp
-LUN 1  c-------------------------ppppppppppp
-       0                                                   58240 ns
-"""
+PAGE = (support.ROOT / "docs/pictures/README.md").read_text()
+# What the page shows of the batch, all of it and a part.
+TEXT_OF_BATCH, PART_OF_BATCH = (re.sub("^# ", "", shown, flags=re.MULTILINE) for shown in re.findall(r"draw-trace 60.*\n((?:# .*\n)+)", PAGE))
 
 
 def part_of(phase: Phase) -> Part:
@@ -33,14 +29,6 @@ def sides_of(element: ET.Element) -> Tuple[float, float]:
     size = 5.5 * len(element.text or "")
     left = float(element.attrib["x"]) - share * size
     return left, left + size
-
-
-PART_OF_BATCH = """\
-bus     11111111111111111111111111111111111111111111111111111110000
-LUN 0  --------------------------------------------------------pppp
-LUN 1  -ppppppppppppppppppppppppppppppppppppppppppppppppppppppp
-       25000                                               37000 ns
-"""
 
 
 class Traces(unittest.TestCase):
@@ -88,15 +76,8 @@ class Traces(unittest.TestCase):
             self.assertEqual(ran.stdout, support.trace_text(name))
 
 
-class Texts(unittest.TestCase):
-    def test_the_picture_of_its_page(self) -> None:
-        self.assertEqual(text.picture(support.trace("batch"), 60), TEXT_OF_BATCH)
-        shown = "".join("# " + line + "\n" for line in TEXT_OF_BATCH.splitlines())
-        self.assertIn(shown, (support.ROOT / "docs/pictures/README.md").read_text())
-
-
 class Windows(unittest.TestCase):
-    """A part of a trace, in each form."""
+    """A trace and a part of it, in each form."""
 
     def drawn(self, *words: str, status: int = 0) -> str:
         ran = support.run_tool("draw-trace", *words, given=support.trace_text("batch"))
@@ -105,8 +86,8 @@ class Windows(unittest.TestCase):
 
     def test_text(self) -> None:
         self.assertEqual(self.drawn("60", "--from", "25000", "--to", "37000"), PART_OF_BATCH)
-        self.assertEqual(self.drawn("60", "--from", "0"), TEXT_OF_BATCH)
-        self.assertEqual(self.drawn("60", "--to", "58240"), TEXT_OF_BATCH)
+        for words in ("", "--from 0", "--to 58240"):
+            self.assertEqual(self.drawn("60", *words.split()), TEXT_OF_BATCH)
 
     def test_idle_time_keeps_its_rows(self) -> None:
         wanted = "bus\nLUN 0  " + 9 * "-" + "\nLUN 1  " + 9 * "-" + "\n       2000 25240 ns\n"
@@ -127,9 +108,9 @@ class Windows(unittest.TestCase):
     def test_a_dump_goes_on_behind_its_part(self) -> None:
         dump = self.drawn("--as", "vcd", "--from", "200", "--to", "900")
         self.assertEqual(dump.splitlines()[-1], "#900")
-        _, changes = read_vcd(dump)
+        changes = read_vcd(dump)
         self.assertEqual((changes[0].time, changes[-1].time), (200, 880))
-        whole = read_vcd(self.drawn("--as", "vcd"))[1]
+        whole = read_vcd(self.drawn("--as", "vcd"))
         inner = [it for it in changes if it.time > 200]
         self.assertEqual(inner, [it for it in whole if 200 < it.time < 900])
         at_first = {it.signal: it.value for it in whole if it.time <= 200}
@@ -236,38 +217,35 @@ class Change(NamedTuple):
     value: str
 
 
-def read_vcd(dump: str) -> Tuple[Dict[str, Tuple[str, int]], List[Change]]:
-    """Names and bits of the variables by key, and all changes in order; an AssertionError where it is no dump."""
-    words = iter(dump.split())
+def read_vcd(dump: str) -> List[Change]:
+    """All changes in order; an AssertionError where it is no dump."""
+    head, body = dump.split("$enddefinitions $end\n")
     variables: Dict[str, Tuple[str, int]] = {}
     scopes: List[str] = []
-    for word in words:
-        body = list(iter(lambda: next(words), "$end"))
+    for line in head.splitlines():
+        word, *rest, end = line.split()
+        assert end == "$end" and word in ("$comment", "$timescale", "$scope", "$upscope", "$var"), line
         if word == "$var":
-            assert body[0] == "wire" and body[2] not in variables and (body[1] == "1") == (len(body) == 4), body
-            variables[body[2]] = (".".join(scopes + [body[3]]), int(body[1]))
+            assert rest[0] == "wire" and rest[2] not in variables and (rest[1] == "1") == (len(rest) == 4), line
+            variables[rest[2]] = (".".join([*scopes, rest[3]]), int(rest[1]))
         elif word == "$scope":
-            scopes.append(body[1])
+            scopes.append(rest[1])
         elif word == "$upscope":
             scopes.pop()
-        elif word == "$enddefinitions":
-            break
-        else:
-            assert word in ("$comment", "$timescale"), word
     assert not scopes
-    return variables, list(changes_of(words, variables))
+    return list(changes_of(body, variables))
 
 
-def changes_of(words: Iterator[str], variables: Dict[str, Tuple[str, int]]) -> Iterator[Change]:
+def changes_of(body: str, variables: Dict[str, Tuple[str, int]]) -> Iterator[Change]:
     time = -1
-    for word in words:
-        if word.startswith("#"):
-            assert int(word[1:]) > time
-            time = int(word[1:])
-        elif word not in ("$dumpvars", "$end"):
-            value, key = (word[1:], next(words)) if word[0] == "b" else (word[0], word[1:])
+    for line in body.splitlines():
+        if line.startswith("#"):
+            assert int(line[1:]) > time
+            time = int(line[1:])
+        elif line not in ("$dumpvars", "$end"):
+            value, key = line[1:].split() if line.startswith("b") else line
             name, bits = variables[key]
-            assert time >= 0 and len(value) == bits and set(value) <= set("01xz"), word
+            assert time >= 0 and len(value) == bits and set(value) <= set("01xz"), line
             yield Change(time, name, value)
 
 
@@ -280,8 +258,8 @@ class Dumps(unittest.TestCase):
         """It has the bus and its LUN, with kind, block and page; nobody has the bus between phases."""
         for name in support.SCRIPTS:
             phases = support.trace(name)
-            variables, changes = read_vcd(vcd.picture(phases, support.lengths(name)))
-            self.assertEqual(len({*variables}), 1 + 5 * len(by_lun(phases)))
+            changes = read_vcd(vcd.picture(phases, support.lengths(name)))
+            self.assertEqual(len({change.signal for change in changes}), 1 + 5 * len(by_lun(phases)))
             for phase, time in ((phase, time) for phase in phases for time in (phase.start, phase.end - 1)):
                 told = [value_at(changes, f"channel.lun{phase.lun}.{signal}", time) for signal in ("phase", "ready", "kind", "block", "page")]
                 self.assertEqual(value_at(changes, "channel.bus_owner", time), f"{phase.lun:03b}")
@@ -290,30 +268,30 @@ class Dumps(unittest.TestCase):
                 self.assertEqual(value_at(changes, "channel.bus_owner", end), "zzz")
 
     def test_an_idle_lun_has_no_kind_and_no_page(self) -> None:
-        _, changes = read_vcd(vcd.picture(support.trace("batch"), support.lengths("batch")))
+        changes = read_vcd(vcd.picture(support.trace("batch"), support.lengths("batch")))
         for time, kind in ((0, "zz"), (140, "00"), (2000, "00"), (58240, "zz")):
             self.assertEqual(value_at(changes, "channel.lun0.kind", time), kind)
         for time, block in ((0, "z" * 16), (140, "0" * 16), (280, "z" * 16), (880, "0" * 15 + "1"), (1020, "z" * 16)):
             self.assertEqual(value_at(changes, "channel.lun0.block", time), block)
 
     def test_ready_falls_for_gap_and_array_time(self) -> None:
-        _, changes = read_vcd(vcd.picture(support.trace("batch"), support.lengths("batch")))
+        changes = read_vcd(vcd.picture(support.trace("batch"), support.lengths("batch")))
         told = [(change.time, change.value) for change in changes if change.signal == "channel.lun0.ready"]
         self.assertEqual(told, [(0, "1"), (280, "0"), (880, "1"), (1020, "0"), (26120, "1")])
 
     def test_what_the_trace_does_not_tell_is_unknown(self) -> None:
-        _, changes = read_vcd(vcd.picture(support.trace("programs-on-one-plane"), None))
+        changes = read_vcd(vcd.picture(support.trace("programs-on-one-plane"), None))
         self.assertEqual(value_at(changes, "channel.lun1.ready", 0), "x")
         self.assertEqual(value_at(changes, "channel.lun1.phase", 0), "xxx")
 
     def test_no_change_is_told_twice(self) -> None:
-        _, changes = read_vcd(vcd.picture(support.trace("batch"), None))
+        changes = read_vcd(vcd.picture(support.trace("batch"), None))
         for signal in {change.signal for change in changes}:
             values = [change.value for change in changes if change.signal == signal]
             self.assertTrue(all(one != other for one, other in zip(values, values[1:])))
 
     def test_a_trace_without_phases(self) -> None:
-        _, changes = read_vcd(vcd.picture([], None))
+        changes = read_vcd(vcd.picture([], None))
         self.assertEqual(changes, [Change(0, "channel.bus_owner", "zzz")])
 
 
@@ -338,7 +316,6 @@ class Commands(unittest.TestCase):
     def test_each_form_by_the_command(self) -> None:
         given = support.trace_text("batch")
         script = str(support.ROOT / "examples/batch.onfi")
-        self.assertEqual(support.run_tool("draw-trace", "60", given=given).stdout, TEXT_OF_BATCH)
         phases, lengths = support.trace("batch"), support.lengths("batch")
         drawn = {"svg": svg.picture(phases, lengths, 960, False), "vcd": vcd.picture(phases, lengths),
                  "perfetto": perfetto.picture(phases, lengths)}
@@ -346,30 +323,26 @@ class Commands(unittest.TestCase):
             ran = support.run_tool("draw-trace", "--as", form, "--script", script, given=given)
             self.assertEqual(ran.stdout, asked)
 
+    def by_script(self, script: str, given: str, *words: str) -> "subprocess.CompletedProcess[str]":
+        """The trace drawn by a script of that text."""
+        path = support.room_of(self) / "script.onfi"
+        path.write_text(script)
+        return support.run_tool("draw-trace", *words, "--script", str(path), given=given)
+
     def test_a_script_of_another_device_is_told(self) -> None:
-        given = support.trace_text("batch")
-        takes = "line 4: the phase takes 11000 ns, by the script 369380"
-        for script, word in (("examples/simulator/batch.onfi", takes), ("slow", "line 2: starts before the array time")):
-            with tempfile.TemporaryDirectory() as room:
-                path = support.ROOT / script
-                if script == "slow":
-                    path = Path(room) / "slow.onfi"
-                    path.write_text((support.ROOT / "examples/batch.onfi").read_text().replace("25100", "25101"))
-                    given = "0 140 1 read cmd 0 0 00 30\n25240 36240 1 read post 0 0 06 E0\n"
-                for form in ("svg", "vcd", "perfetto"):
-                    ran = support.run_tool("draw-trace", "--as", form, "--script", str(path), given=given)
-                    self.assertEqual((ran.returncode, ran.stdout, ran.stderr.count("\n")), (1, "", 1))
-                    self.assertIn(word, ran.stderr)
-                    self.assertIn(str(path), ran.stderr)
+        batch, other = ((support.ROOT / f"examples/{name}.onfi").read_text() for name in ("batch", "simulator/batch"))
+        late = "0 140 1 read cmd 0 0 00 30\n25240 36240 1 read post 0 0 06 E0\n"
+        for script, given, wrong in ((other, support.trace_text("batch"), "line 4: the phase takes 11000 ns, by the script 369380"),
+                                     (batch.replace("25100", "25101"), late, "line 2: starts before the array time")):
+            for form in ("svg", "vcd", "perfetto"):
+                ran = self.by_script(script, given, "--as", form)
+                self.assertEqual((ran.returncode, ran.stdout, ran.stderr.count("\n")), (1, "", 1))
+                self.assertRegex(ran.stderr, rf"{wrong}.*: /.*/script\.onfi isn't the script of this trace\n$")
 
     def test_an_output_of_some_sectors_is_as_long_as_the_script_says(self) -> None:
         """Of 528 bytes at 20 ns in 11,000 ns, three times 132 less in 3,080 ns."""
         for name, row in (("batch", "sectorpost,1,3080"), ("program-by-page", "sector,132")):
-            text = (support.ROOT / f"examples/{name}.onfi").read_text()
-            with tempfile.TemporaryDirectory() as room:
-                path = Path(room) / "sectors.onfi"
-                path.write_text(f"{row}\n{text}")
-                for post, status in ((3080, 0), (11000, 0), (3081, 1)):
-                    given = f"0 140 1 read cmd 0 0 00 30\n25240 {25240 + post} 1 read post 0 0 06 E0\n"
-                    ran = support.run_tool("draw-trace", "--script", str(path), given=given)
-                    self.assertEqual((ran.returncode, bool(ran.stdout)), (status, not status), ran.stderr)
+            script = f"{row}\n" + (support.ROOT / f"examples/{name}.onfi").read_text()
+            for post, status in ((3080, 0), (11000, 0), (3081, 1)):
+                ran = self.by_script(script, f"0 140 1 read cmd 0 0 00 30\n25240 {25240 + post} 1 read post 0 0 06 E0\n")
+                self.assertEqual((ran.returncode, bool(ran.stdout)), (status, not status), ran.stderr)

@@ -1,12 +1,13 @@
 """PROOFS: each file, call, clause, definition and lemma that the page names is there, and rests on what the page says."""
 
+import functools
 import re
 import unittest
 from pathlib import Path
 from typing import Dict, List, NamedTuple, Set, Tuple
 
 import support
-from definitions import WORD, Definitions, Key, uses_of
+from definitions import WORD, Definitions, Key, reached_from, uses_of
 
 PAGE = support.ROOT / "docs/PROOFS.md"
 LINK = re.compile(r"\]\(\.\./(crates/[^)#]+)\)")
@@ -15,15 +16,16 @@ IMPORT = re.compile(r"^use Rattle\.(onfi_\w+)\.proofs\.([\w.]+)", re.MULTILINE)
 NAMED = re.compile(r"`([A-Za-z_]\w*(?:::\w+)*)`(?! of (?:std|the kit))")
 # An abbreviation of what the clause says.
 STANDS_FOR = {"IsAnswer": "IsAnswerBy"}
-CALL = re.compile(r"^\s*(?:pub(?:\(\w+\))? )?(?:unsafe )?(?:extern \"C\" )?fn (\w+)")
-TYPE = re.compile(r"^\s*(?:pub(?:\(\w+\))? )?(?:struct|enum|trait) (\w+)")
+# Where a clause begins or ends: at a function, a type, a clause, and a brace that stands alone.
+MARK = re.compile(r"""^(?:impl\b.*?(?P<within>\w+)(?:<[^{\n]*)?\ \{
+    |\s*(?:pub(?:\(\w+\))?\ )?(?:(?:unsafe\ )?(?:extern\ "C"\ )?fn\ (?P<call>\w+)|(?:struct|enum|trait)\ (?P<type>\w+))
+    |\s*(?P<clause>ensures|requires\*?|(?:pub\ )?ghost(?!\ use))\b(?:\ (?P<name>\w+))?
+    |[ ]*[{}][ ]*$)""", re.M | re.X)
 
 
 class Clause(NamedTuple):
-    path: str
     within: str
     owner: str
-    word: str
     name: str
     cites: Set[Key]
 
@@ -38,38 +40,29 @@ class Further(NamedTuple):
     definition: str
 
 
+DEFINITIONS = Definitions()
+
+
 class Sources:
     """The contracts of a crate's functions, and the ghost parts of its types."""
 
-    def __init__(self, crate: str, definitions: Definitions) -> None:
+    def __init__(self, crate: str) -> None:
         self.clauses: List[Clause] = []
         self.names: Set[str] = set()
         self.calls: Set[str] = set()
         for path in sorted((support.ROOT / "crates" / crate / "src").glob("**/*.rt")):
-            self.read(path, definitions)
+            self.read(path.read_text())
 
-    def read(self, path: Path, definitions: Definitions) -> None:
-        text = path.read_text()
+    def read(self, text: str) -> None:
         taken, whole = uses_of(text)
-        within, owner, word, name, body = "", "", "", "", ""
-        for line in text.splitlines() + ["fn end"]:
-            call, kind, block = CALL.match(line), TYPE.match(line), re.match(r"impl\b.*?(\w+)(?:<[^{]*)? \{", line)
-            within = block.group(1) if block else within
-            clause = re.match(r"\s*(ensures|requires\*?|(?:pub )?ghost)\b(?: (\w+))?", line)
-            if call or kind or clause or line.strip() in ("{", "}"):
-                if word:
-                    cites = cited(body, taken, whole, definitions)
-                    self.clauses.append(Clause(path.name, within, owner, word, name, cites))
-                word, name, body = "", "", ""
-            if call or kind:
-                owner = (call or kind).group(1)  # type: ignore[union-attr]
-                self.names.add(owner)
-                self.calls |= {owner} if call else set()
-            if clause:
-                word, name = clause.group(1), clause.group(2) or ""
-                self.names.add(name)
-            if word:
-                body += line + "\n"
+        within, owner = "", ""
+        marks = [*MARK.finditer(text)]
+        for mark, end in zip(marks, [*(it.start() for it in marks[1:]), len(text)]):
+            within, owner = mark["within"] or within, mark["call"] or mark["type"] or owner
+            self.names |= {owner, mark["name"] or ""}
+            self.calls |= {mark["call"] or ""}
+            if mark["clause"]:
+                self.clauses.append(Clause(within, owner, mark["name"] or "", cited(text[mark.start() : end], taken, whole)))
 
     def under(self, named: List[str]) -> Set[Key]:
         """What the named clauses cite; of a call without a named clause, and of a type alone, all that they promise."""
@@ -81,10 +74,15 @@ class Sources:
         return {key for clause in chosen for key in clause.cites}
 
 
-def cited(body: str, taken: Dict[str, Key], whole: Dict[str, Tuple[str, str]], definitions: Definitions) -> Set[Key]:
+@functools.cache
+def sources_of(crate: str) -> Sources:
+    return Sources(crate)
+
+
+def cited(body: str, taken: Dict[str, Key], whole: Dict[str, Tuple[str, str]]) -> Set[Key]:
     keys = [taken[word] for word in set(WORD.findall(body)) if word in taken]
     keys += [(*module, word) for alias, module in whole.items() for word in re.findall(rf"\b{alias}\.(\w+)", body)]
-    return {found for key in keys for found in definitions.resolve(key)}
+    return {found for key in keys for found in DEFINITIONS.resolve(key)}
 
 
 def rows_of_further(text: str) -> List[Further]:
@@ -120,34 +118,22 @@ def crate_of(path: Path) -> str:
     return path.relative_to(support.ROOT / "crates").parts[0]
 
 
-class Imports:
-    """Which lemma modules the proofs of a crate rest on."""
+@functools.cache
+def lemmas_taken(path: Path) -> Set[Path]:
+    """The lemma modules that a file of proofs imports."""
+    named = IMPORT.findall(path.read_text())
+    found = (support.ROOT / "crates" / crate / "proofs" / f"{module.split('.')[0]}.antt" for crate, module in named)
+    return {file for file in found if file.exists()}
 
-    def __init__(self) -> None:
-        self.of_file: Dict[Path, Set[Path]] = {}
 
-    def taken(self, path: Path) -> Set[Path]:
-        if path not in self.of_file:
-            named = IMPORT.findall(path.read_text())
-            found = (support.ROOT / "crates" / crate / "proofs" / f"{module.split('.')[0]}.antt" for crate, module in named)
-            self.of_file[path] = {file for file in found if file.exists()}
-        return self.of_file[path]
-
-    def below(self, crate: str) -> Set[Path]:
-        seen: Set[Path] = set()
-        left = list((support.ROOT / "crates" / crate / "proofs").glob("*/**/*.antt"))
-        while left:
-            path = left.pop()
-            if path not in seen:
-                seen.add(path)
-                left.extend(self.taken(path) - seen)
-        return seen
+def lemmas_below(crate: str) -> Set[Path]:
+    """The files that the proofs of a crate's functions rest on."""
+    return reached_from((support.ROOT / "crates" / crate / "proofs").glob("*/**/*.antt"), lemmas_taken)
 
 
 class Proofs(unittest.TestCase):
     text = PAGE.read_text()
     rows = rows_of(text)
-    definitions = Definitions()
 
     def test_the_readme_leads_here(self) -> None:
         section = (support.ROOT / "README.md").read_text().split("## What is promised")[1].split("\n## ")[0]
@@ -178,21 +164,19 @@ class Proofs(unittest.TestCase):
         for row in self.rows:
             behind = set()
             for names, path in parts_of(row.clause):
-                source = Sources(crate_of(path), self.definitions)
-                behind |= self.definitions.below(source.under(names))
+                behind |= DEFINITIONS.below(sources_of(crate_of(path)).under(names))
             parts = parts_of(row.definition)
             self.assertTrue(parts, row.promise)
             for names, path in parts:
                 self.assertTrue(names, row.promise)
                 for name in names:
                     named = {(crate_of(path), path.stem, word) for word in (name, STANDS_FOR.get(name, name))}
-                    self.assertTrue(named & set(self.definitions.found), f"{row.promise}: {name}")
+                    self.assertTrue(named & set(DEFINITIONS.found), f"{row.promise}: {name}")
                     self.assertTrue(named & behind, f"{row.promise}: {name}")
 
     def test_each_lemma_module_is_one_that_the_proofs_rest_on(self) -> None:
-        imports = Imports()
         for row in self.rows:
-            below = set().union(*(imports.below(crate_of(path)) for _, path in parts_of(row.clause)))
+            below = set().union(*(lemmas_below(crate_of(path)) for _, path in parts_of(row.clause)))
             modules = parts_of(row.lemmas)
             self.assertTrue(modules, row.promise)
             for _, path in modules:
@@ -229,21 +213,7 @@ class Proofs(unittest.TestCase):
 
 
 class FurtherPromises(unittest.TestCase):
-    definitions = Definitions()
-    sources: Dict[str, Sources] = {}
     rows = rows_of_further(PAGE.read_text())
-
-    def source(self, crate: str) -> Sources:
-        if crate not in self.sources:
-            self.sources[crate] = Sources(crate, self.definitions)
-        return self.sources[crate]
-
-    def holds(self, row: Further) -> None:
-        """Each definition that a row names is one that its clauses rest on."""
-        cites = self.definitions.below(self.source(row.crate).under(NAMED.findall(row.clause)))
-        for name in NAMED.findall(row.definition):
-            found = self.definitions.named(name) | self.definitions.named(STANDS_FOR.get(name, name))
-            self.assertTrue(found & cites, f"{row.crate}: {row.promise}: {name}")
 
     def test_each_row_is_read(self) -> None:
         section = PAGE.read_text().split("### Further promises\n")[1].split("\n## ")[0]
@@ -255,11 +225,14 @@ class FurtherPromises(unittest.TestCase):
             parts = re.findall(r"\w+", " ".join(NAMED.findall(row.clause)))
             self.assertTrue(parts, row.promise)
             for part in parts:
-                self.assertIn(part, self.source(row.crate).names, f"{row.crate}: {row.promise}")
+                self.assertIn(part, sources_of(row.crate).names, f"{row.crate}: {row.promise}")
             text = row.path.read_text()
             self.assertTrue(any(re.search(rf"\b{part}\b", text) for part in parts), f"{row.path.name}: {row.promise}")
 
     def test_each_definition_is_one_that_its_clause_rests_on(self) -> None:
         for row in self.rows:
             self.assertTrue(NAMED.search(row.definition), row.promise)
-            self.holds(row)
+            cites = DEFINITIONS.below(sources_of(row.crate).under(NAMED.findall(row.clause)))
+            for name in NAMED.findall(row.definition):
+                found = DEFINITIONS.named(name) | DEFINITIONS.named(STANDS_FOR.get(name, name))
+                self.assertTrue(found & cites, f"{row.crate}: {row.promise}: {name}")

@@ -166,8 +166,8 @@ class Carried(unittest.TestCase):
         self.assertEqual(given["onfi_plan"], ["ptr", "ptr", "i64", "ptr", "i64", "i32", "ptr", "ptr", "i64", "ptr"])
         text = narrow_calls(calls)
         self.assertIn("uint32_t wide_onfi_version(void);\nuint32_t onfi_version(void)\n{\n    return wide_onfi_version();\n}\n", text)
-        self.assertIn("    uint64_t wide_want_count = *want_count;\n", text)
-        self.assertIn("    uint64_t wide_answer_bytes = NOTHING;\n", text)
+        self.assertIn("        wide_want_count[at] = want_count[at];\n", text)
+        self.assertIn("        wide_answer_bytes[at] = NOTHING;\n", text)
 
 
 class Tool(unittest.TestCase):

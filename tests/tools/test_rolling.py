@@ -8,11 +8,12 @@ from pathlib import Path
 from typing import Dict, List, NamedTuple
 
 import support
-from onfi_tools.channel_bound import Channel, Request, bounds_of, bus_bound, dies_bound, found_mates, loop_bound, most_outstanding, read_source, requests_for
+from onfi_tools.bench.runs import quantile
+from onfi_tools.channel_bound import Channel, Request, bounds_of, bus_bound, dies_bound, found_mates, loop_bound, most_outstanding
 from onfi_tools.device import Spans
-from onfi_tools.rolling_tables import gain_table, nine_of_ten, of_bound, pairs_of, room_table, sector_table, spread_table
-from onfi_tools.rolling_use import (ALL, OF_SECTORS, SOURCES, STRICT, TWELVE, WITH_ERASES, Asked, Configuration, Figures, Measured, Rows, bound_of, build,
-                                    key_of, measure, run_way, six_of, sources_of)
+from onfi_tools.rolling_tables import gain_table, of_bound, room_table, sector_table, spread_table
+from onfi_tools.rolling_use import (ALL, OF_SECTORS, SOURCES, STRICT, TWELVE, WITH_ERASES, Asked, Configuration, Figures, Measured, Rows, bounds_there,
+                                    build, key_of, measure, run_way, six_of, sources_of)
 from onfi_tools.rolling_ways import BASE, GREEDY, PLANS, QUICK, SETTINGS, WAYS, WITHOUT_SEARCH
 
 ASKED = Asked(requests=200, seed=3, limit=2000, jobs=1)
@@ -238,7 +239,7 @@ class Tables(unittest.TestCase):
             figures["read_99"] = 0.0
         row = "| plan in order | 100.0 | 90.0 | 80.0 | 150.0 | 1; 2 | 80; 64 | 1.00 | 2.00 | 1.00 | 1.00 |"
         self.assertEqual(spread_table("of ten", measured, ["plan"])[2], row)
-        self.assertEqual(nine_of_ten(list(range(216))), 21)
+        self.assertEqual(quantile(range(216), 0.1), 21)
 
     def test_where_there_is_room_by_hand(self) -> None:
         """Reads first over all has 80 % of a bound of 125; of three configurations one has a bound of 105."""
@@ -256,7 +257,7 @@ class Tables(unittest.TestCase):
         sectors = [one._replace(configuration=of) for of, one in zip(six_of("reads-4k"), sectors)]
         for figures in sectors[0].by_way.values():
             figures["read_mean"] = 0.5
-        pairs = pairs_of(pages, sectors)
+        pairs = list(zip(pages, sectors))
         rows = sector_table(pairs, [BASE, "steady"])
         self.assertEqual(rows[2], "| tlc, random reads of 4 KiB, 2 ns, 8 LUNs, 64 | 100 | 200 | 2.00 | 160 | 100; 105 |")
         self.assertEqual(rows[3].split("|")[2:], [" 150 ", " 150 ", " 1.00 ", " 120 ", " 100; 80 ", ""])
@@ -306,29 +307,17 @@ class Bounds(unittest.TestCase):
     def test_the_bus_has_each_command_and_post(self) -> None:
         self.assertAlmostEqual(bus_bound(channel(), reads(0, 0, 0)), 1e9 / 40)
 
-    def test_one_at_a_time_is_a_stay_of_one(self) -> None:
-        """One program outstanding: whatever groups there could be, each stays for 540 ns."""
-        programs = [Request("program", 0)] * 10
-        self.assertAlmostEqual(dies_bound(channel(luns=8, depth=1), programs), 1e9 / 540)
-        self.assertAlmostEqual(bounds_of(channel(luns=8, depth=1), programs + programs, 10)["loop"], 1e9 / 540)
+    def test_groups_of_programs(self) -> None:
+        """By LUNs, outstanding programs and planes the ns from answer to answer. One has its LUN for 540 ns, four for 4 * 40 + 3 * 2 + 500.
 
-    def test_one_lun_has_whole_groups(self) -> None:
-        """Many outstanding on one LUN: four programs have it for 4 * 40 + 3 * 2 + 500 ns."""
-        self.assertAlmostEqual(dies_bound(channel(depth=256), [Request("program", 0)] * 8), 4e9 / 666)
-        self.assertAlmostEqual(dies_bound(channel(depth=256, planes=2), [Request("program", 0)] * 8), 2e9 / 582)
-
-    def test_large_groups_stay_too_long(self) -> None:
-        """Two LUNs, two planes, two outstanding. One by one 540 / 2 = 270 ns an answer; in pairs 145.5 of the LUNs, but 283.5 of the stays."""
-        self.assertAlmostEqual(dies_bound(channel(luns=2, depth=2, planes=2), [Request("program", 0)] * 8), 1e9 / 270)
-
-    def test_some_groups_are_large(self) -> None:
-        """Three LUNs, two planes, five outstanding. One by one 180 ns an answer by the LUNs and 108 by the stays; in pairs 97 and 113.4.
-
-        Both say the same where a share of 72 / 88.4 goes in pairs: 180 - 83 x = 108 + 5.4 x.
+        Two LUNs with two outstanding: one by one 540 / 2 ns; in pairs 145.5 of the LUNs, but 283.5 of the stays. Three with five: one by one
+        180 by the LUNs and 108 by the stays, in pairs 97 and 113.4; the same where a share of 72 / 88.4 goes in pairs: 180 - 83 x = 108 + 5.4 x.
         """
-        self.assertAlmostEqual(dies_bound(channel(luns=1, depth=3, planes=2), [Request("program", 0)] * 8), 1e9 / 291)
-        found = dies_bound(channel(luns=3, depth=5, planes=2), [Request("program", 0)] * 8)
-        self.assertAlmostEqual(1e9 / found, 108 + 5.4 * 72 / 88.4, 6)
+        programs = [Request("program", 0)] * 20
+        times = {(8, 1, 4): 540, (1, 256, 4): 666 / 4, (1, 256, 2): 582 / 2, (1, 3, 2): 291, (2, 2, 2): 270, (3, 5, 2): 108 + 5.4 * 72 / 88.4}
+        for shape, time in times.items():
+            self.assertAlmostEqual(1e9 / dies_bound(channel(*shape), programs), time, 6, shape)
+        self.assertAlmostEqual(bounds_of(channel(8, 1), programs, 10)["loop"], 1e9 / 540)
 
     def test_mates_come_beyond_the_room(self) -> None:
         erases = [Request("erase", 0), *[Request("erase", 0, True)] * 3]
@@ -358,11 +347,6 @@ class Bounds(unittest.TestCase):
 
 
 class Simulated(unittest.TestCase):
-    def bounds(self, of: Configuration) -> Dict[str, float]:
-        words = [*of.words(), "requests", str(requests_for(2000, of.depth)), "source", "yes"]
-        text = subprocess.run([str(GREEDY_ALONE), *words], capture_output=True, text=True, check=True).stdout
-        return bounds_of(*read_source(text, of.luns, of.depth, 1), 2000)
-
     def test_it_is_reached(self) -> None:
         """Where one LUN, one request or the bus decides, the greedy way has all that there is."""
         reached = {
@@ -371,7 +355,7 @@ class Simulated(unittest.TestCase):
             "bus": (TWELVE[4], 1e9 / (175 + 15_354 + 675)),
         }
         for name, (of, rate) in reached.items():
-            bounds = self.bounds(of)
+            bounds = bounds_there(GREEDY_ALONE, of, LONG)
             self.assertEqual(min(bounds.values()), bounds[name], name)
             self.assertAlmostEqual(bounds[name] / run_way(GREEDY_ALONE, of, "rfirst:all", LONG)["rate"], 1, 3, name)
             self.assertLess(abs(bounds[name] / rate - 1), 0.01, name)
@@ -380,6 +364,6 @@ class Simulated(unittest.TestCase):
         """A run may by what it leaves undone: with erases by a twentieth, else by a hundredth."""
         conditions = [*TWELVE, *ALL[::31], TWELVE[10]._replace(array="0.4-0.7"), TWELVE[10]._replace(load=0.9), TWELVE[1]._replace(array="0.4-0.7", told=False)]
         for of in conditions:
-            bound = bound_of(GREEDY_ALONE, of, LONG)
+            bound = min(bounds_there(GREEDY_ALONE, of, LONG).values())
             for way in GREEDY:
                 self.assertLess(run_way(GREEDY_ALONE, of, way, LONG)["rate"], bound * (1.05 if of.workload == "erases" else 1.01), (of, way))

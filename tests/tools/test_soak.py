@@ -12,75 +12,40 @@ from onfi_tools.die import Block, Device, Operation
 SOAK: Any = support.load("soak")
 
 USUAL = Device(64, 528, False)
-PROGRAM = """#!{python} -B
-import csv, sys
-sys.path.insert(0, {tools!r})
-from onfi_tools.device import first_copy, numbers_of
-from onfi_tools.die import Block, Device, Operation
-
-rows = list(csv.reader(sys.stdin.read().split("\\nend")[0].splitlines()))
-page = numbers_of(first_copy(bytes.fromhex("".join(row[1] for row in rows if row[0] == "page"))))
-sector = sum(int(row[1]) for row in rows if row[0] == "sector")
-device = Device(page["pages_per_block"], page["data_bytes"] + page["spare_bytes"], bool(page["any_page_order"]), sector)
-faults, fails, unready, blocks, serials, calls, stopped, lines = {{}}, {{}}, {{}}, {{}}, {{}}, {{}}, {{}}, []
-for row in rows:
-    if row[0] == "fault":
-        faults.setdefault(tuple(map(int, row[1:4])), set()).add(int(row[4]))
-    if row[0] in ("chipfail", "notready"):
-        (fails if row[0] == "chipfail" else unready)[int(row[1])] = int(row[2])
-
-
-def run(channel, spot, operation):
-    done, statuses = calls.setdefault(channel, [0, 0])
-    calls[channel] = [done + 2, statuses + (operation.kind != "read")]
-    if done <= fails.get(channel, -1) < done + 2:
-        stopped[channel] = "Bus"
-    elif operation.kind != "read" and statuses == unready.get(channel):
-        stopped[channel] = f"NotReady {{spot[1]}}"
-    block = blocks.setdefault(spot, Block(device, frozenset(faults.get(spot, ()))))
-    return block.apply(operation)
-
-
-for row in rows:
-    if row[0] in ("op", "opread"):
-        kind = row.pop(3) if row[0] == "op" else "read"
-        host, channel, lun, number, at = map(int, row[1:6])
-        serial = serials.setdefault((host, channel), 0)
-        serials[(host, channel)] += 1
-        content = bytes.fromhex(row[6]) if kind == "program" else b""
-        first, count = map(int, row[6:8]) if row[0] == "opread" else (0, 0)
-        answer = None if channel in stopped else run(channel, (channel, lun, number), Operation(kind, at, content, {reads}))
-        if channel not in stopped:
-            lines.append((host, channel, serial, answer))
+# A program that does something else with its script, or its answer, than the built one.
+PROGRAM = """#!{python} -SI
+import re, subprocess, sys
+words, script = sys.argv[1:], sys.stdin.read()
+limit = words[-1] if "--limit" in words else ""
+{changed}
+ran = subprocess.run([{program!r}, *words], input=script, capture_output=True, text=True)
+lines, status = ran.stdout.splitlines(), ran.returncode
 {spoilt}
-for line in sorted(lines):
-    print("reply,%d,%d,%d,%s" % line)
-for channel, cause in sorted(stopped.items()):
-    print(f"stopped,{{channel}},{{cause}}")
-print("closed")
-sys.exit(3 if stopped else 0)
+print(*lines, sep="\\n")
+sys.exit(status)
 """
-
-
 OVER = """
-if IS_OVER:
-    for channel in sorted(set(row[2] for row in rows if row[0] in ("op", "opread"))):
-        print("over," + channel + "," + str(COUNT))
-    print("closed")
-    sys.exit(6)
+if {where}:
+    channels = sorted(set(re.findall("^op(?:read)?,.,(.)", script, re.MULTILINE)))
+    lines, status = [*(f"over,{{it}},{count}" for it in channels), "closed"], 6
 """
 
 
-def over(where: str, count: str) -> str:
+def over(where: str, count: str = "{limit}") -> str:
     """Each channel with an operation is over there, with so many nodes, before it answers anything."""
-    return OVER.replace("IS_OVER", where).replace("COUNT", count)
+    return OVER.format(where=where, count=count)
 
 
-def soaked(spoilt: str, *words: str, scripts: int = 30, reads: str = "first, count") -> Tuple[int, str]:
-    """Status and output of the tool on a program that reads these sectors, and does this with its lines before it prints them."""
+def every(form: str, other: str) -> str:
+    """Lines of a report with something else in place of what has this form."""
+    return f"lines = [re.sub({form!r}, {other!r}, line) for line in lines]"
+
+
+def soaked(spoilt: str, *words: str, changed: str = "") -> Tuple[int, str]:
+    """Status and output of the tool on a program that does this with its lines before it prints them, and that with its script."""
     with tempfile.TemporaryDirectory() as folder:
-        program = support.executable(folder, PROGRAM.format(python=sys.executable, tools=str(support.ROOT / "tools"), spoilt=spoilt, reads=reads))
-        said = support.run_tool("soak", "1", program, "--scripts", str(scripts), *words)
+        text = PROGRAM.format(python=sys.executable, program=support.program(), spoilt=spoilt, changed=changed)
+        said = support.run_tool("soak", "1", support.executable(folder, text), "--scripts", "30", "--only", "mixed", *words)
     return said.returncode, said.stdout + said.stderr
 
 
@@ -119,43 +84,38 @@ class DieModel(unittest.TestCase):
 
 
 BEHIND = "the lines behind the replies"
-PASSED = "30 passed, 0 failed"
-NAMED = 'assert [row[1] for row in rows if row[0] == "choice"] == ["by-lun"]'
-LEFT_OUT = """
-if "--limit" in sys.argv:
-    lines = [line[:3] + ("done" if line[3].startswith("read") else "read,*FF",) for line in lines]
+TURNED = """
+replies = [line.split(",", 4) for line in lines if line.startswith("reply")]
+answers = [reply.pop() for reply in replies]
+lines[: len(replies)] = [",".join([*reply, answer]) for reply, answer in zip(replies, answers[1:] + answers[:1])]
 """
-WITHIN_LIMIT = over('"--limit" in sys.argv', "sys.argv[-1]")
 # What a program does to its lines that is a difference, what is said of it, and further words.
 DIFFERENCES = {
-    "another choice than is named": (NAMED, "differences", "--choice reads-first"),
-    "a lost reply": ("lines = lines[:-1]", "or none to [(", ""),
-    "a lost reply within a limit": ('lines = lines[:1] if "--limit" in sys.argv else lines', "or none to [(", ""),
-    "an answer under the serial of another request": (LEFT_OUT, "no order of acceptance", ""),
-    "a reply twice": ("lines += lines[-1:]", "replies that don't rise", ""),
-    "a wrong answer": ('lines = [line[:3] + ("failed",) for line in lines]', "no order of acceptance", ""),
-    "a stop reported as a closing": ("stopped = {}", BEHIND, ""),
-    "a channel that plans by the best so far and is over": (over('"--limit" in sys.argv and "--within" in sys.argv', "sys.argv[-1]"), BEHIND, ""),
-    "another limit": (over('"--limit" in sys.argv', "int(sys.argv[-1]) - 1"), BEHIND, ""),
-    "a channel that is over without a limit": (over('"--limit" not in sys.argv', "1048576"), BEHIND, ""),
-    "a channel that must stop and says nothing within a limit": ('stopped = {} if "--limit" in sys.argv else stopped', BEHIND, "--only mixed --seed 2"),
-    "status 0 where a channel was over": (WITHIN_LIMIT.replace("sys.exit(6)", "sys.exit(0)"), "status 0", ""),
-    "another cause": ('stopped = dict.fromkeys(stopped, "Clock")', BEHIND, ""),
+    "a lost reply": ("lines = lines[1:]", "or none to [(", ""),
+    "a lost reply within a limit": ("lines = lines[1:] if limit else lines", "or none to [(", ""),
+    "an answer under the serial of another request": (TURNED, "no order of acceptance", ""),
+    "a reply twice": ("lines = lines[:1] + lines", "replies that don't rise", ""),
+    "a wrong answer": (every("done", "failed"), "no order of acceptance", ""),
+    "a stop reported as a closing": ('lines, status = [line for line in lines if "stopped" not in line], 0', BEHIND, ""),
+    "a channel that plans by the best so far and is over": (over('limit and "--within" in words'), BEHIND, ""),
+    "another limit": (over("limit", "{int(limit) - 1}"), BEHIND, ""),
+    "a channel that is over without a limit": (over("not limit", "1048576"), BEHIND, ""),
+    "a channel that must stop and says nothing within a limit": ('lines = [line for line in lines if not limit or "stopped" not in line]', BEHIND, "--seed 2"),
+    "status 0 where a channel was over": (over("limit").replace("6\n", "0\n"), "status 0", ""),
+    "another cause": (every("(stopped,.),.*", r"\1,Clock"), BEHIND, ""),
 }
+# What a program reads in place of the sectors that are asked for: the page, those from the first on, one.
+OTHER_READS = (r"op,\1,read,\2", r"opread,\1,\2,0,\4", r"opread,\1,\2,\3,1")
 
 
+@unittest.skipUnless(support.program(), "no built program")
 class Soak(unittest.TestCase):
     def test_what_is_no_difference(self) -> None:
-        """Answers as the model has them, a choice that stands in each script, a channel that is over within a few nodes."""
-        may_be_over = over('"--limit" in sys.argv and "--within" not in sys.argv', "sys.argv[-1]")
-        for spoilt, words in (("", ""), (NAMED, "--choice by-lun"), (may_be_over, "")):
-            status, said = soaked(spoilt, *words.split())
-            self.assertEqual((status, said.splitlines()[-1]), (0, PASSED), spoilt)
+        """Answers as the program has them, and a channel that is over within a few nodes."""
+        for spoilt in ("", over('limit and "--within" not in words')):
+            status, said = soaked(spoilt)
+            self.assertEqual((status, said.splitlines()[-1]), (0, "30 passed, 0 failed"), spoilt)
             self.assertRegex(said, r"\n?[1-9]\d+ operations, 0 differences")
-
-    def test_a_heavy_script_has_a_thousand_operations_of_each_host(self) -> None:
-        status, said = soaked("", "--heavy", scripts=1)
-        self.assertEqual((status, said.splitlines()), (0, ["4000 operations, 0 differences", "1 passed, 0 failed"]))
 
     def test_what_is_a_difference(self) -> None:
         for name, (spoilt, told, words) in DIFFERENCES.items():
@@ -164,18 +124,19 @@ class Soak(unittest.TestCase):
                 self.assertEqual(status, 1, said)
                 self.assertIn(told, said)
 
-    def test_reads_of_sectors_each_and_of_others(self) -> None:
-        for reads in ("first, count", "0, 0", "0, count", "first, 1", "first, min(count + 1, 7)"):
-            status, said = soaked("", "--sectors", reads=reads)
-            self.assertEqual((status, "no order of acceptance" in said), (0, False) if reads == "first, count" else (1, True), reads)
+    def test_reads_of_other_sectors(self) -> None:
+        for other in OTHER_READS:
+            with self.subTest(other):
+                status, said = soaked("", changed=f'script = re.sub(r"opread,(.,.),(.,.,.),(.+),(.)", r"{other}", script)')
+                self.assertEqual((status, "no order of acceptance" in said), (1, True))
 
 
 class Drawn(unittest.TestCase):
     """What scripts are drawn in each way."""
 
-    def drawn(self, way: str) -> List[Any]:
+    def drawn(self, way: str, count: int = 40) -> List[Any]:
         made = []
-        for number in range(40):
+        for number in range(count):
             rng = random.Random(f"1 {number}")
             made.append(SOAK.drawn_script(rng, SOAK.WAYS[way](rng)))
         return made
@@ -192,6 +153,10 @@ class Drawn(unittest.TestCase):
             self.assertGreaterEqual(len(script.asked), 200)
             self.assertLessEqual(script.sizes.postcap, 2)
         self.assertEqual({script.asked[0].spot[0] for script in scripts}, {0, 1, 2, 3})
+
+    def test_heavy_are_a_thousand_operations_of_each_of_four_hosts(self) -> None:
+        script, = self.drawn("heavy", 1)
+        self.assertEqual((len(script.asked), script.sizes.hosts, script.sizes.postcap), (4000, 4, 1))
 
     def test_sectors_that_are_read_lie_on_their_page(self) -> None:
         counts: Set[int] = set()

@@ -28,15 +28,14 @@ class Statuses(unittest.TestCase):
         self.assertEqual(text.count(old), 1, old)
         (self.folder / path).write_text(text.replace(old, new), encoding="utf-8")
 
-    def run_here(self, *words: str) -> Tuple[int, List[str]]:
+    def run_here(self) -> Tuple[int, List[str]]:
         said = io.StringIO()
-        with mock.patch.object(TOOL, "ROOT", self.folder), mock.patch.object(sys, "argv", ["make-statuses", *words]), contextlib.redirect_stdout(said):
+        with mock.patch.object(TOOL, "ROOT", self.folder), mock.patch.object(sys, "argv", ["make-statuses"]), contextlib.redirect_stdout(said):
             status: int = TOOL.main()
         return status, said.getvalue().splitlines()
 
     def test_nothing_differs(self) -> None:
-        told = support.run_tool("make-statuses", "--check")
-        self.assertEqual((told.returncode, told.stdout, told.stderr), (0, "", ""))
+        self.assertEqual(self.run_here(), (0, []))
 
     def test_the_page_has_each_status_of_the_source(self) -> None:
         statuses = list(TOOL.statuses_in((support.ROOT / TOOL.PAGE).read_text(encoding="utf-8")))
@@ -49,7 +48,6 @@ class Statuses(unittest.TestCase):
                                (TOOL.REFUSED, "        Clock,\n", ""), (TOOL.REFUSED, '    "Clock",\n', ""), (TOOL.PACKAGE, "    Clock,\n", "")):
             before = (self.folder / path).read_bytes()
             self.change(path, old, new)
-            self.assertEqual(self.run_here("--check"), (1, [f"{path}: it isn't as {TOOL.PAGE} says; tools/make-statuses writes it"]))
             self.assertEqual(self.run_here(), (0, [f"wrote {path}"]))
             self.assertEqual((self.folder / path).read_bytes(), before)
 
@@ -69,9 +67,8 @@ class Statuses(unittest.TestCase):
         for path, where, old, new in said_of:
             before = (self.folder / path).read_bytes()
             self.change(path, old, new)
-            for word in ("", "--check"):
-                status, said = self.run_here(*word.split())
-                self.assertEqual((status, [it.split(": ")[0] for it in said]), (1, [path + where]))
+            status, said = self.run_here()
+            self.assertEqual((status, [it.split(": ")[0] for it in said]), (1, [path + where]))
             (self.folder / path).write_bytes(before)
 
     def test_a_new_line_of_the_page_is_written_and_asked_for_in_the_source(self) -> None:
@@ -88,7 +85,7 @@ class Statuses(unittest.TestCase):
     def test_a_line_that_is_none_is_told(self) -> None:
         for row in ("22 | Clock | Times that reach 2^62 ns.\n", "21 | Clock | A. | a\n", "x | Clock | A. | a\n", "22 | Clock | \"A\". | a\n", "22 | Clock | A. |\n"):
             self.change(TOOL.PAGE, ROW, row)
-            status, said = self.run_here("--check")
+            status, said = self.run_here()
             self.assertEqual((status, len(said)), (1, 1))
             self.assertRegex(said[0], rf"^{TOOL.PAGE}:\d+: not 'NUMBER \| NAME ")
             self.change(TOOL.PAGE, row, ROW)

@@ -114,15 +114,14 @@ class Places(unittest.TestCase):
         self.assertTrue(all(channel < 2 and lun < 2 and block < 6 and page < 4 for channel, lun, block, page in found))
 
     def test_reads_find_what_was_written_last(self) -> None:
-        """Against a model of pages: each is programmed once after its erase, in the order of its block."""
+        """Against a model of pages, which have the line that wrote them: each is programmed once after its erase, in the order of its block."""
         rng = random.Random(7)
         shape = SMALL._replace(blocks=80)
         for erases in (True, False):
             mapping = Mapping(shape, True, erases)
             striped = [(lane_of(shape, logical), logical) for logical in range(shape.logical_pages())]
-            home: Dict[Tuple[int, ...], int] = {lane.place(shape, number): logical for (lane, number), logical in striped}
+            pages: Dict[Tuple[int, ...], int] = {lane.place(shape, number): -logical for (lane, number), logical in striped}
             held: Dict[int, int] = {}
-            pages: Dict[Tuple[int, ...], Tuple[int, int]] = {}
             programs: Dict[Tuple[int, ...], int] = {}
             erased: Set[Tuple[int, ...]] = set()
             for line in range(1, 200):
@@ -138,13 +137,10 @@ class Places(unittest.TestCase):
                         self.assertEqual((place[3], place[2] >= 60), (programs.get(place[:3], 0), True))
                         self.assertEqual(place[:3] in erased, erases)
                         programs[place[:3]] = place[3] + 1
-                        pages[place] = (logical, line)
-                        held[logical] = line
+                        pages[place] = held[logical] = line
                         self.assertEqual(fields[7], f"*{line:02X}")
-                    elif logical in held:
-                        self.assertEqual(pages[place], (logical, held[logical]))
                     else:
-                        self.assertEqual(home[place], logical)
+                        self.assertEqual(pages[place], held.get(logical, -logical))
             self.assertEqual((len(held), len(programs) > 12), (24, True))
 
     def test_addresses_wrap(self) -> None:

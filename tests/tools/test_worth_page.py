@@ -4,12 +4,12 @@ import csv
 import statistics
 import unittest
 from pathlib import Path
-from typing import Dict, List
+from typing import Dict, List, Tuple
 
 import support
-from onfi_tools.rolling_tables import ROOM, bound_table, gain_table, of_bound, pairs_of, room_table, sector_table, share, spread_table
-from onfi_tools.rolling_use import ALL, OF_SECTORS, Asked, Measured, Rows, all_of, measure, six_of
-from onfi_tools.rolling_ways import BASE, WAYS, WAYS_OF_SECTORS
+from onfi_tools.rolling_tables import ROOM, Pair, bound_table, gain_table, of_bound, room_table, sector_table, share, spread_table
+from onfi_tools.rolling_use import ALL, OF_SECTORS, Asked, Configuration, Measured, Rows, all_of, measure, six_of
+from onfi_tools.rolling_ways import BASE, WAYS
 
 BENCH = support.ROOT / "bench"
 PAGE = (support.ROOT / "docs/WORTH.md").read_text()
@@ -37,7 +37,18 @@ def rows_of(name: str) -> List[Dict[str, str]]:
     return list(csv.DictReader((BENCH / name).read_text().splitlines()))
 
 
-class Page(unittest.TestCase):
+class Tables(unittest.TestCase):
+    def compare(self, first: str, tables: List[List[str]], least: int) -> None:
+        """The page's table, which may leave out rows and columns, with those of what the tool makes."""
+        made = {row: cells for lines in tables for row, cells in table_of(lines).items()}
+        shown = page_table(first)
+        self.assertGreaterEqual(len(shown), least)
+        for row, cells in shown.items():
+            for column, cell in cells.items():
+                self.assertEqual(made[row][column], cell, f"{row}: {column}")
+
+
+class Page(Tables):
     ways: List[str]
     measured: List[Measured]
 
@@ -45,18 +56,13 @@ class Page(unittest.TestCase):
     def setUpClass(cls) -> None:
         """All ways that the rows have. Nothing is run: a run that they don't have is an error."""
         rows = Rows(BENCH / "rolling.csv")
-        cls.ways = [BASE, *(way for way in WAYS if way != BASE and any(way in key for key in rows.found))]
+        cls.ways = [way for way in WAYS if any(way in key for key in rows.found)]
         cls.measured = measure(Path("/nowhere"), ALL, cls.ways, ASKED, rows)
 
     def test_its_tables_are_those_of_the_rows(self) -> None:
-        """The page may leave out rows and columns of what the tool makes."""
         spread = spread_table("throughput, % of reads first, all", self.measured, self.ways)
         for made in (bound_table(self.measured), spread, room_table(self.measured, self.ways)):
-            whole, shown = table_of(made), page_table(made[0].strip("| ").split(" | ")[0])
-            self.assertGreaterEqual(len(shown), 3)
-            for row, cells in shown.items():
-                for column, cell in cells.items():
-                    self.assertEqual(whole[row][column], cell, f"{row}: {column}")
+            self.compare(made[0].strip("| ").split(" | ")[0], [made], 3)
 
     def test_gains_are_those_that_are_reported(self) -> None:
         """Of phase by phase in the mean of all, of those with room, and in the median of those with erases; of the rule in the mean of all."""
@@ -76,32 +82,22 @@ class Page(unittest.TestCase):
         self.assertIn(f"has {most - 100:.1f} % more than the bound", PAGE)
 
 
-class Sectors(unittest.TestCase):
+class Sectors(Tables):
     """Reads of 4 KiB beside whole pages: of all configurations without a search, and of six of each workload; by all ways that the rows have."""
 
-    def shown(self, first: str, tables: List[List[str]], least: int) -> None:
-        made = {row: cells for lines in tables for row, cells in table_of(lines).items()}
-        shown = page_table(first)
-        self.assertGreaterEqual(len(shown), least)
-        for row, cells in shown.items():
-            for column, cell in cells.items():
-                self.assertEqual(made[row][column], cell, f"{row}: {column}")
+    def pairs(self, sectors: List[Configuration], requests: int) -> Tuple[List[Pair], List[str]]:
+        rows, asked = Rows(BENCH / "sectors.csv"), ASKED._replace(requests=requests)
+        ways = [way for way in WAYS if any(way in key and str(requests) in key for key in rows.found)]
+        rows.found.update(Rows(BENCH / "rolling.csv").found)
+        pages = [of._replace(workload=OF_SECTORS[of.workload]) for of in sectors]
+        by_page, by_sector = (measure(Path("/nowhere"), each, ways, asked, rows) for each in (pages, sectors))
+        return list(zip(by_page, by_sector)), ways
 
     def test_all_configurations(self) -> None:
-        pages, sectors, made = Rows(BENCH / "rolling.csv"), Rows(BENCH / "sectors.csv"), []
-        ways = [BASE, *(way for way in WAYS if way != BASE and any(way in key and str(ASKED.requests) in key for key in sectors.found))]
-        for workload, page in OF_SECTORS.items():
-            pairs = pairs_of(*(measure(Path("/nowhere"), all_of([name]), ways, ASKED, rows) for name, rows in ((page, pages), (workload, sectors))))
-            made.append(gain_table(pairs, ways))
-        self.shown("over whole pages", made, 2)
+        self.compare("over whole pages", [gain_table(*self.pairs(all_of([name]), ASKED.requests)) for name in OF_SECTORS], 2)
 
     def test_six_configurations(self) -> None:
-        rows, asked, made = Rows(BENCH / "sectors.csv"), ASKED._replace(requests=2000), []
-        ways = [way for way in WAYS_OF_SECTORS if any(way in key and str(asked.requests) in key for key in rows.found)]
-        for workload, page in OF_SECTORS.items():
-            pairs = pairs_of(*(measure(Path("/nowhere"), six_of(name), ways, asked, rows) for name in (page, workload)))
-            made.append(sector_table(pairs, ways))
-        self.shown("requests a second", made, 4)
+        self.compare("requests a second", [sector_table(*self.pairs(six_of(name), 2000)) for name in OF_SECTORS], 4)
 
 
 class Stored(unittest.TestCase):

@@ -4,7 +4,6 @@ import contextlib
 import io
 import subprocess
 import sys
-import tempfile
 import unittest
 import unittest.mock
 from pathlib import Path
@@ -65,20 +64,22 @@ def put(file: Path, text: str) -> None:
     file.write_text(text, encoding="utf-8")
 
 
-def crate_of(folder: Path, sources: Dict[str, str], edits: Dict[str, str]) -> Any:
-    """A crate 'demo' of these sources with these edits; each is 'PATH|OLD|NEW'."""
-    for name, text in sources.items():
-        put(folder / "src" / name, text)
-    for name, pair in edits.items():
-        path, old, new = pair.split("|")
-        put(folder / "wrong-bodies" / name, f"file: src/{path}\nold: {old}\nnew: {new}\n")
-    crate = TOOL.Crate.__new__(TOOL.Crate)
-    crate.name, crate.folder, crate.bad, crate.left = "demo", folder, [], []
-    crate.sources = {f"src/{name}": text for name, text in sources.items()}
-    files = sorted((folder / "wrong-bodies").glob("*"))
-    crate.edits = crate.read([it for it in files if it.suffix == ".edit"])
-    crate.twins = crate.read([it for it in files if it.suffix == ".twin"])
-    return crate
+def edit(old: str, new: str, file: str = "half.rt") -> str:
+    return f"file: src/{file}\nold: {old}\nnew: {new}\n"
+
+
+# The same source without a text that stands twice; an edit of a statement in it.
+PLAIN = HALF.replace("≡ n / 2", "≡ half n")
+STEP = edit("third(1)", "let _n = 1; third(1)")
+
+
+def crate_of(test: unittest.TestCase, files: Dict[str, str], *leaves_kits: bool) -> Any:
+    """A crate 'demo' of these files; what stands in no folder is an edit of wrong-bodies/."""
+    room = support.room_of(test)
+    for path, text in {"src/half.rt": PLAIN, **files}.items():
+        put(room / "crates" / "demo" / (path if "/" in path else f"wrong-bodies/{path}"), text)
+    with unittest.mock.patch.object(TOOL, "ROOT", room):
+        return TOOL.Crate("demo", "", *leaves_kits)
 
 
 def told(lines: List[str], status: int = 1) -> Any:
@@ -107,96 +108,68 @@ fn odd(n: u8) -> u8 {
 DOWN, EVEN, ODD = ("src/half.rt", "Half", "down"), ("src/half.rt", "", "even"), ("src/half.rt", "", "odd")
 
 
+# A crate with an edit in must-fail/, which rt ci tries too; and what is said of crates with these files.
+OF_KIT = {"must-fail/a.edit": edit("n / 2", "n / 4"), "a.twin": edit("n / 2", "n / (2 - 0)"), "b.edit": edit("n / 2", "n / 8")}
+NO_TWIN = "NEEDS A TWIN: it adds or removes a statement, and doesn't say why it stands alone"
+BAD: List[Tuple[Dict[str, str], List[str]]] = [
+    ({"src/half.rt": HALF, "a.edit": edit("n / 2", "n / 4")}, ["BAD EDIT: an old text stands in src/half.rt 2 times"]),
+    ({**OF_KIT, "must-fail/b.edit": edit("n / 2", "n / 3")}, ["BAD EDIT: another one of its name stands in must-fail/"]),
+    ({"a.edit": STEP, "must-fail/a.twin": edit("third(1)", "let _n = 0; third(1)")},
+     ["BAD TWIN: the kit takes edits alone in must-fail/, so it stands in wrong-bodies/"]),
+    ({"a.edit": STEP, "a.twin": edit("third(1)", "let _n = 0; third(1)")}, []),
+    ({"a.edit": STEP}, [NO_TWIN]),
+    ({"a.edit": "alone: no step changes nothing here\n" + STEP}, []),
+    ({"must-fail/a.edit": STEP}, [NO_TWIN]),
+    ({"must-fail/a.edit": "# alone: no step changes nothing here\n" + STEP}, []),
+    ({"a.edit": edit("third(1)", "third(2)")}, []),
+]
+
+
 class Edits(unittest.TestCase):
     def test_each_edit_of_the_tree_applies_beside_the_others_of_its_round(self) -> None:
         for name in TOOL.PROVE.CRATES:
             crate = TOOL.Crate(name)
             self.assertEqual([(it.edit.name, it.text) for it in crate.bad], [])
             for edits in TOOL.in_rounds([*crate.edits, *crate.twins]):
-                with tempfile.TemporaryDirectory() as made:
-                    for path, text in crate.sources.items():
-                        put(Path(made) / path, text)
-                    for edit in edits:
-                        edit.apply(Path(made))
-                    changed = [path for path, text in crate.sources.items() if (Path(made) / path).read_text(encoding="utf-8") != text]
-                    self.assertLessEqual({path for edit in edits for path, _, _ in edit.pairs}, set(changed))
+                texts = dict(crate.sources)
+                for it in edits:
+                    it.apply(texts)
+                changed = {path for path, text in crate.sources.items() if texts[path] != text}
+                self.assertLessEqual({path for it in edits for path, _, _ in it.pairs}, changed)
 
     def test_edits_of_one_function_share_no_round(self) -> None:
-        with tempfile.TemporaryDirectory() as made:
-            pairs = {"a.edit": "half.rt|n / 2|n / 4", "b.edit": "half.rt|    n / 2|    n", "c.edit": "half.rt|n / 3|n / 6"}
-            crate = crate_of(Path(made), {"half.rt": HALF.replace("≡ n / 2", "≡ half n")}, pairs)
-            self.assertEqual([[it.name for it in edits] for edits in TOOL.in_rounds(crate.edits)], [["a.edit", "c.edit"], ["b.edit"]])
+        crate = crate_of(self, {"a.edit": edit("n / 2", "n / 4"), "b.edit": edit("    n / 2", "    n"), "c.edit": edit("n / 3", "n / 6")})
+        self.assertEqual([[it.name for it in edits] for edits in TOOL.in_rounds(crate.edits)], [["a.edit", "c.edit"], ["b.edit"]])
 
-    def test_an_old_text_that_stands_twice_is_a_bad_edit(self) -> None:
-        with tempfile.TemporaryDirectory() as made:
-            crate = crate_of(Path(made), {"half.rt": HALF}, {"a.edit": "half.rt|n / 2|n / 4"})
-            self.assertEqual([it.text for it in crate.bad], ["BAD EDIT: an old text stands in src/half.rt 2 times"])
+    def test_what_is_wrong(self) -> None:
+        for files, said in BAD:
+            self.assertEqual([it.text for it in crate_of(self, files).bad], said, files)
 
-
-class OfTheKit(unittest.TestCase):
-    """A crate 'demo' with edits in must-fail/, which rt ci tries too."""
-
-    def setUp(self) -> None:
-        self.addCleanup(setattr, TOOL, "ROOT", TOOL.ROOT)
-        TOOL.ROOT = support.room_of(self)
-        self.folder = TOOL.ROOT / "crates" / "demo"
-        self.write("src/half.rt", HALF.replace("≡ n / 2", "≡ half n"))
-        for path, new in (("must-fail/a.edit", "n / 4"), ("wrong-bodies/a.twin", "n / (2 - 0)"), ("wrong-bodies/b.edit", "n / 8")):
-            self.write(path, f"file: src/half.rt\nold: n / 2\nnew: {new}\n")
-
-    def write(self, path: str, text: str) -> None:
-        put(self.folder / path, text)
-
-    def told(self, *words: bool) -> List[List[str]]:
-        crate = TOOL.Crate("demo", "", *words)
-        return [[it.name for it in edits] for edits in (crate.edits, crate.twins, crate.left)] + [[it.text for it in crate.bad]]
-
-    def test_an_edit_is_left_to_it_and_its_twin_is_tried(self) -> None:
-        self.assertEqual(self.told(), [["a.edit", "b.edit"], ["a.twin"], [], []])
-        self.assertEqual(self.told(True), [["b.edit"], ["a.twin"], ["a.edit"], []])
+    def test_one_of_the_kit_is_left_to_it_and_its_twin_is_tried(self) -> None:
+        for leaves_kits, names in ((False, [["a.edit", "b.edit"], ["a.twin"], []]), (True, [["b.edit"], ["a.twin"], ["a.edit"]])):
+            crate = crate_of(self, OF_KIT, leaves_kits)
+            self.assertEqual([[it.name for it in edits] for edits in (crate.edits, crate.twins, crate.left)], names)
 
     def test_it_is_left_where_nothing_is_named_and_in_the_gate(self) -> None:
-        self.addCleanup(setattr, TOOL.PROVE, "CRATES", TOOL.PROVE.CRATES)
-        TOOL.PROVE.CRATES = {"demo": []}
-        left = "demo, tried by rt ci: a.edit in Half::of: it has a twin\n"
-        for words in ("", "--due", "demo --due"):
-            self.assertIn(left, self.listed(*words.split()))
-        for words in ("demo", "--only a", "demo --only a."):
-            self.assertNotIn(left, self.listed(*words.split()))
-
-    def listed(self, *words: str) -> str:
-        said = io.StringIO()
-        with contextlib.redirect_stdout(said), unittest.mock.patch("sys.argv", ["wrong-bodies", "--list", *words]):
-            self.assertEqual(TOOL.main(), 0)
-        return said.getvalue()
-
-    def test_the_kit_takes_no_twin(self) -> None:
-        (self.folder / "wrong-bodies/a.twin").rename(self.folder / "must-fail/a.twin")
-        self.assertEqual(self.told()[3], ["BAD TWIN: the kit takes edits alone in must-fail/, so it stands in wrong-bodies/"])
-
-    def test_two_edits_of_one_name(self) -> None:
-        self.write("must-fail/b.edit", "file: src/half.rt\nold: n / 2\nnew: n / 3\n")
-        self.assertEqual(self.told()[3], ["BAD EDIT: another one of its name stands in must-fail/"])
-
-    def test_a_reason_stands_in_a_line_that_the_kit_passes_over(self) -> None:
-        text = "file: src/half.rt\nold: third(1)\nnew: let _n = 1; third(1)\n"
-        self.write("must-fail/c.edit", text)
-        self.assertEqual(self.told()[3], ["NEEDS A TWIN: it adds or removes a statement, and doesn't say why it stands alone"])
-        self.write("must-fail/c.edit", "# alone: no step changes nothing here\n" + text)
-        self.assertEqual(self.told()[3], [])
+        room, left = crate_of(self, OF_KIT).folder.parent.parent, "demo, tried by rt ci: a.edit in Half::of: it has a twin\n"
+        self.enterContext(unittest.mock.patch.object(TOOL, "ROOT", room))
+        self.enterContext(unittest.mock.patch.dict(TOOL.PROVE.CRATES, {"demo": []}, clear=True))
+        for words, is_left in (("", True), ("--due", True), ("demo --due", True), ("demo", False), ("--only a", False), ("--only a.", False)):
+            said = io.StringIO()
+            with contextlib.redirect_stdout(said), unittest.mock.patch("sys.argv", ["wrong-bodies", "--list", *words.split()]):
+                self.assertEqual(TOOL.main(), 0)
+            self.assertEqual(left in said.getvalue(), is_left, words)
 
 
 class Asked(unittest.TestCase):
     def test_the_prover_is_asked_for_what_the_edits_change(self) -> None:
-        pairs = {"a.edit": "half.rt|self.at|0", "b.edit": "half.rt|third(1)|third(2)", "c.edit": "half.rt|n / 3|n", "d.edit": "other.rt|1|2"}
-        with tempfile.TemporaryDirectory() as made:
-            crate = crate_of(Path(made), {"half.rt": HALF, "other.rt": OTHER.split("impl Half")[0]}, pairs)
-            self.assertEqual(crate.paths_of(crate.edits), ["Half::next", "HalfDisplay::fmt", "Other::next", "half::third"])
+        edits = {"a.edit": edit("self.at", "0"), "b.edit": edit("third(1)", "third(2)"), "c.edit": edit("n / 3", "n"), "d.edit": edit("1", "2", "other.rt")}
+        crate = crate_of(self, {"src/other.rt": OTHER.split("impl Half")[0], **edits})
+        self.assertEqual(crate.paths_of(crate.edits), ["Half::next", "HalfDisplay::fmt", "Other::next", "half::third"])
 
     def test_where_two_impls_have_the_name_the_whole_path_is_asked_for(self) -> None:
-        with tempfile.TemporaryDirectory() as made:
-            crate = crate_of(Path(made), {"half.rt": HALF, "other.rt": OTHER}, {"a.edit": "half.rt|self.at|0"})
-            self.assertEqual(crate.paths_of(crate.edits), ["half::Half::next"])
+        crate = crate_of(self, {"src/other.rt": OTHER, "a.edit": edit("self.at", "0")})
+        self.assertEqual(crate.paths_of(crate.edits), ["half::Half::next"])
 
     def test_an_impl_is_named_as_the_prover_does(self) -> None:
         heads = {
@@ -235,15 +208,15 @@ class Verdicts(unittest.TestCase):
     def test_edits_and_twins(self) -> None:
         for name, (lines, is_refused, words, is_proved) in SAID.items():
             with self.subTest(name):
-                verdict = told([*lines, "only=1 proved=0"]).verdict_on(OF)
-                found, text = TOOL.judge_edit([verdict])
+                failures = told([*lines, "only=1 proved=0"]).failures_of(OF)
+                found, text = TOOL.judge_edit(failures)
                 self.assertEqual((found, text[: len(words)]), (is_refused, words))
-                self.assertEqual(TOOL.judge_twin([verdict])[0], is_proved)
+                self.assertEqual(TOOL.judge_twin(failures)[0], is_proved)
 
     def test_what_was_not_looked_at_is_tried_without_the_others_of_its_round(self) -> None:
-        verdict = told([FN + UNMADE, "only=1 proved=0"]).verdict_on(OF)
+        failures = told([FN + UNMADE, "only=1 proved=0"]).failures_of(OF)
         for name in ("a.edit", "a.twin"):
-            self.assertTrue(TOOL.waits_for_others(TOOL.Edit(Path(name), [], frozenset([OF])), [verdict]))
+            self.assertTrue(TOOL.waits_for_others(TOOL.Edit(Path(name), [], frozenset([OF])), failures))
 
     def test_a_text_that_is_not_read_is_no_verdict(self) -> None:
         self.assertTrue(told([FN + "proved", "only=1 proved=1"], 0).is_read)
@@ -251,29 +224,26 @@ class Verdicts(unittest.TestCase):
         self.assertFalse(told(["rattle: no verdict: memory"], 3).is_read)
 
 
+DOWN_FILE, ODD_FILE = "./proofs/half/Half/+down/Answers.antt:5:26: error: ", "./proofs/half/+odd/Answers.antt:5:26: error: "
+ODD_SAID = "no proof: expected answers in ./proofs/half/+odd/Answers.antt; `search` did not prove `even-returns`"
+# The same of functions that call themselves or each other, where a goal is that of the function in front of it.
+IN_CYCLES: List[Tuple[Tuple[str, str, str], List[str], str]] = [
+    (DOWN, [DOWN_FILE + "`returns-clause-small`: type mismatch", "fn demo::half::Half::down: not proved"], "refused, "),
+    (DOWN, ["fn demo::half::Half::down: no proof: expected answers in ./proofs/half/Half/+down/Answers.antt; `search` did not prove `returns-then-n-eq0`"],
+     "refused, "),
+    (DOWN, [DOWN_FILE + "`returns`: `gone` is not in scope", "fn demo::half::Half::down: not proved"], "WEAK: "),
+    *((key, [ODD_FILE + "`even-returns`: type mismatch", "fn demo::half::even: not proved", "fn demo::half::odd: not proved"], said)
+      for key, said in ((EVEN, "refused, "), (ODD, "NOT REFUSED "))),
+    *((key, [f"fn demo::half::{name}: {ODD_SAID}" for name in ("even", "odd")], said) for key, said in ((EVEN, "refused, "), (ODD, "NOT REFUSED "))),
+]
+
+
 class Cycles(unittest.TestCase):
-    def verdict_on(self, key: Tuple[str, str, str], lines: List[str]) -> Any:
-        return TOOL.Told("demo", 1, "\n".join([*lines, "only=1 proved=0"]), {"src/half.rt": CYCLES}).verdict_on(key)
-
-    def test_a_goal_of_a_function_that_calls_itself_is_its_own(self) -> None:
-        error = "./proofs/half/Half/+down/Answers.antt:5:26: error: `returns-clause-small`: type mismatch"
-        self.assertTrue(TOOL.judge_edit([self.verdict_on(DOWN, [error, "fn demo::half::Half::down: not proved"])])[0])
-        said = "no proof: expected answers in ./proofs/half/Half/+down/Answers.antt; `search` did not prove `returns-then-n-eq0`"
-        self.assertTrue(TOOL.judge_edit([self.verdict_on(DOWN, [f"fn demo::half::Half::down: {said}"])])[0])
-
-    def test_a_proof_file_of_such_a_function_that_names_what_is_gone_is_weak(self) -> None:
-        error = "./proofs/half/Half/+down/Answers.antt:5:26: error: `returns`: `gone` is not in scope"
-        self.assertRegex(TOOL.judge_edit([self.verdict_on(DOWN, [error, "fn demo::half::Half::down: not proved"])])[1], "^WEAK: ")
-
-    def test_of_functions_that_call_each_other_a_goal_is_that_of_the_one_in_front_of_it(self) -> None:
-        error = "./proofs/half/+odd/Answers.antt:5:26: error: `even-returns`: type mismatch"
-        lines = [error, "fn demo::half::even: not proved", "fn demo::half::odd: not proved"]
-        self.assertTrue(TOOL.judge_edit([self.verdict_on(EVEN, lines)])[0])
-        self.assertFalse(TOOL.judge_edit([self.verdict_on(ODD, lines)])[0])
-        said = "no proof: expected answers in ./proofs/half/+odd/Answers.antt; `search` did not prove `even-returns`"
-        lines = [f"fn demo::half::{name}: {said}" for name in ("even", "odd")]
-        self.assertTrue(TOOL.judge_edit([self.verdict_on(EVEN, lines)])[0])
-        self.assertFalse(TOOL.judge_edit([self.verdict_on(ODD, lines)])[0])
+    def test_edits(self) -> None:
+        for key, lines, said in IN_CYCLES:
+            failures = TOOL.Told("demo", 1, "\n".join([*lines, "only=1 proved=0"]), {"src/half.rt": CYCLES}).failures_of(key)
+            is_refused, text = TOOL.judge_edit(failures)
+            self.assertEqual((is_refused, text[: len(said)]), (said == "refused, ", said), (key, lines))
 
 
 def ran(*command: str) -> Tuple[int, int, List[str]]:
@@ -305,9 +275,8 @@ class Due(unittest.TestCase):
         self.commit()
         self.first = git(self.folder, "rev-parse", "HEAD")
         here: Dict[str, Any] = {"ROOT": self.folder, "LANDINGS": self.folder / "landings", "COSTS": self.folder / "costs"}
-        for replaced in (unittest.mock.patch.multiple(TOOL, **here), unittest.mock.patch.object(TOOL.PROVE, "CRATES", dict.fromkeys(self.NAMES))):
-            replaced.start()
-            self.addCleanup(replaced.stop)
+        self.enterContext(unittest.mock.patch.multiple(TOOL, **here))
+        self.enterContext(unittest.mock.patch.dict(TOOL.PROVE.CRATES, dict.fromkeys(self.NAMES), clear=True))
         TOOL.COSTS.write_text("# minutes\nroom: 8\n" + "".join(f"{name}: 4\n" for name in self.NAMES), encoding="utf-8")
 
     def write(self, crate: str, path: str, text: str) -> None:
@@ -352,37 +321,23 @@ class Due(unittest.TestCase):
         self.assertEqual(due, {"b": ["two.edit", "two.twin"], "c": self.ALL})
         self.assertIn("due: b: 2 of 4\ndue: b/two.edit: its text changed\n", said)
 
-    def test_a_comment_makes_nothing_due(self) -> None:
+    def test_a_change_makes_the_edits_due_that_it_is_of(self) -> None:
+        """A comment and an edit that only moved none, a function its own, a twin its edit, and what isn't in git yet itself."""
         self.write("a", "src/lib.rt", self.SOURCE.replace("    2", "    // two\n    2"))
-        self.commit()
-        self.land("c", "a b d e f")
-        self.assertEqual(self.due()[0], {"c": self.ALL})
-
-    def test_a_function_that_changed_makes_its_edits_due(self) -> None:
-        self.write("a", "src/lib.rt", self.SOURCE.replace("pub fn two() -> u8 {", "pub fn two() -> u8\n    ensures { result ≡ 2 }\n{"))
-        self.land("c", "a b d e f")
-        due, said = self.due()
-        self.assertEqual(due, {"a": ["two.edit", "two.twin"], "c": self.ALL})
-        self.assertIn("due: a/two.twin: two changed\n", said)
-
-    def test_a_twin_that_changed_makes_its_edit_due(self) -> None:
+        self.write("b", "src/lib.rt", self.SOURCE.replace("pub fn two() -> u8 {", "pub fn two() -> u8\n    ensures { result ≡ 2 }\n{"))
         self.write("d", "wrong-bodies/one.twin", "file: src/lib.rt\nold:     1\nnew:     1 + 0\n")
-        self.land("c", "a b d e f")
-        self.assertEqual(self.due()[0]["d"], ["one.edit", "one.twin"])
-
-    def test_an_edit_that_only_moved_is_not_due(self) -> None:
-        was = self.folder / "crates/d/wrong-bodies/one.edit"
-        self.write("d", "must-fail/one.edit", was.read_text(encoding="utf-8"))
-        was.unlink()
-        self.land("c", "a b d e f")
-        self.assertNotIn("d", self.due()[0])
-        self.write("d", "must-fail/one.edit", "file: src/lib.rt\nold:     1\nnew:     3\n")
-        self.assertEqual(self.due()[0]["d"], ["one.edit", "one.twin"])
-
-    def test_what_is_not_in_git_yet_is_due(self) -> None:
         self.write("e", "wrong-bodies/three.edit", "file: src/lib.rt\nold:     1\nnew:     3\n")
+        was = self.folder / "crates/f/wrong-bodies/one.edit"
+        self.write("f", "must-fail/one.edit", was.read_text(encoding="utf-8"))
+        was.unlink()
+        self.give_room(40)
         self.land("c", "a b d e f")
-        self.assertEqual(self.due()[0]["e"], ["three.edit"])
+        wanted = {"b": ["two.edit", "two.twin"], "c": self.ALL, "d": ["one.edit", "one.twin"], "e": ["three.edit"]}
+        due, said = self.due()
+        self.assertEqual(due, wanted)
+        self.assertIn("due: b/two.twin: two changed\n", said)
+        self.write("f", "must-fail/one.edit", "file: src/lib.rt\nold:     1\nnew:     3\n")
+        self.assertEqual(self.due()[0], {**wanted, "f": ["one.edit", "one.twin"]})
 
     def test_what_waits_for_room_comes_first_in_the_next_landing(self) -> None:
         for name in "abc":
@@ -444,37 +399,28 @@ class Due(unittest.TestCase):
 class Twins(unittest.TestCase):
     """Whether an edit needs a twin, by what it changes."""
 
-    CHANGES: List[Tuple[str, List[Tuple[str, str]]]] = [
-        ("VALUE", [("lun: said.lun,", "lun: 0,")]), ("VALUE", [("Err(Fault::Bus)", "Err(Fault::Memory)"), ("true", "false")]),
-        ("VALUE", [("self.place", "Place { lun: 0, place }")]),
-        ("OPERATOR", [("if a < b {", "if a <= b {")]), ("OPERATOR", [("at", "at + 1")]), ("OPERATOR", [("true", "false"), ("&& b", "|| b")]),
-        ("CALL", [("posts.pop_front()", "posts.pop_back()")]), ("CALL", [("Some(cause)", "None")]),
-        ("STATEMENT", [("next();", "next(); next();")]), ("STATEMENT", [("at", "{ let at = 0; at }")]), ("STATEMENT", [("step(at)?;", "step(at);")]),
-        ("STATEMENT", [("step(at)", "if at > 0 { step(at) }")]), ("STATEMENT", [("None => 0,", "None => 0, Some(1) => 1,")]),
-        ("STATEMENT", [("Ok(at)", "return Ok(at)")]), ("STATEMENT", [("true", "false"), ("next();", "last(); next();")]),
-        # (neither the length of an array nor a comment is a statement)
-        ("CALL", [("*waiting()", "[true; 8]")]), ("VALUE", [("at // if so;", "other")]),
-    ]
+    CHANGES: Dict[str, List[List[Tuple[str, str]]]] = {
+        "changes a value": [
+            [("lun: said.lun,", "lun: 0,")], [("Err(Fault::Bus)", "Err(Fault::Memory)"), ("true", "false")], [("self.place", "Place { lun: 0, place }")],
+            # (a comment is no statement)
+            [("at // if so;", "other")],
+        ],
+        "changes an operator": [[("if a < b {", "if a <= b {")], [("at", "at + 1")], [("true", "false"), ("&& b", "|| b")]],
+        # (nor is the length of an array)
+        "changes a call": [[("posts.pop_front()", "posts.pop_back()")], [("Some(cause)", "None")], [("*waiting()", "[true; 8]")]],
+        "adds or removes a statement": [
+            [("next();", "next(); next();")], [("at", "{ let at = 0; at }")], [("step(at)?;", "step(at);")], [("step(at)", "if at > 0 { step(at) }")],
+            [("None => 0,", "None => 0, Some(1) => 1,")], [("Ok(at)", "return Ok(at)")], [("true", "false"), ("next();", "last(); next();")],
+        ],
+    }
 
     def test_what_is_changed(self) -> None:
-        for change, pairs in self.CHANGES:
-            self.assertEqual(change_of([("src/half.rt", old, new) for old, new in pairs]).name, change, pairs)
+        for change, edits in self.CHANGES.items():
+            for pairs in edits:
+                self.assertEqual(change_of([("src/half.rt", old, new) for old, new in pairs]), change, pairs)
 
-    def lacking(self, text: str, twin: bool = False) -> List[str]:
-        with tempfile.TemporaryDirectory() as made:
-            sources = {"src/half.rt": HALF}
-            for name in ["a.edit", *(["a.twin"] if twin else [])]:
-                (Path(made) / name).write_text(text, encoding="utf-8")
-            edits = [TOOL.read_edit(Path(made) / "a.edit", sources)]
-            twins = [TOOL.read_edit(Path(made) / "a.twin", sources)] if twin else []
-            return [TOOL.about_twin(it, twins) for it in edits if TOOL.needs_twin(it, twins)]
-
-    def test_an_edit_of_a_statement_needs_a_twin_or_a_reason(self) -> None:
-        text = "file: src/half.rt\nold: third(1)\nnew: let _n = 1; third(1)\n"
-        self.assertEqual(self.lacking(text), ["it needs a twin, since it adds or removes a statement"])
-        self.assertEqual(self.lacking(text, twin=True), [])
-        self.assertEqual(self.lacking("alone: no step changes nothing here\n" + text), [])
-        self.assertEqual(self.lacking(text.replace("let _n = 1; third(1)", "third(2)")), [])
+    def test_what_is_said_of_one_that_needs_a_twin(self) -> None:
+        self.assertEqual(TOOL.about_twin(crate_of(self, {"a.edit": STEP}).edits[0], []), "it needs a twin, since it adds or removes a statement")
 
 
 class Gate(unittest.TestCase):

@@ -2,7 +2,9 @@
 
 import re
 from pathlib import Path
-from typing import Dict, Iterator, List, NamedTuple
+from typing import Dict, List, NamedTuple
+
+from onfi_tools.changes import leaves_of
 
 USE = re.compile(r"^pub use ([^;]+);", re.MULTILINE)
 ITEM = r"^pub (?:const )?(?P<what>fn|struct|enum|trait|const|type) {name}\b"
@@ -21,13 +23,9 @@ class Item(NamedTuple):
     is_law: bool
 
 
-def exported(text: str) -> Iterator[str]:
+def exported(text: str) -> List[str]:
     """The names that a lib.rt exports, each with its path there."""
-    for used in USE.findall(text):
-        path, _, inner = used.partition("{")
-        for name in (it.strip() for it in inner.rstrip("} \n").split(",")) if inner else [""]:
-            if name or not inner:
-                yield "".join((path + name).split())
+    return ["".join(leaf.split()) for tree in USE.findall(text) for leaf in leaves_of(tree)]
 
 
 def calls_of(name: str, texts: List[str]) -> List[str]:

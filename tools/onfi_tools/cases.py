@@ -6,12 +6,18 @@ Their README has the format.
 import pathlib
 import re
 import shlex
-from typing import Dict, Iterable, Iterator, List, NamedTuple, Optional, Sequence
+from typing import Dict, Iterator, List, Match, NamedTuple, Optional, Sequence
 
 CASES = pathlib.Path(__file__).resolve().parent.parent.parent / "tests" / "cases"
-MARK = re.compile(r"^(===|\+\+\+|---|!!!) (.+)$", re.MULTILINE)
-# The marks of a named text, and of a case without and with what is said.
-FORMS = (["+++"], ["===", "---"], ["===", "---", "!!!"])
+MARK = r"(?:===|\+\+\+|---|!!!)[ ]"
+BODY = rf"(?:(?!{MARK}).*\n)*"
+# A named text, or a case with its answer.
+PART = re.compile(rf"""
+    (?:\+\+\+|(?P<is_case>===))[ ](?P<name>.+)\n
+    (?(is_case)\$(?P<words>.*)\n)
+    (?P<body>{BODY})
+    (?(is_case)---[ ](?P<status>\d+)\n(?P<output>{BODY})(?:!!![ ]said\n(?P<said>{BODY}))?)
+""", re.VERBOSE)
 ESCAPE = re.compile(rb"\\(x.{0,2}|[^x])")
 ESCAPED = {b"\n": b"", b"n": b"\n", b"r": b"\r", b"t": b"\t", b"0": b"\0", b"\\": b"\\"}
 ESCAPED.update((b"x%02X" % byte, bytes([byte])) for byte in range(256))
@@ -20,15 +26,6 @@ ESCAPED.update((b"x%02X" % byte, bytes([byte])) for byte in range(256))
 MESSAGES = re.compile(rb"(onfi_sim: [ -~]+\n(  (expected|did you mean)\b[ -~]+\n)?)*")
 # What of a page a plan doesn't look at.
 CAUTIONS = re.compile(rb"(onfi_sim: [ -~]+ ('strict,1', or 'strict,0' where they aren't|it is planned all the same)\n)*")
-
-
-class Part(NamedTuple):
-    """A part of a page: where it begins, its mark, what stands after that, and the text up to the next mark."""
-
-    place: str
-    mark: str
-    title: str
-    body: str
 
 
 class Case(NamedTuple):
@@ -47,19 +44,6 @@ class Case(NamedTuple):
     said: Optional[bytes] = None
 
 
-def parts_of(path: pathlib.Path) -> Iterator[Part]:
-    """The parts of a page; what stands before the first mark is for readers alone."""
-    page = path.read_bytes().decode() + "\n"
-    for number, line in enumerate(page.split("\n"), 1):
-        if line != line.rstrip():
-            raise ValueError(f"{path.name}:{number}: white space ends the line (write \\x20, \\t or \\r)")
-    marks = list(MARK.finditer(page))
-    ends = [mark.start() for mark in marks[1:]] + [len(page)]
-    for mark, end in zip(marks, ends):
-        place = f"{path.name}:{page.count(chr(10), 0, mark.start()) + 1}"
-        yield Part(place, mark[1], mark[2], page[mark.end() + 1 : end])
-
-
 def unescaped(text: str) -> bytes:
     return ESCAPE.sub(lambda found: ESCAPED[found[1]], text.encode())
 
@@ -75,54 +59,40 @@ def without_end(body: str) -> str:
     return re.sub(r"(^|\n)\n*\Z", r"\1", body)
 
 
-def groups_of(parts: Iterable[Part]) -> Iterator[List[Part]]:
-    """The parts that belong together: a named text, or a case with its answer."""
-    group: List[Part] = []
-    for part in parts:
-        if part.mark in ("===", "+++") and group:
-            yield group
-            group = []
-        group.append(part)
-    if group:
-        yield group
+def case_of(place: str, part: Match[str], texts: Dict[str, bytes]) -> Case:
+    first, _, second = part["words"].partition(" | ")
+    arguments, behind = ([unescaped(word) for word in shlex.split(words)] for words in (first, second))
+    output = text_of(without_end(part["output"]), texts)
+    said = None if part["said"] is None else text_of(without_end(part["said"]), texts)
+    return Case(place, part["name"], arguments, text_of(part["body"], texts), int(part["status"]), output, behind, said)
 
 
-def check_form(group: List[Part]) -> None:
-    """ValueError: the parts are neither a named text nor a case."""
-    if [part.mark for part in group] not in FORMS:
-        raise ValueError("a case without an answer, or an answer without a case")
-    if any(part.mark == "!!!" and part.title != "said" for part in group):
-        raise ValueError("only `said` stands behind !!!")
-
-
-def case_of(group: List[Part], texts: Dict[str, bytes]) -> Case:
-    asked, answer, *others = group
-    line, _, input = asked.body.partition("\n")
-    if not line.startswith("$"):
-        raise ValueError("no line of arguments behind the name")
-    first, _, second = line[1:].partition(" | ")
-    arguments, behind = ([unescaped(word) for word in shlex.split(part)] for part in (first, second))
-    output = text_of(without_end(answer.body), texts)
-    said = text_of(without_end(others[0].body), texts) if others else None
-    return Case(asked.place, asked.title, arguments, text_of(input, texts), int(answer.title), output, behind, said)
+def place_of(path: pathlib.Path, page: str, at: int) -> str:
+    return f"{path.name}:{page.count(chr(10), 0, at) + 1}"
 
 
 def read_page(path: pathlib.Path, texts: Dict[str, bytes]) -> Iterator[Case]:
-    """The cases of a page, in order; its named texts are added to the given ones."""
-    names = set(texts)
-    for group in groups_of(parts_of(path)):
-        first = group[0]
+    """The cases of a page, in order; its named texts are added to the given ones. What stands before the first mark is for readers alone."""
+    page = path.read_bytes().decode() + "\n"
+    blank, first = (re.search(form, page, re.MULTILINE) for form in (r"[^\S\n]$", f"^{MARK}"))
+    if blank:
+        raise ValueError(f"{place_of(path, page, blank.start())}: white space ends the line (write \\x20, \\t or \\r)")
+    names, at = set(texts), first.start() if first else len(page)
+    while at < len(page):
+        part = PART.match(page, at)
         try:
-            check_form(group)
-            if first.title in names:
+            if part is None:
+                raise ValueError("neither a named text nor a case with its answer")
+            if part["name"] in names:
                 raise ValueError("this name stands twice")
-            names.add(first.title)
-            if first.mark == "+++":
-                texts[first.title] = text_of(without_end(first.body), texts)
+            names.add(part["name"])
+            if part["is_case"]:
+                yield case_of(place_of(path, page, at), part, texts)
             else:
-                yield case_of(group, texts)
+                texts[part["name"]] = text_of(without_end(part["body"]), texts)
         except (ValueError, KeyError) as fault:
-            raise ValueError(f"{first.place}: {fault!r}") from fault
+            raise ValueError(f"{place_of(path, page, at)}: {fault!r}") from fault
+        at = part.end()
 
 
 def single_cases(words: List[str], folder: pathlib.Path = CASES) -> List[Case]:

@@ -12,7 +12,7 @@ from __future__ import annotations
 
 import re
 from pathlib import PurePosixPath
-from typing import Dict, FrozenSet, Iterable, Iterator, List, NamedTuple, Optional, Set, Tuple
+from typing import Dict, FrozenSet, Iterable, Iterator, List, Match, NamedTuple, Optional, Set, Tuple
 
 from onfi_tools.functions import FUNCTION, OWNER, Function, Key, functions_of
 
@@ -24,6 +24,8 @@ RUST_TOKEN = re.compile(r"""/\*.*?\*/|//[^\n]*|b?"(?:\\.|[^"\\])*"|b?'(?:\\.|[^'
 PROOF_COMMENT = re.compile(r"(?:^|(?<=\s))--(?=[\s-]|$).*")
 # An import: what it brings, which may be a tree of paths in brackets and stand in several lines.
 TREE = r"(?:[^;{}\n]|\{(?:[^{}]|\{(?:[^{}]|\{[^{}]*\})*\})*\})+"
+# What stands before a bracket that has none inside, and the paths in it.
+INNERMOST = re.compile(r"([^{},]*)\{([^{}]*)\}")
 USE = re.compile(rf"^ *(?:unfoldable )?(?:pub(?:\([a-z]+\))? )?(?:ghost )?use ({TREE})(?:;|$)", re.M)
 CYCLE = re.compile(r"#\[cycle\((\w+)\)\]")
 TYPE = re.compile(r"(?:pub(?:\([a-z]+\))? )?(?:struct|enum|trait|const|static|type|union) (\w+)")
@@ -88,20 +90,16 @@ def body_of(path: str, lines: List[str], function: Function) -> Body:
     return Body(code_of(path, seen), code_of(path, done), "")
 
 
-def leaves_of(tree: str) -> Iterator[str]:
+def spread(bracket: Match[str]) -> str:
+    """The paths of a bracket, each with what stands before it."""
+    return ",".join(bracket[1].strip() + path.strip() for path in bracket[2].split(",") if path.strip())
+
+
+def leaves_of(tree: str) -> List[str]:
     """The whole paths of a tree of imports, whichever brackets they stand in."""
-    before, bracket, inside = tree.strip().partition("{")
-    if not bracket:
-        yield before.strip()
-        return
-    depth, leaf = 0, ""
-    for sign in inside.rpartition("}")[0] + ",":
-        depth += (sign == "{") - (sign == "}")
-        if sign == "," and depth == 0:
-            yield from (before + path for path in leaves_of(leaf) if path)
-            leaf = ""
-        else:
-            leaf += sign
+    while INNERMOST.search(tree):
+        tree = INNERMOST.sub(spread, tree)
+    return [leaf.strip() for leaf in tree.split(",")]
 
 
 def imports_in(text: str) -> Iterator[Tuple[str, str, str]]:

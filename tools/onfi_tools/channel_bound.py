@@ -137,9 +137,6 @@ class Die:
         self.since += heapq.heappop(self.left)
         self.served += 1
 
-    def answered(self) -> int:
-        return min(self.served, self.stayed)
-
 
 class Loop:
     """The closed loop, of requests that are taken in order as there is room."""
@@ -166,32 +163,26 @@ class Loop:
         die = min(self.dies, key=Die.serves_at)
         if self.staying and self.staying[0][0] < die.serves_at():
             self.now, lun = heapq.heappop(self.staying)
-            die = self.dies[lun]
-            self.answered -= die.answered()
-            die.stayed += 1
+            self.dies[lun].stayed += 1
         else:
             self.now = die.serves_at()
-            self.answered -= die.answered()
             die.serve()
-        self.answered += die.answered()
+        self.answered = sum(min(die.served, die.stayed) for die in self.dies)
 
-    def answer(self) -> None:
-        """Up to the next answer."""
-        before = self.answered
-        while self.answered == before:
+    def answers(self) -> Iterator[float]:
+        """When each answer comes."""
+        while True:
             self.accept_all()
+            before = self.answered
             self.go_on()
+            if self.answered > before:
+                yield self.now
 
 
 def loop_bound(channel: Channel, requests: Sequence[Request], measured: range) -> float:
     """That of the closed loop, from so many answers to so many; requests come beyond the last of them."""
-    loop = Loop(channel, requests)
-    for _ in range(measured.start):
-        loop.answer()
-    begun = loop.now
-    for _ in measured:
-        loop.answer()
-    return len(measured) * 1e9 / (loop.now - begun)
+    ends = [0.0, *itertools.islice(Loop(channel, requests).answers(), measured.stop)]
+    return len(measured) * 1e9 / (ends[measured.stop] - ends[measured.start])
 
 
 def bounds_of(channel: Channel, requests: Sequence[Request], answers: int) -> Dict[str, float]:

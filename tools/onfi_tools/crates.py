@@ -1,5 +1,6 @@
 """What crates.txt says: the crates, each after those that it stands on."""
 
+import re
 from pathlib import Path
 from typing import Dict, List
 
@@ -8,15 +9,12 @@ CRATES = Path(__file__).resolve().parent.parent.parent / "crates.txt"
 
 def crates_below(text: str) -> Dict[str, List[str]]:
     """The crates of crates.txt with what each stands on, the kit's too."""
-    lines = [line.partition(":") for line in text.splitlines() if line and not line.startswith("#")]
-    return {head.split()[0]: uses.split() for head, _, uses in lines}
+    return {name: uses.split() for name, uses in re.findall(r"^(\w+)[^:#\n]*:([^#\n]*)", text, re.M)}
 
 
 def lines_below(text: str, *tops: str) -> Dict[str, str]:
-    """Some crates and all that they stand on, in their order, each with its line of crates.txt. KeyError: it has none of one."""
-    below = crates_below(text)
-    needed = {top for top in tops if below[top] is not None}
-    for crate in reversed(below):
-        needed |= set(below[crate]) if crate in needed else set()
-    lines = {line.split(":")[0].split()[0]: line for line in text.splitlines() if line and not line.startswith("#")}
-    return {name: line for name, line in lines.items() if name in needed}
+    """Some crates and all that they stand on, in their order, each with its line of crates.txt."""
+    needed = set(tops)
+    for crate, uses in reversed(crates_below(text).items()):
+        needed |= set(uses) if crate in needed else set()
+    return {name: line for line, name in re.findall(r"^((\w+).*)", text, re.M) if name in needed}

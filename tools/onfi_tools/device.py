@@ -1,6 +1,6 @@
 """Parameter pages from named fields and back, and the phase lengths that a page and a timing sheet give, with strobes or without."""
 
-from typing import Dict, List, Mapping, NamedTuple, Optional, Tuple
+from typing import Dict, List, Mapping, NamedTuple, Tuple
 
 KINDS = ("read", "program", "erase")
 COPY = 256
@@ -8,44 +8,44 @@ SIGNATURE = b"ONFI"
 FIRST_REMAINDER = 0x4F4E
 POLYNOMIAL = 0x8005
 SHEET = ("tWC", "tRC", "tADL", "tWHR", "tRHW", "tWB", "tPLRBSY", "tPLPBSY", "tPLEBSY")
-STROBES = ("tRPRE", "tRC", "tRPST", "tRPSTH", "tWPRE", "tDSC", "tWPST", "tWPSTH")
 SHORT_BUSY = {"read": "tPLRBSY", "program": "tPLPBSY", "erase": "tPLEBSY"}
 ARRAY_MICROSECONDS = {"read": "tR_us", "program": "tPROG_us", "erase": "tBERS_us"}
 
 
 class Field(NamedTuple):
-    """Where a number stands in a copy: its first byte, how many bytes, its lowest bit there, how many bits."""
+    """Where a number stands in a copy: its first byte, its lowest bit there, how many bits."""
 
     byte: int
-    bytes: int
-    low: int = 0
-    bits: Optional[int] = None
+    low: int
+    bits: int
 
-    def width(self) -> int:
-        return 8 * self.bytes - self.low if self.bits is None else self.bits
+    @property
+    def place(self) -> int:
+        """Its lowest bit in the copy as one number, whose first byte is the least."""
+        return 8 * self.byte + self.low
 
 
 NUMBERS: Dict[str, Field] = {
-    "wide_bus": Field(6, 2, 0, 1),
-    "multi_lun": Field(6, 2, 1, 1),
-    "any_page_order": Field(6, 2, 2, 1),
-    "multi_plane_writes": Field(6, 2, 3, 1),
-    "multi_plane_reads": Field(6, 2, 6, 1),
-    "status_enhanced": Field(8, 2, 3, 1),
-    "column_enhanced": Field(8, 2, 6, 1),
-    "data_bytes": Field(80, 4),
-    "spare_bytes": Field(84, 2),
-    "pages_per_block": Field(92, 4),
-    "blocks_per_lun": Field(96, 4),
-    "luns": Field(100, 1),
-    "column_cycles": Field(101, 1, 4, 4),
-    "row_cycles": Field(101, 1, 0, 4),
-    "plane_bits": Field(113, 1, 0, 4),
-    "no_block_restrictions": Field(114, 1, 1, 1),
-    "tPROG_us": Field(133, 2),
-    "tBERS_us": Field(135, 2),
-    "tR_us": Field(137, 2),
-    "tCCS_ns": Field(139, 2),
+    "wide_bus": Field(6, 0, 1),
+    "multi_lun": Field(6, 1, 1),
+    "any_page_order": Field(6, 2, 1),
+    "multi_plane_writes": Field(6, 3, 1),
+    "multi_plane_reads": Field(6, 6, 1),
+    "status_enhanced": Field(8, 3, 1),
+    "column_enhanced": Field(8, 6, 1),
+    "data_bytes": Field(80, 0, 32),
+    "spare_bytes": Field(84, 0, 16),
+    "pages_per_block": Field(92, 0, 32),
+    "blocks_per_lun": Field(96, 0, 32),
+    "luns": Field(100, 0, 8),
+    "column_cycles": Field(101, 4, 4),
+    "row_cycles": Field(101, 0, 4),
+    "plane_bits": Field(113, 0, 4),
+    "no_block_restrictions": Field(114, 1, 1),
+    "tPROG_us": Field(133, 0, 16),
+    "tBERS_us": Field(135, 0, 16),
+    "tR_us": Field(137, 0, 16),
+    "tCCS_ns": Field(139, 0, 16),
 }
 TEXTS: Dict[str, Tuple[int, int]] = {"manufacturer": (32, 12), "model": (44, 20)}
 
@@ -85,42 +85,35 @@ def crc_behind(remainder: int, byte: int) -> int:
 
 def page_of(numbers: Mapping[str, int], texts: Mapping[str, str]) -> bytes:
     """One copy of the parameter page with these fields, all others 0. ValueError says what doesn't fit."""
-    page = bytearray(COPY)
-    page[0:4] = SIGNATURE
+    page = int.from_bytes(SIGNATURE, "little")
     for name, value in numbers.items():
-        put_number(page, name, value)
+        page |= placed_number(name, value)
     for name, text in texts.items():
-        put_text(page, name, text)
-    page[254:256] = crc16(bytes(page[:254])).to_bytes(2, "little")
-    return bytes(page)
+        page |= placed_text(name, text)
+    front = page.to_bytes(COPY - 2, "little")
+    return front + crc16(front).to_bytes(2, "little")
 
 
-def put_number(page: bytearray, name: str, value: int) -> None:
+def placed_number(name: str, value: int) -> int:
     if name not in NUMBERS:
         raise ValueError(f"{name}: no such field")
     field = NUMBERS[name]
-    if not 0 <= value < 1 << field.width():
-        raise ValueError(f"{name}: {value} is not below {1 << field.width()}")
-    place = slice(field.byte, field.byte + field.bytes)
-    page[place] = (int.from_bytes(page[place], "little") | value << field.low).to_bytes(field.bytes, "little")
+    if not 0 <= value < 1 << field.bits:
+        raise ValueError(f"{name}: {value} is not below {1 << field.bits}")
+    return value << field.place
 
 
-def put_text(page: bytearray, name: str, text: str) -> None:
-    if name not in TEXTS:
-        raise ValueError(f"{name}: no such field")
+def placed_text(name: str, text: str) -> int:
     first, size = TEXTS[name]
     if not text.isascii() or not text.isprintable() or len(text) > size:
         raise ValueError(f"{name}: not {size} printable ASCII characters or fewer")
-    page[first : first + size] = text.ljust(size).encode("ascii")
+    return int.from_bytes(text.ljust(size).encode("ascii"), "little") << 8 * first
 
 
 def numbers_of(page: bytes) -> Dict[str, int]:
     """The numbers of one copy, by name."""
-    found = {}
-    for name, field in NUMBERS.items():
-        whole = int.from_bytes(page[field.byte : field.byte + field.bytes], "little")
-        found[name] = whole >> field.low & (1 << field.width()) - 1
-    return found
+    whole = int.from_bytes(page, "little")
+    return {name: whole >> field.place & (1 << field.bits) - 1 for name, field in NUMBERS.items()}
 
 
 def first_copy(data: bytes) -> bytes:

@@ -1,5 +1,6 @@
 """What a die answers: the contents of blocks, as the definitions of the simulated chip give them."""
 
+import dataclasses
 from typing import Dict, FrozenSet, NamedTuple
 
 ERASED = "erased"
@@ -28,20 +29,18 @@ class Operation(NamedTuple):
     sectors: int = 0
 
 
+@dataclasses.dataclass
 class Block:
     """A block that opens erased. `faults` are the numbers, from 0, of its programs and erases that fail and tear it."""
 
-    def __init__(self, device: Device, faults: FrozenSet[int] = frozenset()) -> None:
-        self.device = device
-        self.faults = faults
-        self.done = 0
-        self.others = ERASED
-        self.pages: Dict[int, object] = {}
+    device: Device
+    faults: FrozenSet[int] = frozenset()
+    done: int = 0
+    others: str = ERASED
+    pages: Dict[int, object] = dataclasses.field(default_factory=dict)
 
     def copy(self) -> "Block":
-        made = Block(self.device, self.faults)
-        made.done, made.others, made.pages = self.done, self.others, dict(self.pages)
-        return made
+        return dataclasses.replace(self, pages=dict(self.pages))
 
     def page(self, number: int) -> object:
         """Erased, torn or its bytes."""
@@ -51,28 +50,23 @@ class Block:
         """Does the operation; its answer as a report spells it."""
         if asked.kind == "read":
             return "read," + spelled(self.output_of(asked))
-        number = self.done
+        fails = self.done in self.faults
         self.done += 1
         if asked.kind == "erase":
-            self.pages, self.others = {}, TORN if number in self.faults else ERASED
-            return "failed" if number in self.faults else "done"
-        if number in self.faults:
+            self.pages, self.others = {}, TORN if fails else ERASED
+        elif fails:
             self.pages[asked.page] = TORN
+        elif self.takes_program(asked.page):
+            self.pages[asked.page] = asked.content
+        else:
             return "failed"
-        if not self.takes_program(asked.page):
-            return "failed"
-        self.pages[asked.page] = asked.content
-        return "done"
-
-    def bytes_of(self, number: int) -> bytes:
-        held = self.page(number)
-        if isinstance(held, bytes):
-            return held
-        return (b"\xff" if held == ERASED else b"\0") * self.device.page_bytes
+        return "failed" if fails else "done"
 
     def output_of(self, asked: Operation) -> bytes:
         """What a read gives."""
-        held, size = self.bytes_of(asked.page), self.device.sector_bytes
+        held, size = self.page(asked.page), self.device.sector_bytes
+        if not isinstance(held, bytes):
+            held = (b"\xff" if held == ERASED else b"\0") * self.device.page_bytes
         return held[asked.first * size : (asked.first + asked.sectors) * size] if asked.sectors else held
 
     def takes_program(self, number: int) -> bool:

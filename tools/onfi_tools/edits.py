@@ -7,11 +7,10 @@ says why it has none; in must-fail/ '# alone: REASON', since the kit asks there 
 
 from __future__ import annotations
 
-import enum
 import re
 from dataclasses import dataclass
 from pathlib import Path
-from typing import Dict, FrozenSet, Iterable, List, Set, Tuple
+from typing import Callable, Dict, FrozenSet, Iterable, List, Set, Tuple
 
 from onfi_tools.functions import Function, Key, functions_of, users_of
 
@@ -19,7 +18,6 @@ Pair = Tuple[str, str, str]
 # Where edits stand. Those of the kit's own folder rt ci tries too, so it takes nothing else there: a twin of one stands in the other.
 KITS, OWN = "must-fail", "wrong-bodies"
 PLACES = (KITS, OWN)
-ENDINGS = (".edit", ".twin")
 ALONE = re.compile(r"^(?:# )?alone: (.*)", re.M)
 TOKEN = re.compile(r"""b?"(?:\\.|[^"\\])*"|b?'(?:\\.|[^'\\])'|[A-Za-z_]\w*!?|\d\w*|<<=?|>>=?|&&|\|\||[-+*/%&|^<>=!]=|->|=>|::|\.\.=?|\S""")
 STATEMENT = frozenset("if else match return let for while loop break continue fn => ?".split())
@@ -28,15 +26,6 @@ OPERATOR = frozenset("+ - * / % & | ^ < > ! == != <= >= && || << >> += -= *= /= 
 
 class BadEdit(Exception):
     """Why an edit can't be tried."""
-
-
-class Change(enum.Enum):
-    """What an edit changes, the coarsest of its pairs."""
-
-    STATEMENT = "adds or removes a statement"
-    CALL = "changes a call"
-    OPERATOR = "changes an operator"
-    VALUE = "changes a value"
 
 
 def tokens_of(text: str) -> List[str]:
@@ -64,18 +53,17 @@ def operators_in(tokens: List[str]) -> List[str]:
     return [token for token in tokens if token in OPERATOR]
 
 
-def change_of_pair(old: str, new: str) -> Change:
-    was, made = tokens_of(old), tokens_of(new)
-    if statements_in(was) != statements_in(made):
-        return Change.STATEMENT
-    if calls_in(was) != calls_in(made):
-        return Change.CALL
-    return Change.OPERATOR if operators_in(was) != operators_in(made) else Change.VALUE
+# What an edit may change, the coarsest first, with the tokens by which it is known; else it changes a value.
+STATEMENTS = "adds or removes a statement"
+CHANGES: Dict[str, Callable[[List[str]], List[str]]] = {STATEMENTS: statements_in, "changes a call": calls_in, "changes an operator": operators_in}
 
 
-def change_of(pairs: List[Pair]) -> Change:
-    changes = [change_of_pair(old, new) for _, old, new in pairs]
-    return next(it for it in Change if it in changes)
+def change_of(pairs: List[Pair]) -> str:
+    tokens = [(tokens_of(old), tokens_of(new)) for _, old, new in pairs]
+    for change, chosen in CHANGES.items():
+        if any(chosen(was) != chosen(made) for was, made in tokens):
+            return change
+    return "changes a value"
 
 
 @dataclass
@@ -106,35 +94,25 @@ class Edit:
         """Whether one of these is its own."""
         return any(twin.file.stem == self.file.stem for twin in twins)
 
-    def paths(self) -> List[str]:
-        """Where an edit of its name, or a twin, may stand in the crate's folder."""
-        return [f"{place}/{self.file.stem}{ending}" for place in PLACES for ending in ENDINGS]
-
-    def apply(self, folder: Path) -> None:
+    def apply(self, texts: Dict[str, str]) -> None:
+        """Makes the edit in these files: in its functions, since another edit of the round may have made the same text elsewhere."""
         for path, old, new in self.pairs:
-            file = folder / path
-            text = file.read_text(encoding="utf-8")
-            at = self.place_in(path, text, old)
-            file.write_text(text[:at] + new + text[at + len(old) :], encoding="utf-8")
-
-    def place_in(self, path: str, text: str, old: str) -> int:
-        """Where an old text stands: in a function of this edit, since another edit of the round may have made the same text elsewhere."""
-        spans = [span_of(text, it) for it in functions_of(path, text) if it.key in self.keys]
-        inside = [at for at in places_of(old, text) if any(begin <= at < end for begin, end in spans)]
-        found = inside if len(inside) == 1 else places_of(old, text)
-        if len(found) != 1:
-            raise BadEdit(f"an old text stands in {path} {len(found)} times")
-        return found[0]
+            text = texts[path]
+            places = [it.start() for it in re.finditer(re.escape(old), text)]
+            own = [at for at in places if any(it.key in self.keys for it in functions_at(path, text, line_of(text, at)))]
+            found = own if len(own) == 1 else places
+            if len(found) != 1:
+                raise BadEdit(f"an old text stands in {path} {len(found)} times")
+            texts[path] = text[: found[0]] + new + text[found[0] + len(old) :]
 
 
-def span_of(text: str, function: Function) -> Tuple[int, int]:
-    """Where a function's lines begin and end in its file."""
-    lines = text.splitlines(keepends=True)
-    return sum(map(len, lines[: function.first])), sum(map(len, lines[: function.last + 1]))
+def line_of(text: str, at: int) -> int:
+    return text.count("\n", 0, at)
 
 
-def places_of(part: str, text: str) -> List[int]:
-    return [it.start() for it in re.finditer(re.escape(part), text)]
+def functions_at(path: str, text: str, line: int) -> List[Function]:
+    """The functions that a line stands in, the inner one last."""
+    return [it for it in functions_of(path, text) if it.first <= line <= it.last]
 
 
 def head_of(lines: List[str], line: int) -> str:
@@ -143,18 +121,14 @@ def head_of(lines: List[str], line: int) -> str:
 
 
 def pairs_in(text: str) -> List[Pair]:
-    path = old = None
+    said: Dict[str, str] = {}
     pairs: List[Pair] = []
-    for line in text.split("\n"):
-        if line.startswith("file: "):
-            path = line[len("file: ") :].strip()
-        elif line.startswith("old: "):
-            old = line[len("old: ") :]
-        elif line.startswith("new:"):
-            if path is None or old is None:
+    for word, rest in re.findall(r"^(file|old|new): ?(.*)", text, re.M):
+        said[word] = rest
+        if word == "new":
+            if not {"file", "old"} <= said.keys():
                 raise BadEdit("a line 'new:' stands before any 'file:' or 'old:'")
-            pairs.append((path, old, line[len("new:") :].removeprefix(" ")))
-            old = None
+            pairs.append((said["file"].strip(), said.pop("old"), rest))
     if not pairs or any(not path.startswith("src/") for path, _, _ in pairs):
         raise BadEdit("it has no pair, or changes more than src/")
     return pairs
@@ -168,9 +142,8 @@ def read_edit(file: Path, sources: Dict[str, str]) -> Edit:
     for path, old, new in pairs:
         if texts.get(path, "").count(old) != 1:
             raise BadEdit(f"an old text stands in {path} {texts.get(path, '').count(old)} times")
-        # (a text may begin with the blanks of its line)
-        line = texts[path].count("\n", 0, texts[path].index(old) + len(old) - len(old.lstrip()))
-        inside = [it for it in functions_of(path, texts[path]) if it.first <= line <= it.last]
+        line = line_of(texts[path], texts[path].index(old))
+        inside = functions_at(path, texts[path], line)
         head = head_of(texts[path].split("\n"), line)
         word = re.match(r"(?:pub(?:\([a-z]+\))? )?(?:const|static) (\w+)", head)
         if inside:
@@ -188,7 +161,7 @@ def read_edit(file: Path, sources: Dict[str, str]) -> Edit:
 
 def needs_twin(edit: Edit, twins: List[Edit]) -> bool:
     """Whether an edit adds or removes a statement, has no twin of its name, and doesn't say why."""
-    return not edit.has_twin(twins) and not edit.reason and change_of(edit.pairs) is Change.STATEMENT
+    return not edit.has_twin(twins) and not edit.reason and change_of(edit.pairs) == STATEMENTS
 
 
 def about_twin(edit: Edit, twins: List[Edit]) -> str:
@@ -198,4 +171,4 @@ def about_twin(edit: Edit, twins: List[Edit]) -> str:
     if edit.reason:
         return f"no twin: {edit.reason}"
     change = change_of(edit.pairs)
-    return f"it needs a twin, since it {change.value}" if change is Change.STATEMENT else f"no twin: it {change.value}"
+    return f"it needs a twin, since it {change}" if change == STATEMENTS else f"no twin: it {change}"

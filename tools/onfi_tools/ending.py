@@ -17,7 +17,9 @@ def end(main: Callable[[], Optional[int]], *faults: Type[Exception]) -> NoReturn
     where it meets one of these faults, of which a line is said."""
     name = Path(main.__code__.co_filename).name
     try:
-        status = status_of(main)
+        status: Status = main()
+    except SystemExit as ended:
+        status = ended.code
     except BrokenPipeError:
         if not nobody_reads():
             raise
@@ -25,13 +27,6 @@ def end(main: Callable[[], Optional[int]], *faults: Type[Exception]) -> NoReturn
     except faults as fault:
         status = f"{name}: {fault}"
     sys.exit(written(status, name))
-
-
-def status_of(main: Callable[[], Optional[int]]) -> Status:
-    try:
-        return main()
-    except SystemExit as ended:
-        return ended.code
 
 
 def nobody_reads() -> bool:

@@ -76,15 +76,12 @@ class Layout:
         self.boxes = frozenset(below)
 
     def order(self) -> None:
-        """The best of some sweeps, each of which puts a thing at the middle of those that it is tied to."""
-        best = (self.crossings(), [list(row) for row in self.rows])
+        """Some sweeps, each of which puts a thing at the middle of those that it is tied to."""
         for sweep in range(ORDERINGS):
             upward = sweep % 2 == 0
             for row in self.rows if upward else reversed(self.rows):
                 self.put(row, self.down if upward else self.up)
             self.swap()
-            best = min(best, (self.crossings(), [list(row) for row in self.rows]), key=lambda it: it[0])
-        self.rows = best[1]
 
     def put(self, row: List[str], tied: Mapping[str, List[str]]) -> None:
         at = self.numbers()

@@ -35,7 +35,7 @@ ARGUMENT = rf"{TYPE}{OF_VALUE}(?: {VALUE})?"
 ARGUMENTS = rf"(?:{ARGUMENT}(?:, {ARGUMENT})*)?"
 
 # Each form of a line inside of a function, without blanks before it.
-FORMS: Dict[str, str] = {
+FORMS: Dict[str, Pattern[str]] = {name: re.compile(form) for name, form in {
     "alloca": rf"(?P<to>{LOCAL}) = alloca (?P<type>{SCALAR}|\[\d+ x i8\]), align (?P<align>\d+)",
     "load": rf"(?P<to>{LOCAL}) = load (?P<type>{TYPE}|{TAGS}), ptr (?P<at>{VALUE}), align (?P<align>\d+)(?P<notes>{NOTES})",
     "store": rf"store (?P<type>{TYPE}|{TAGS}) (?P<value>{VALUE}), ptr (?P<at>{VALUE}), align (?P<align>\d+)",
@@ -60,9 +60,9 @@ FORMS: Dict[str, str] = {
              rf"\((?P<before>ptr{OF_VALUE} {VALUE}, ptr{OF_VALUE} {VALUE}, )i64 (?P<bytes>{VALUE})(?P<behind>, i1 false)\)",
     "call": rf"(?:{LOCAL} = )?(?:tail )?call{OF_VALUE} (?:void|{TYPE}) (?P<callee>{LOCAL}|{GLOBAL})\({ARGUMENTS}\)(?: #\d+)?{NOTES}",
     "label": r'(?:"[^"]*"|[-\w.$]+):(?: *; .*)?',
-}
+}.items()}
 # Each form of a line outside of functions.
-TOP: Dict[str, str] = {
+TOP: Dict[str, Pattern[str]] = {name: re.compile(form) for name, form in {
     "layout": r'target datalayout = "(?P<text>[^"]*)"',
     "triple": r'target triple = "(?P<text>[^"]*)"',
     "source": r'source_filename = "[^"]*"',
@@ -72,16 +72,7 @@ TOP: Dict[str, str] = {
     "declared": rf"declare{OF_VALUE} (?P<type>void|{TYPE}) (?P<name>{GLOBAL})\({ARGUMENTS}\)(?: #\d+)?",
     "attributes": r"attributes #\d+ = \{.*\}",
     "note": r"!.*",
-}
-COMPILED: Dict[str, Pattern[str]] = {name: re.compile(form) for name, form in {**FORMS, **TOP}.items()}
-# Which form a line may have, by its first word or the first after ` = `.
-BY_WORD = {
-    "alloca": "alloca", "load": "load", "store": "store", "getelementptr": "place", "icmp": "compared", "ptrtoaddr": "address",
-    "extractvalue": "taken", "br": "branch", "switch": "switch", "]": "cases end", "ret": "return",
-    "unreachable": "unreachable", "insertelement": "tag", "shufflevector": "tags alike", "bitcast": "hits as bits",
-    **dict.fromkeys("add sub mul shl udiv sdiv lshr ashr urem srem and or xor".split(), "sum"),
-    **dict.fromkeys(("zext", "sext", "trunc"), "converted"), **dict.fromkeys(NUMBER[3:-1].split("|"), "case"),
-}
+}.items()}
 # Intrinsics that mean the same everywhere.
 INTRINSIC = re.compile(r"@llvm\.(?:mem(?:set\.p0|cpy\.p0\.p0|move\.p0\.p0)\.i64|trap|(?:ctlz|cttz|ctpop|bswap)\.i\d+)$")
 HEAP = {"@rattle_alloc", "@rattle_realloc", "@rattle_dealloc"}
@@ -120,20 +111,10 @@ def told_of(line: str) -> str:
     return next((told for pattern, told in TELLING if re.search(pattern, bare)), "a form that isn't known here")
 
 
-def form_of(line: str) -> Optional[Tuple[str, Match[str]]]:
-    """The form of a line inside of a function; None where it has none."""
-    if not line.startswith(" "):
-        found = COMPILED["label"].fullmatch(line)
-        return ("label", found) if found else None
-    bare = line.strip()
-    first, _, rest = bare.partition(" ")
-    word = rest[2:].partition(" ")[0] if rest.startswith("= ") else first
-    names = ["converted", "hits"] if word == "sext" else [BY_WORD[word]] if word in BY_WORD else ["filled", "moved", "call"]
-    for name in names:
-        found = COMPILED[name].fullmatch(bare)
-        if found:
-            return name, found
-    return None
+def form_of(line: str, forms: Dict[str, Pattern[str]]) -> Optional[Tuple[str, Match[str]]]:
+    """The form of a line, the first of these; None where it has none."""
+    matches = ((name, form.fullmatch(line)) for name, form in forms.items())
+    return next(((name, found) for name, found in matches if found), None)
 
 
 def parts_of(group: str) -> List[Tuple[str, int]]:
@@ -174,7 +155,7 @@ class Module:
             return
         if not line:
             return
-        form = form_of(line)
+        form = form_of(line.strip(), FORMS)
         if form is None:
             raise self.unknown(told_of(line), line)
         name, found = form
@@ -196,9 +177,10 @@ class Module:
     def outside(self, line: str) -> Iterator[str]:
         if not line or line.startswith(";"):
             return
-        name, found = next(((name, found) for name in TOP for found in [COMPILED[name].fullmatch(line)] if found), ("", None))
-        if found is None:
+        form = form_of(line, TOP)
+        if form is None:
             raise self.unknown(told_of(line), line)
+        name, found = form
         if name == "layout":
             yield f'target datalayout = "{self.to.layout}"'
         elif name == "triple":

@@ -1,7 +1,7 @@
 """The calls of onfi.h for processors of 32 bits, as C over the same calls with counts of 64 bits, which tools/retarget makes."""
 
 import re
-from typing import Dict, List, NamedTuple
+from typing import Dict, List, NamedTuple, Tuple
 
 CALL = re.compile(r"^(uint32_t|void) (onfi_\w+)\(([^)]*)\);", re.MULTILINE)
 PARAMETER = re.compile(r"(?P<kind>(?:const )?\w+ \*?)(?P<name>\w+)(?:\[(?P<size>\w+)\])?")
@@ -32,10 +32,6 @@ class Parameter(NamedTuple):
     @property
     def is_pointer(self) -> bool:
         return self.kind.endswith("*") or bool(self.size)
-
-    @property
-    def counts(self) -> bool:
-        return self.kind.startswith("size_t")
 
     def __str__(self) -> str:
         return f"{self.kind}{'' if self.kind.endswith('*') else ' '}{self.name}{f'[{self.size}]' if self.size else ''}"
@@ -72,37 +68,22 @@ def types_of(call: Call) -> List[str]:
     return ["ptr" if it.is_pointer else OF_C[it.kind] for it in call.given]
 
 
-def wide(it: Parameter) -> Parameter:
-    return Parameter(it.kind.replace("size_t", "uint64_t"), it.name, it.size)
-
-
-def before(it: Parameter) -> List[str]:
-    """What stands before the call for a parameter that points to counts."""
-    if it.size:
-        return [f"    uint64_t wide_{it.name}[{it.size}];", f"    for (int at = 0; at < {it.size}; at++)", f"        wide_{it.name}[at] = NOTHING;"]
-    return [f"    uint64_t wide_{it.name} = {f'*{it.name}' if it.name in CHANGED else 'NOTHING'};"]
-
-
-def behind(it: Parameter) -> List[str]:
-    if it.size:
-        told = [f"    for (int at = 0; at < {it.size}; at++)", f"        if (wide_{it.name}[at] != NOTHING)"]
-        return [*told, f"            {it.name}[at] = (size_t)wide_{it.name}[at];"]
-    return [f"    if (wide_{it.name} != NOTHING)", f"        *{it.name} = (size_t)wide_{it.name};"]
-
-
-def passed(it: Parameter) -> str:
-    counts = it.is_pointer and it.counts
-    return f"{'&' if counts and not it.size else ''}{'wide_' if counts else ''}{it.name}"
+def copies_of(it: Parameter) -> Tuple[List[str], List[str]]:
+    """What stands before and after the call for a parameter that points to counts: copies of them in 64 bits."""
+    size, begun = it.size or "1", f"{it.name}[at]" if it.name in CHANGED else "NOTHING"
+    each = f"    for (int at = 0; at < {size}; at++)"
+    given = [f"    uint64_t wide_{it.name}[{size}];", each, f"        wide_{it.name}[at] = {begun};"]
+    return given, [each, f"        if (wide_{it.name}[at] != NOTHING)", f"            {it.name}[at] = (size_t)wide_{it.name}[at];"]
 
 
 def narrow_call(call: Call) -> str:
-    counts = [it for it in call.given if it.is_pointer and it.counts]
-    own, given = (", ".join(map(str, it)) or "void" for it in ([wide(it) for it in call.given], call.given))
-    made = f"wide_{call.name}({', '.join(map(passed, call.given))});"
-    body = [line for it in counts for line in before(it)]
+    counts = {it.name: copies_of(it) for it in call.given if it.is_pointer and it.kind.startswith("size_t")}
+    given = ", ".join(map(str, call.given)) or "void"
+    made = f"wide_{call.name}({', '.join(f'wide_{it.name}' if it.name in counts else it.name for it in call.given)});"
+    body = [line for before, _ in counts.values() for line in before]
     body += [f"    {call.result} told = {made}" if counts else f"    return {made}"]
-    body += [line for it in counts for line in behind(it)] + (["    return told;"] if counts else [])
-    return "\n".join([f"{call.result} wide_{call.name}({own});", f"{call.result} {call.name}({given})", "{", *body, "}", ""])
+    body += [line for _, after in counts.values() for line in after] + (["    return told;"] if counts else [])
+    return "\n".join([f"{call.result} wide_{call.name}({given.replace('size_t', 'uint64_t')});", f"{call.result} {call.name}({given})", "{", *body, "}", ""])
 
 
 def narrow_calls(calls: List[Call]) -> str:

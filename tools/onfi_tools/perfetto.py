@@ -18,21 +18,18 @@ def picture(phases: List[Phase], lengths: Optional[Mapping[str, Spans]], window:
     arguments `start` and `end` are ns."""
     luns = by_lun(phases)
     window = window or whole(phases)
-    events = [named("process_name", 0, "ONFI channel"), named("thread_name", BUS, "bus")]
-    events += [named("thread_name", FIRST_LUN + lun, f"LUN {lun}") for lun in luns]
-    events += [ordered(BUS)] + [ordered(FIRST_LUN + lun) for lun in luns]
+    names = {BUS: "bus", **{FIRST_LUN + lun: f"LUN {lun}" for lun in luns}}
+    events = [described("process_name", 0, name="ONFI channel")]
+    events += [described("thread_name", track, name=name) for track, name in names.items()]
+    events += [described("thread_sort_index", track, sort_index=track) for track in names]
     events += [bus_event(phase) for phase in window.of(phases)]
     for own in luns.values():
         events += [lun_event(stretch) for stretch in window.of(stretches(own, 0, lengths))]
     return json.dumps({"displayTimeUnit": "ns", "traceEvents": events}, indent=1) + "\n"
 
 
-def named(what: str, track: int, name: str) -> Event:
-    return {"ph": "M", "name": what, "pid": CHANNEL, "tid": track, "args": {"name": name}}
-
-
-def ordered(track: int) -> Event:
-    return {"ph": "M", "name": "thread_sort_index", "pid": CHANNEL, "tid": track, "args": {"sort_index": track}}
+def described(what: str, track: int, **arguments: object) -> Event:
+    return {"ph": "M", "name": what, "pid": CHANNEL, "tid": track, "args": arguments}
 
 
 def timed(track: int, start: int, end: int, name: str, arguments: Mapping[str, Any]) -> Event:

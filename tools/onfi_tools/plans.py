@@ -1,8 +1,9 @@
 """Plan texts played on a channel: what is left after some phases, when requests end, and the least that any schedule costs."""
 
+import functools
 import itertools
 import re
-from typing import Dict, Iterator, List, Mapping, NamedTuple, Optional, Sequence, Tuple
+from typing import Any, Dict, Iterator, List, Mapping, NamedTuple, Optional, Sequence, Tuple
 
 from onfi_tools.channel import Channel, Move, Want, group_of
 
@@ -93,20 +94,18 @@ def least_cost(channel: Channel, weights: Mapping[int, int], latest: int) -> Opt
     A schedule whose phases come in the same order, each as early as it may, ends each phase no later. So the orders of phases,
     and the groups, are all that is tried.
     """
-    known: Dict[Tuple[object, ...], Optional[int]] = {}
-
-    def least(left: Channel) -> Optional[int]:
+    @functools.cache
+    def least(*state: Any) -> Optional[int]:
+        left = Channel(channel.device, *state)
         if left.bus > latest:
             return None
-        if left[1:] not in known:
-            known[left[1:]] = cheapest([(cost_of(move, left.after(move).bus), least(left.after(move))) for move in left.moves()])
-        return known[left[1:]]
+        return cheapest([(cost_of(move, left.after(move).bus), least(*left.after(move)[1:])) for move in left.moves()])
 
     def cost_of(move: Move, end: int) -> int:
         number = ended_by(move)
         return 0 if number is None else weights.get(number, 1) * end
 
-    return least(channel)
+    return least(*channel[1:])
 
 
 def cheapest(moves: Sequence[Tuple[int, Optional[int]]]) -> Optional[int]:

@@ -3,9 +3,9 @@
 import statistics
 from typing import Callable, Dict, List, Sequence, Tuple
 
-from onfi_tools.bench.runs import table
+from onfi_tools.bench.runs import quantile, table
 from onfi_tools.rolling_use import TWELVE, WORKLOADS, Configuration, Measured
-from onfi_tools.rolling_ways import BASE, PLANS, title
+from onfi_tools.rolling_ways import BASE, PLANS, WAYS
 
 # Where its throughput is at most so much of the bound, in %, there may be something to gain.
 ROOM = 95
@@ -55,12 +55,7 @@ def planning_cell(one: Measured, way: str) -> str:
 def cells_table(first: str, measured: Sequence[Measured], ways: Sequence[str], cell: Cell) -> List[str]:
     """Configurations one by one; nothing where there are none, or no ways."""
     rows = [[title_of(one.configuration), *(cell(one, way) for way in ways)] for one in measured]
-    return table([first, *map(title, ways)], rows) if rows and ways else []
-
-
-def nine_of_ten(numbers: Sequence[float]) -> float:
-    """What nine of ten of the numbers are at least."""
-    return sorted(numbers)[len(numbers) // 10]
+    return table([first, *(WAYS[way] for way in ways)], rows) if rows and ways else []
 
 
 def ratio_cell(measured: Sequence[Measured], way: str, name: str) -> str:
@@ -80,9 +75,9 @@ def spread_row(measured: Sequence[Measured], way: str) -> List[str]:
     """How a way's throughput, in % of that of reads first over all, is spread over the configurations; its latencies beside."""
     found = [share(one, way) for one in measured]
     more, less = sum(number > 101 for number in found), sum(number < 99 for number in found)
-    numbers = (statistics.median(found), nine_of_ten(found), min(found), max(found))
+    numbers = (statistics.median(found), quantile(found, 0.1), min(found), max(found))
     latencies = [ratio_cell(measured, way, name) for name in ("read_mean", "read_99", "program_mean", "program_99")]
-    return [title(way), *(f"{number:.1f}" for number in numbers), f"{more}; {less}", bound_cell(measured, way), *latencies]
+    return [WAYS[way], *(f"{number:.1f}" for number in numbers), f"{more}; {less}", bound_cell(measured, way), *latencies]
 
 
 def spread_table(first: str, measured: Sequence[Measured], ways: Sequence[str]) -> List[str]:
@@ -98,17 +93,13 @@ def room_table(measured: Sequence[Measured], ways: Sequence[str]) -> List[str]:
     for way in ways if own else []:
         found = [share(one, way) for one in own]
         numbers = (statistics.median(found), statistics.mean(found), max(found), min(found))
-        rows.append([title(way), *(f"{number:.1f}" for number in numbers), bound_cell(own, way), ratio_cell(own, way, "read_99")])
+        rows.append([WAYS[way], *(f"{number:.1f}" for number in numbers), bound_cell(own, way), ratio_cell(own, way, "read_99")])
     columns = ["median", "mean", "best", "worst", "of the bound: median; least", "reads' 99 %"]
     return table([f"on the {len(own)} with at most {ROOM} % of the bound", *columns], rows)
 
 
+# The same configuration with reads of whole pages, and of one sector of four.
 Pair = Tuple[Measured, Measured]
-
-
-def pairs_of(pages: Sequence[Measured], sectors: Sequence[Measured]) -> List[Pair]:
-    """The same configurations with reads of whole pages and of one sector of four."""
-    return list(zip(pages, sectors))
 
 
 def gain(pair: Pair, way: str, name: str = "rate") -> float:
@@ -126,7 +117,7 @@ def sector_row(pair: Pair, ways: Sequence[str]) -> List[str]:
 
 def sector_table(pairs: Sequence[Pair], ways: Sequence[str]) -> List[str]:
     """What reads of a sector give by reads first over all; of the other ways their throughput in % of its, of pages and of sectors."""
-    columns = ["a page", "a sector", "ratio", "% of the bound", *(title(way) for way in ways if way != BASE)]
+    columns = ["a page", "a sector", "ratio", "% of the bound", *(WAYS[way] for way in ways if way != BASE)]
     return table(["requests a second", *columns], [sector_row(pair, ways) for pair in pairs])
 
 
@@ -136,7 +127,7 @@ def gain_row(pairs: Sequence[Pair], way: str) -> List[str]:
     shares = [share(one, way) for one in sectors]
     numbers = (min(found), statistics.median(found), max(found), statistics.median(latencies))
     own = f"{statistics.median(shares):.1f}; {min(shares):.1f}; {max(shares):.1f}"
-    return [f"{WORKLOADS[sectors[0].configuration.workload]}, {title(way)}", *(f"{number:.2f}" for number in numbers), own, bound_cell(sectors, way)]
+    return [f"{WORKLOADS[sectors[0].configuration.workload]}, {WAYS[way]}", *(f"{number:.2f}" for number in numbers), own, bound_cell(sectors, way)]
 
 
 def gain_table(pairs: Sequence[Pair], ways: Sequence[str]) -> List[str]:
@@ -156,14 +147,14 @@ def parts_of(measured: Sequence[Measured]) -> List[Tuple[str, List[Measured]]]:
 
 def bound_row(name: str, own: Sequence[Measured]) -> List[str]:
     found = [of_bound(one, BASE) for one in own]
-    numbers = (statistics.median(found), nine_of_ten(found), min(found))
+    numbers = (statistics.median(found), quantile(found, 0.1), min(found))
     return [name, str(len(own)), *(f"{number:.0f}" for number in numbers), str(sum(number <= ROOM for number in found))]
 
 
 def bound_table(measured: Sequence[Measured]) -> List[str]:
     """How much of what no scheduler passes the best plain way has."""
     columns = ["configurations", "median", "nine of ten at least", "least", f"at most {ROOM} %"]
-    return table([f"{title(BASE)}, % of the bound", *columns], [bound_row(name, own) for name, own in parts_of(measured)])
+    return table([f"{WAYS[BASE]}, % of the bound", *columns], [bound_row(name, own) for name, own in parts_of(measured)])
 
 
 def apart(*tables: List[str]) -> List[str]:
@@ -195,7 +186,7 @@ def quick_tables(parts: Sequence[Sequence[Measured]], ways: Sequence[str], some:
 
 def whole_tables(measured: Sequence[Measured], ways: Sequence[str]) -> List[str]:
     """All configurations, and what each device, workload, bus and number of LUNs has of it; the twelve one by one."""
-    twelve = [one for of in TWELVE for one in measured if one.configuration._replace(array=of.array) == of]
+    twelve = [one for of in TWELVE for one in measured if one.configuration == of]
     medians = [[name, *(f"{statistics.median(share(one, way) for one in own):.0f}" for way in ways)] for name, own in parts_of(measured)]
     return apart(spread_table("throughput, % of reads first, all", measured, ways), room_table(measured, ways), bound_table(measured),
-                 table(["its median", *map(title, ways)], medians), *twelve_tables(twelve, ways, ways))
+                 table(["its median", *(WAYS[way] for way in ways)], medians), *twelve_tables(twelve, ways, ways))

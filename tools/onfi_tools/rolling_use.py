@@ -4,11 +4,10 @@ import csv
 import itertools
 import os
 import subprocess
-
 from concurrent.futures import ThreadPoolExecutor
 from functools import lru_cache
 from pathlib import Path
-from typing import Dict, Iterable, Iterator, List, NamedTuple, Optional, Sequence, Tuple
+from typing import Dict, Iterable, List, NamedTuple, Optional, Sequence, Tuple
 
 from onfi_tools.channel_bound import bounds_of, read_source, requests_for
 from onfi_tools.rolling_ways import PLANS
@@ -168,13 +167,10 @@ def build(made: Path, library: Optional[Path]) -> Path:
     return made
 
 
-def words_of(of: Configuration, requests: int, asked: Asked) -> List[str]:
-    return [*of.words(), "requests", str(requests), "seed", str(asked.seed), "limit", str(asked.limit)]
-
-
-def told(program: Path, of: Configuration, words: Sequence[str]) -> str:
+def output_of(program: Path, of: Configuration, requests: int, asked: Asked, *words: str) -> str:
     """What a run prints. ValueError says what was illegal."""
-    ran = subprocess.run([str(program), *words], capture_output=True, text=True)
+    line = [str(program), *of.words(), "requests", str(requests), "seed", str(asked.seed), "limit", str(asked.limit), *words]
+    ran = subprocess.run(line, capture_output=True, text=True)
     if ran.returncode:
         raise ValueError(f"{of.title()}: {ran.stderr.strip()}")
     return ran.stdout
@@ -182,36 +178,32 @@ def told(program: Path, of: Configuration, words: Sequence[str]) -> str:
 
 def run_way(program: Path, of: Configuration, way: str, asked: Asked) -> Figures:
     """What comes of a configuration by a way."""
-    lines = told(program, of, [*words_of(of, asked.requests_of(of), asked), "way", way]).splitlines()
+    lines = output_of(program, of, asked.requests_of(of), asked, "way", way).splitlines()
     return {name: float(number) for name, number in (line.split() for line in lines)}
 
 
 @lru_cache(maxsize=None)
-def bound_of(program: Path, of: Configuration, asked: Asked) -> float:
-    """The throughput that no scheduler passes there, of a run of the same requests."""
+def bounds_there(program: Path, of: Configuration, asked: Asked) -> Dict[str, float]:
+    """The throughputs that no scheduler passes there, of a run of the same requests."""
     answers = asked.requests_of(of)
-    text = told(program, of, [*words_of(of, requests_for(answers, of.depth), asked), "source", "yes"])
+    text = output_of(program, of, requests_for(answers, of.depth), asked, "source", "yes")
     array = float(of.array.split("-")[0]) if of.told else 1
-    channel, requests = read_source(text, of.luns, of.depth, array)
-    return min(bounds_of(channel, requests, answers).values())
-
-
-def figures_of(program: Path, runs: Sequence[Tuple[Configuration, str]], asked: Asked, rows: Rows) -> Iterator[Figures]:
-    """The figures of all runs in their order, so many made at a time, each with the bound that no way passes."""
-
-    def one(run: Tuple[Configuration, str]) -> Figures:
-        return rows.found.get(key_of(*run, asked)) or run_way(program, *run, asked)
-
-    with ThreadPoolExecutor(asked.jobs) as pool:
-        for run, found in zip(runs, pool.map(one, runs)):
-            figures = found if "bound" in found else {**found, "bound": round(bound_of(program, run[0], asked), 3)}
-            rows.keep(key_of(*run, asked), figures)
-            yield figures
+    return bounds_of(*read_source(text, of.luns, of.depth, array), answers)
 
 
 def measure(program: Path, configurations: Sequence[Configuration], ways: Sequence[str], asked: Asked, rows: Rows) -> List[Measured]:
-    """Runs each configuration by each way."""
-    runs = [(of, way) for of in configurations for way in ways]
-    found = list(figures_of(program, runs, asked, rows))
-    size = len(ways)
-    return [Measured(of, dict(zip(ways, found[at * size : (at + 1) * size]))) for at, of in enumerate(configurations)]
+    """Runs each configuration by each way, so many at a time; beside the figures stands the bound that no way passes."""
+    measured = [Measured(of, {}) for of in configurations]
+    runs = [(one, way) for one in measured for way in ways]
+
+    def figures_of(run: Tuple[Measured, str]) -> Figures:
+        of, way = run[0].configuration, run[1]
+        return rows.found.get(key_of(of, way, asked)) or run_way(program, of, way, asked)
+
+    with ThreadPoolExecutor(asked.jobs) as pool:
+        for (one, way), figures in zip(runs, pool.map(figures_of, runs)):
+            if "bound" not in figures:
+                figures["bound"] = round(min(bounds_there(program, one.configuration, asked).values()), 3)
+            rows.keep(key_of(one.configuration, way, asked), figures)
+            one.by_way[way] = figures
+    return measured

@@ -38,7 +38,3 @@ QUICK = [*GREEDY, "plan", "plan-early", "plan-by-lun", *SETTINGS, *WITHOUT_SEARC
 SOME = ["rfirst:8", BASE, "plan", *SETTINGS, *WITHOUT_SEARCH]
 # The ways by which sectors are measured beside pages.
 WAYS_OF_SECTORS = [BASE, "steady", "rule-whole-groups", "plan", "plan-near-by-lun", "plan-near-one-kind"]
-
-
-def title(way: str) -> str:
-    return WAYS[way]

@@ -3,7 +3,8 @@
  *
  * It is put in by LD_PRELOAD. As the program ends, two numbers of ns of processor time are written to the descriptor
  * SPAN_TOLD: the longest chain of work in which each piece waits for the one before it, and the work of all threads
- * together. A thread's chain goes on from its maker's; after a join it is the longer one of the two.
+ * together. A thread's chain goes on from its maker's; after a join it is the longer one of the two. Threads end by a
+ * return from their function.
  */
 #define _GNU_SOURCE
 #include <dlfcn.h>
@@ -17,15 +18,12 @@
 #include <unistd.h>
 
 struct thread {
-    pthread_t id;
     void *(*run)(void *);
     void *given;
+    void *result;
     uint64_t chain;
-    struct thread *next;
 };
 
-static pthread_mutex_t guard = PTHREAD_MUTEX_INITIALIZER;
-static struct thread *threads;
 static atomic_ullong ended;
 static _Thread_local uint64_t before;
 
@@ -36,15 +34,16 @@ static uint64_t own(void)
     return (uint64_t)time.tv_sec * 1000000000 + (uint64_t)time.tv_nsec;
 }
 
+/* Gives the thread itself to the one that joins it. */
 static void *begin(void *given)
 {
     struct thread *thread = given;
     before = thread->chain;
-    void *result = thread->run(thread->given);
+    thread->result = thread->run(thread->given);
     uint64_t used = own();
     atomic_fetch_add(&ended, used);
     thread->chain = before + used;
-    return result;
+    return thread;
 }
 
 int pthread_create(pthread_t *id, const pthread_attr_t *how, void *(*run)(void *), void *given)
@@ -54,45 +53,27 @@ int pthread_create(pthread_t *id, const pthread_attr_t *how, void *(*run)(void *
     if (!thread)
         abort();
     *thread = (struct thread){.run = run, .given = given, .chain = before + own()};
-    pthread_mutex_lock(&guard);
-    int fault = create(&thread->id, how, begin, thread);
-    if (!fault) {
-        *id = thread->id;
-        thread->next = threads;
-        threads = thread;
-    }
-    pthread_mutex_unlock(&guard);
+    int fault = create(id, how, begin, thread);
     if (fault)
         free(thread);
     return fault;
 }
 
-/* Takes the thread of that name out of the list. */
-static struct thread *take(pthread_t id)
-{
-    pthread_mutex_lock(&guard);
-    struct thread **at = &threads;
-    while (*at && !pthread_equal((*at)->id, id))
-        at = &(*at)->next;
-    struct thread *found = *at;
-    if (found)
-        *at = found->next;
-    pthread_mutex_unlock(&guard);
-    return found;
-}
-
 int pthread_join(pthread_t id, void **result)
 {
     int (*join)(pthread_t, void **) = dlsym(RTLD_NEXT, "pthread_join");
-    struct thread *thread = take(id);
-    int fault = join(id, result);
-    if (!thread)
+    void *joined;
+    int fault = join(id, &joined);
+    if (fault)
         return fault;
+    struct thread *thread = joined;
     uint64_t used = own();
     if (thread->chain > before + used)
         before = thread->chain - used;
+    if (result)
+        *result = thread->result;
     free(thread);
-    return fault;
+    return 0;
 }
 
 static void tell(void)

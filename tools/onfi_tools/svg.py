@@ -1,5 +1,6 @@
 """A trace as a drawing: one row for the bus, one for each LUN, over an axis in ns."""
 
+import itertools
 import xml.etree.ElementTree as ET
 from typing import Dict, Iterator, List, Mapping, NamedTuple, Optional, Tuple
 
@@ -94,7 +95,7 @@ def add_rows(root: ET.Element, scale: Scale, bus: List[Stretch], rows: Mapping[i
 def add_row(root: ET.Element, scale: Scale, name: str, top: int, bars: List[Stretch], texts: List[str]) -> None:
     """A row's name, its bars, and the text in each bar; short bars last, since each is drawn wide enough to be seen."""
     group = ET.SubElement(root, "g")
-    add_text(group, LEFT - 8, top + 16, name, "end", weight="bold")
+    add_text(group, LEFT - 8, top + 16, name, "end").set("font-weight", "bold")
     for bar, text in sorted(zip(bars, texts), key=lambda it: it[0].start - it[0].end):
         add_bar(group, scale, top, bar)
         if text:
@@ -151,41 +152,33 @@ def labels_of(scale: Scale, own: List[Stretch]) -> List[Label]:
 
 def add_labels(root: ET.Element, labels: List[Label], top: int) -> None:
     """The lines first, so that no line runs through a name."""
-    for label in labels:
-        foot, head = f"{label.foot:.2f}", str(base_of(label, top) + 2)
-        line = {"x1": foot, "x2": foot, "y1": head, "y2": str(top)}
+    placed = [(label, top - TIER * (label.tier - 1) - 5) for label in labels]
+    for label, base in placed:
+        foot = f"{label.foot:.2f}"
+        line = {"x1": foot, "x2": foot, "y1": str(base + 2), "y2": str(top)}
         ET.SubElement(root, "line", {**line, "stroke": INK, "stroke-width": "0.6"})
-    for label in labels:
-        text = add_text(root, label.x, base_of(label, top), label.text, "middle")
+    for label, base in placed:
+        text = add_text(root, label.x, base, label.text, "middle")
         text.attrib.update({"stroke": "white", "stroke-width": "3", "paint-order": "stroke"})
 
 
-def base_of(label: Label, top: int) -> int:
-    return top - TIER * label.tier + TIER - 5
-
-
-def add_text(group: ET.Element, x: float, y: int, text: str, anchor: str, fill: str = INK, weight: str = "normal") -> ET.Element:
-    place = {"x": f"{x:.2f}", "y": str(y), "text-anchor": anchor, "fill": fill}
-    element = ET.SubElement(group, "text", {**place, **({} if weight == "normal" else {"font-weight": weight})})
+def add_text(group: ET.Element, x: float, y: int, text: str, anchor: str, fill: str = INK) -> ET.Element:
+    element = ET.SubElement(group, "text", {"x": f"{x:.2f}", "y": str(y), "text-anchor": anchor, "fill": fill})
     element.text = text
     return element
 
 
 def step_of(span: int, most: int) -> int:
     """The least of 1, 2, 5, 10, 20, .. ns that divides a span of time into at most so many steps."""
-    step = 1
-    while True:
-        for factor in (1, 2, 5):
-            if span <= factor * step * most:
-                return factor * step
-        step *= 10
+    steps: Iterator[int] = (factor * 10**power for power in itertools.count() for factor in (1, 2, 5))
+    return next(step for step in steps if span <= step * most)
 
 
-def ticks(scale: Scale) -> Iterator[int]:
+def ticks(scale: Scale) -> range:
     room = max(90, int(LETTER * len(f"{scale.end:,}")) + 20)
     most = max((scale.width - LEFT - RIGHT) // room, 1)
     step = step_of(scale.end - scale.begin, most)
-    return iter(range(-(-scale.begin // step) * step, scale.end + 1, step))
+    return range(-(-scale.begin // step) * step, scale.end + 1, step)
 
 
 def add_axis(group: ET.Element, scale: Scale, height: int, what: str) -> None:
@@ -229,10 +222,10 @@ def add_legend(root: ET.Element, parts: List[Part], waits_apart: bool, width: in
     return top + 14
 
 
-def break_lines(element: ET.Element) -> None:
+def break_lines(root: ET.Element) -> None:
     """A line for each element, but for those within a bar."""
-    if element.tag in ("svg", "g", "defs"):
-        element.text = "\n"
-    for child in element:
-        child.tail = "\n" if element.tag in ("svg", "g", "defs") else None
-        break_lines(child)
+    for element in root.iter():
+        if element.tag in ("svg", "g", "defs"):
+            element.text = "\n"
+            for child in element:
+                child.tail = "\n"

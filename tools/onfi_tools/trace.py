@@ -1,6 +1,7 @@
 """Traces of `onfi_sim plan --trace` or `--requests`: their phases, and what each LUN does from one to the next."""
 
 import enum
+import itertools
 from typing import Dict, Iterable, List, Mapping, NamedTuple, Optional, Sequence, TypeVar
 
 from onfi_tools.device import KINDS, Spans
@@ -115,9 +116,8 @@ def on_the_bus(phase: Phase) -> Stretch:
 
 def runs_at_first(own: List[Phase]) -> bool:
     """Whether a LUN's first group was running before the trace: it has more posts than commands left."""
-    commands = next((at for at, phase in enumerate(own) if phase.is_post), len(own))
-    behind = own[commands:]
-    posts = next((at for at, phase in enumerate(behind) if not phase.is_post), len(behind))
+    commands = len([*itertools.takewhile(lambda phase: not phase.is_post, own)])
+    posts = len([*itertools.takewhile(lambda phase: phase.is_post, own[commands:])])
     return posts > commands
 
 

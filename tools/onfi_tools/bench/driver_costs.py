@@ -2,7 +2,6 @@
 
 import os
 import re
-import subprocess
 import tempfile
 from pathlib import Path
 from typing import Counter, Dict, Iterator, List, NamedTuple, Sequence
@@ -12,7 +11,6 @@ from onfi_tools.bench.runs import ROOT, built, counted, table
 EXAMPLES = ROOT / "examples" / "c"
 # tlc, 70 % reads, 2 ns a byte, eight LUNs, 64 outstanding: what the driver takes where no word says otherwise.
 REQUESTS = 400
-CANT_READ = 2
 WAYS = {
     "greedy": "way greedy",
     "plans in order": "way plans choice in-order weights age",
@@ -55,14 +53,6 @@ def costs_of(counts: str) -> Iterator[Cost]:
         is_call = line.startswith("calls=")
 
 
-def calls_of(counts: str) -> Iterator[Cost]:
-    """The calls alone, by names without what the compiler adds to them."""
-    for cost in costs_of(counts):
-        if cost.callee:
-            caller, callee = (re.split(r"[.']", name)[0] for name in (cost.caller, cost.callee))
-            yield Cost(caller, callee, cost.instructions)
-
-
 class Turns(NamedTuple):
     """What a run's turns took for each request that was answered: all, and of it each call of the library; and its plans."""
 
@@ -72,36 +62,30 @@ class Turns(NamedTuple):
 
 
 def turns_of(counts: str, said: str, requests: int) -> Turns:
-    """The driver's functions without the board's, which aren't its own."""
+    """The driver's functions without the board's, which aren't its own, by names without what the compiler adds to them."""
     turns, calls = 0, Counter[str]()
-    for call in calls_of(counts):
-        turns += call.instructions if TURN.match(call.callee) and not TURN.match(call.caller) else 0
-        turns -= call.instructions if BOARD.match(call.callee) else 0
-        if call.callee.startswith("onfi_") and not call.caller.startswith("onfi_"):
-            calls[call.callee] += call.instructions
+    for cost in costs_of(counts):
+        caller, callee = (re.split(r"[.']", name)[0] for name in (cost.caller, cost.callee))
+        turns += cost.instructions if TURN.match(callee) and not TURN.match(caller) else 0
+        turns -= cost.instructions if BOARD.match(callee) else 0
+        if callee.startswith("onfi_") and not caller.startswith("onfi_"):
+            calls[callee] += cost.instructions
     plans = SAID.search(said)
     assert plans is not None, said
     return Turns(turns / requests, {name: number / requests for name, number in calls.items()}, int(plans[1]) / requests)
 
 
-class Driver:
-    """The driver over a library. `room` is a folder for what is made."""
+def built_driver(folder: Path, room: Path) -> Path:
+    """The driver over the library of a folder, in a folder for what is made."""
+    sources = sorted(EXAMPLES.glob("firmware*.c"))
+    return built(os.environ.get("CC", "cc"), ["-std=c99", "-O2", f"-I{ROOT / 'include'}", *sources, folder / "libonfi.a", "-lm"], room / "firmware")
 
-    def __init__(self, folder: Path, room: Path) -> None:
-        self.room = room
-        self.program = room / "firmware"
-        sources = sorted(map(str, EXAMPLES.glob("firmware*.c")))
-        built(os.environ.get("CC", "cc"), ["-std=c99", "-O2", f"-I{ROOT / 'include'}", *sources, folder / "libonfi.a", "-lm"], self.program)
 
-    def has(self, way: str) -> bool:
-        """Whether it can read the words of a way."""
-        return subprocess.run([str(self.program), *WAYS[way].split(), "requests", "1"], capture_output=True).returncode != CANT_READ
-
-    def turns(self, way: str, words: Sequence[str] = ()) -> Turns:
-        counts = self.room / "counts"
-        ran = counted(counts, [self.program, *WAYS[way].split(), "requests", str(REQUESTS), *words])
-        ran.check_returncode()
-        return turns_of(counts.read_text(errors="replace"), ran.stdout, REQUESTS)
+def turns_by(driver: Path, way: str, words: Sequence[str] = ()) -> Turns:
+    counts = driver.parent / "counts"
+    ran = counted(counts, [driver, *WAYS[way].split(), "requests", str(REQUESTS), *words])
+    ran.check_returncode()
+    return turns_of(counts.read_text(errors="replace"), ran.stdout, REQUESTS)
 
 
 def cells_of(turns: Turns, calls: Sequence[str]) -> List[str]:
@@ -111,11 +95,10 @@ def cells_of(turns: Turns, calls: Sequence[str]) -> List[str]:
 
 
 def ways(folder: Path) -> List[str]:
-    """A row for each way, with a column for each call of the library, in the order of the first that makes it; then what is left out."""
+    """A row for each way, with a column for each call of the library, in the order of the first that makes it."""
     with tempfile.TemporaryDirectory() as room:
-        driver = Driver(folder, Path(room))
-        found = {way: driver.turns(way) for way in WAYS if driver.has(way)}
+        driver = built_driver(folder, Path(room))
+        found = {way: turns_by(driver, way) for way in WAYS}
     calls = list(dict.fromkeys(call for turns in found.values() for call in turns.calls))
     columns = ["instructions a request", "a turn", "the driver's own", *calls, "plans"]
-    missing = [f"left out: {way}, which the driver doesn't have" for way in WAYS if way not in found]
-    return [*table(columns, [[way, *cells_of(turns, calls)] for way, turns in found.items()]), *([""] if missing else []), *missing]
+    return table(columns, [[way, *cells_of(turns, calls)] for way, turns in found.items()])

@@ -79,17 +79,6 @@ class Count(NamedTuple):
     functions: List[Tuple[str, int]]
 
 
-def count(words: List[str], given: str) -> Count:
-    """Runs a program under callgrind."""
-    with tempfile.TemporaryDirectory() as folder:
-        counts = Path(folder) / "counts"
-        ran = counted(counts, words, given)
-        found = re.search(r"Collected : (\d+)", ran.stderr)
-        if not found:
-            raise ValueError(ran.stderr[-500:])
-        return Count(ran.stdout, int(found[1]), functions_of(counts.read_text(errors="replace")))
-
-
 def functions_of(counts: str) -> List[Tuple[str, int]]:
     """The functions of a file of callgrind by what they took themselves, most first, in parts of a thousand."""
     sums: Counter[str] = Counter()
@@ -105,24 +94,27 @@ class Program:
     def __init__(self, path: str) -> None:
         self.path = str(Path(path).resolve())
         self.plain = Path(path).name.startswith("bnb")
-        start = self.run(["-l", "1", str(HARD[0])]) if self.plain else self.run(["plan"], WITHOUT_REQUESTS, "ONFIPLAN")
+        start = self.run(["-l", "1", "/dev/stdin"], HARD[0].read_text()) if self.plain else self.run(["plan"], WITHOUT_REQUESTS, "ONFIPLAN")
         self.start = start.instructions
 
     def run(self, words: List[str], given: str = "", begins: str = "") -> Count:
-        """Runs it; its answer must begin so."""
-        counted = count([self.path, *words], given)
-        if not counted.output.startswith(begins):
-            raise ValueError(f"{self.path} {' '.join(words)}: {counted.output[:200]!r} in place of {begins!r}")
-        return counted
+        """Runs it under callgrind; its answer must begin so."""
+        with tempfile.TemporaryDirectory() as folder:
+            counts = Path(folder) / "counts"
+            ran = counted(counts, [self.path, *words], given)
+            found = re.search(r"Collected : (\d+)", ran.stderr)
+            if not found or not ran.stdout.startswith(begins):
+                raise ValueError(f"{self.path} {' '.join(words)}: {ran.stdout[:200]!r} in place of {begins!r}: {ran.stderr[-500:]}")
+            return Count(ran.stdout, int(found[1]), functions_of(counts.read_text(errors="replace")))
 
     def above_start(self, words: List[str], given: str, begins: str) -> int:
         return self.run(words, given, begins).instructions - self.start
 
     def search(self, script: Path) -> Tuple[float, Count]:
         """Instructions of a node of a search that is over."""
-        words = ["-l", str(LIMIT), str(script)] if self.plain else ["plan", "--limit", str(LIMIT)]
-        counted = self.run(words, "" if self.plain else script.read_text(), "" if self.plain else f"over {LIMIT}\n")
-        return (counted.instructions - self.start) / (int(counted.output.split()[2]) if self.plain else LIMIT), counted
+        words = ["-l", str(LIMIT), "/dev/stdin"] if self.plain else ["plan", "--limit", str(LIMIT)]
+        found = self.run(words, script.read_text(), "" if self.plain else f"over {LIMIT}\n")
+        return (found.instructions - self.start) / (int(found.output.split()[2]) if self.plain else LIMIT), found
 
     def plan(self, name: str) -> float:
         """Instructions of the plan of a small script of examples."""

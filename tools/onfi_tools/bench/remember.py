@@ -1,6 +1,6 @@
 """Plans that remember states beside plain ones: `plan --remember` beside `plan`, each checked.
 
-    tools/bench remember [PROGRAM] [SEED] [--scripts N] [--chains N] [--jobs N] [--few | --hard FILE..]
+    tools/bench remember [PROGRAM] [SEED] [--scripts N] [--chains N] [--jobs N] [--few]
 
 From the seed (1) come N scripts (2,000) of eight requests, a quarter of each set:
 
@@ -9,7 +9,7 @@ From the seed (1) come N scripts (2,000) of eight requests, a quarter of each se
     reads, 8 LUNs      reads alone on 8 LUNs
     devices            five devices as they are built, on 4 and 8 LUNs, half of the LUNs running a group, requests of all kinds
 
-and each script of examples/hard and examples/hard-states and those that --hard names, with --few none. Of each:
+and each script of examples/hard and examples/hard-states, with --few none. Of each:
 
     over               how many scripts have no plan within the greatest limit
     nodes              the least `--limit` that answers: how many nodes the search opens; of two walks of a search that remembers
@@ -33,11 +33,10 @@ import os
 import random
 import re
 import sys
-from pathlib import Path
 from typing import Callable, Dict, List, NamedTuple, Optional, Sequence, Tuple
 
 from onfi_tools import plans
-from onfi_tools.bench.runs import HARD, MOST, OVER, ROOT, add_words, answered, at_place, planned, quantile, run, said, table
+from onfi_tools.bench.runs import HARD, MOST, OVER, ROOT, add_words, answered, cells_at, greatest_over, planned, quantile, run, said, table
 from onfi_tools.channel import idle
 from onfi_tools.drawn import DEVICES, MIX, REQUESTS, SETS, device_of, drawn_wants
 
@@ -58,17 +57,9 @@ class Plan(NamedTuple):
     text: str
 
 
-def least_limit(answers: Callable[[int], bool], near: int) -> int:
-    """The least limit that answers, by few runs where it is the given one or a little above."""
-    low, high, step = near - 1, near, max(near // 64, 1)
-    while not answers(high):
-        low, high, step = high, min(high + step, MOST), 2 * step
-    if high == near and low and answers(low):
-        low, high = 0, low
-    while high - low > 1:
-        middle = (low + high) // 2
-        low, high = (low, middle) if answers(middle) else (middle, high)
-    return high
+def nodes_of(is_over: Callable[[int], bool], tree: int) -> int:
+    """The least limit with which a search isn't over: mostly the nodes of its certificate's tree."""
+    return tree if is_over(tree - 1) and not is_over(tree) else greatest_over(is_over) + 1
 
 
 def plan_of(program: str, options: Sequence[str], script: str) -> Optional[Plan]:
@@ -81,7 +72,7 @@ def plan_of(program: str, options: Sequence[str], script: str) -> Optional[Plan]
     if ran.status or not found:
         raise ValueError(f"no plan, status {ran.status}: {ran.output[:200]}\n{script}")
     tree = sum(not token.startswith("Y") for token in found[3].split())
-    nodes = least_limit(lambda limit: run([*words, str(limit)], script).status == 0, tree)
+    nodes = nodes_of(lambda limit: run([*words, str(limit)], script).status != 0, tree)
     return Plan(int(found[1]), nodes, 1000 * ran.processor, len(found[2].encode()), ran.output)
 
 
@@ -104,8 +95,7 @@ def measure(program: str, script: str) -> Pair:
 def quantiles(plans: Sequence[Optional[Plan]], field: str) -> str:
     """The median, the one that 99 of 100 don't pass, the greatest."""
     rising = sorted(getattr(plan, field) for plan in plans if plan)
-    places = (len(plans) // 2, -(-99 * len(plans) // 100) - 1, len(plans) - 1)
-    return " / ".join(said(at_place(rising, place)) for place in places)
+    return cells_at(rising, (len(plans) // 2, -(-99 * len(plans) // 100) - 1, len(plans) - 1))
 
 
 def set_rows(name: str, pairs: Sequence[Pair]) -> List[List[str]]:
@@ -131,7 +121,7 @@ def measure_sets(asked: argparse.Namespace, pool: concurrent.futures.Executor) -
 
 
 def measure_hard(asked: argparse.Namespace, pool: concurrent.futures.Executor) -> List[str]:
-    files = [] if asked.few else [*HARD, *HARD_STATES, *asked.hard]
+    files = [] if asked.few else [*HARD, *HARD_STATES]
     pairs = list(pool.map(lambda path: measure(asked.program, path.read_text()), files))
     few = sum(pair.remembered is not None and pair.remembered.nodes <= HARD_MOST for pair in pairs)
     cells = [[cell for plan in pair for cell in ([said(plan.nodes), said(plan.ms), said(plan.bytes)] if plan else ["over", "", ""])] for pair in pairs]
@@ -191,7 +181,6 @@ def measure_chains(asked: argparse.Namespace, pool: concurrent.futures.Executor)
 def words(parser: argparse.ArgumentParser) -> None:
     add_words(parser, scripts=2000, chains=400, jobs=os.cpu_count() or 1)
     parser.add_argument("seed", nargs="?", type=int, default=1)
-    parser.add_argument("--hard", nargs="+", type=Path, default=[])
     parser.add_argument("--few", action="store_true")
 
 

@@ -1,7 +1,7 @@
 """What a channel gets done where requests come while others run: greedy ways, plans, and phase by phase.
 
     tools/bench rolling [--quick] [--library FOLDER] [--requests N] [--seed N] [--limit N] [--jobs N] [--rows FILE] [--ways NAMES]
-                        [--array SHARES] [--workload NAME]
+                        [--workload NAME]
 
 It builds the simulator of a channel (examples/simulator/rolling) with the library of FOLDER (lib; greedy ways alone need none), and runs
 216 configurations by each way, JOBS at a time (one for each processor), until N requests are answered (4,000; with erases at least
@@ -12,10 +12,9 @@ there is something new, and that is counted. Beside each throughput stands a bou
 
 --quick takes twelve of the configurations, and of two of them early arrays and open loops, and 1,000 requests where no N is named:
 within ten minutes of processor time. --ways takes these ways alone, with commas between them, beside the one that each is compared
-with; --array has the arrays of all configurations take less than is stated, by shares such as 0.7-0.9, which LUNs report; --workload takes
-the 54 configurations of one workload, also of those beside the 216: `random-programs`, the next page of a plane of any LUN; `reads-4k` and
-`mixed-4k`, whose reads put out one sector of four, 4 KiB of tlc and qlc. Of these two --quick takes six, beside whole pages. --rows keeps
-all figures of all runs in a file, each as it comes; a run that the file has isn't run again.
+with; --workload takes the 54 configurations of one workload, also of those beside the 216: `random-programs`, the next page of a plane of
+any LUN; `reads-4k` and `mixed-4k`, whose reads put out one sector of four, 4 KiB of tlc and qlc. Of these two --quick takes six, beside
+whole pages. --rows keeps all figures of all runs in a file, each as it comes; a run that the file has isn't run again.
 
 All that is random comes from the seed, the same for all ways: which requests come and when, and how long arrays take. Devices, buses,
 requests and ways are in docs/WORTH.md.
@@ -28,7 +27,7 @@ from pathlib import Path
 from typing import List
 
 from onfi_tools.bench.runs import ROOT, add_numbers, processor_time
-from onfi_tools.rolling_tables import apart, gain_table, pairs_of, quick_tables, sector_table, whole_tables
+from onfi_tools.rolling_tables import apart, gain_table, quick_tables, sector_table, whole_tables
 from onfi_tools.rolling_use import ALL, OF_SECTORS, TWELVE, WORKLOADS, Asked, Rows, all_of, build, measure, open_loops, readiness, six_of
 from onfi_tools.rolling_ways import BASE, GREEDY, QUICK, SOME, WAYS, WAYS_OF_SECTORS
 
@@ -43,7 +42,7 @@ def quick(program: Path, ways: List[str], asked: Asked, rows: Rows) -> List[str]
 def beside_pages(program: Path, workload: str, ways: List[str], asked: Asked, rows: Rows) -> List[str]:
     """Six configurations whose reads put out a sector, beside the same with whole pages."""
     pages, sectors = (measure(program, six_of(name), ways, asked, rows) for name in (OF_SECTORS[workload], workload))
-    pairs = pairs_of(pages, sectors)
+    pairs = list(zip(pages, sectors))
     return apart(sector_table(pairs, ways), gain_table(pairs, ways))
 
 
@@ -63,7 +62,6 @@ def words(parser: argparse.ArgumentParser) -> None:
     add_numbers(parser, seed=1, limit=100_000, jobs=os.cpu_count() or 1)
     parser.add_argument("--rows", type=Path)
     parser.add_argument("--ways", type=ways_named)
-    parser.add_argument("--array", default="1-1")
     parser.add_argument("--workload", choices=WORKLOADS)
 
 
@@ -79,7 +77,7 @@ def main(asked: argparse.Namespace) -> int:
             lines = quick(program, ways, how, rows)
         else:
             chosen = all_of([asked.workload]) if asked.workload else ALL
-            lines = whole_tables(measure(program, [of._replace(array=asked.array) for of in chosen], ways, how, rows), ways)
+            lines = whole_tables(measure(program, chosen, ways, how, rows), ways)
     print("\n".join([*lines, "", f"seed {how.seed}, {how.requests:,} requests a run, at most {how.limit:,} nodes a search; "
                                  f"{processor_time():,.0f} s of processor time"]))
     return 0

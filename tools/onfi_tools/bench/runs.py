@@ -1,8 +1,11 @@
 """Runs of a built program, with what they took, also under callgrind; trials for so many seconds; and tables of what was measured."""
 
 import argparse
+import bisect
+import contextlib
 import itertools
 import os
+import re
 import resource
 import subprocess
 import tempfile
@@ -49,20 +52,16 @@ class Run(NamedTuple):
 
 def most_memory(process: int) -> int:
     """The most memory that a running process has had so far, in bytes; 0 where it is over."""
-    try:
-        for line in Path(f"/proc/{process}/status").read_text(encoding="ascii").splitlines():
-            if line.startswith("VmHWM:"):
-                return int(line.split()[1]) * 1024
-    except OSError:
-        pass
+    with contextlib.suppress(OSError):
+        found = re.search(r"^VmHWM:\s*(\d+)", Path(f"/proc/{process}/status").read_text(), re.MULTILINE)
+        return 1024 * int(found[1]) if found else 0
     return 0
 
 
-def run(words: Sequence[str], given: Union[str, Path] = "", watched: bool = False) -> Run:
-    """Runs a program on a text, or on a file; where it is watched its memory is looked at again and again."""
+def run(words: Sequence[str], given: str = "", watched: bool = False) -> Run:
+    """Runs a program on a text; where it is watched its memory is looked at again and again."""
     with tempfile.TemporaryFile() as text, tempfile.TemporaryFile() as taken:
-        text.write(given.read_bytes() if isinstance(given, Path) else given.encode())
-        text.flush()
+        text.write(given.encode())
         text.seek(0)
         begun, peak, ended, status = time.perf_counter(), 0, 0, 0
         child = subprocess.Popen(words, stdin=text, stdout=taken, stderr=subprocess.DEVNULL)
@@ -120,6 +119,11 @@ def planned(program: str, script: str, *options: str) -> Planned:
     return Planned(ran.output, finish, below)
 
 
+def greatest_over(is_over: Callable[[int], bool]) -> int:
+    """The largest limit with which a search is over, 0 where it is with none."""
+    return bisect.bisect_left(range(1, MOST + 1), True, key=lambda limit: not is_over(limit))
+
+
 def best_of(runs: Sequence[Run]) -> Run:
     return min(runs, key=lambda one: one.processor)
 
@@ -145,9 +149,9 @@ def table(columns: Sequence[str], rows: Iterable[Iterable[object]], left: int = 
     return [row(columns), "|" + "---|" * left + "---:|" * (len(columns) - left), *map(row, rows)]
 
 
-def at_place(rising: Sequence[float], place: int) -> Optional[float]:
-    """The number at a place; none where there are fewer, as what is over counts as greater than all."""
-    return rising[place] if place < len(rising) else None
+def cells_at(rising: Sequence[float], places: Iterable[int]) -> str:
+    """The numbers at some places; where there are fewer `over`, as what is over counts as greater than all."""
+    return " / ".join(said(rising[place]) if place < len(rising) else "over" for place in places)
 
 
 def quantile(numbers: Sequence[float], share: float) -> float:
@@ -155,5 +159,5 @@ def quantile(numbers: Sequence[float], share: float) -> float:
     return sorted(numbers)[min(int(share * len(numbers)), len(numbers) - 1)]
 
 
-def said(number: Optional[float]) -> str:
-    return "over" if number is None else f"{number:,.1f}" if isinstance(number, float) else f"{number:,}"
+def said(number: float) -> str:
+    return f"{number:,.1f}" if isinstance(number, float) else f"{number:,}"

@@ -5,9 +5,9 @@ import re
 import subprocess
 import tempfile
 from pathlib import Path
-from typing import Dict, List, NamedTuple, Optional, Sequence
+from typing import Dict, Iterable, List, NamedTuple, Optional, Sequence
 
-from onfi_tools.bench.runs import ROOT, at_place, built, counted, said, table
+from onfi_tools.bench.runs import ROOT, built, cells_at, counted, said, table
 from onfi_tools.bench.worth import drawn_batch
 from onfi_tools.drawn import SETS
 
@@ -15,10 +15,8 @@ SEED = 1
 REQUESTS = (1, 3, 8)
 SCRIPTS = 40
 LIMIT = 100_000
-# Scripts whose certificates are checked: how many, of so many drawn, with that many nodes at least and at most.
-PLAIN = (12, 1000, 1000, 30_000)
-# The same of each set of `tools/bench remember`.
-KNOWN = (6, 500, 1000, 14_000)
+# The nodes that a search has at least whose plan is checked.
+MANY = 1000
 PART = re.compile(r"^desc: Trigger: Client Request: (\w+ \d+)$.*?^(?:summary|totals): (\d+)$", re.DOTALL | re.MULTILINE)
 
 
@@ -99,20 +97,13 @@ class Library:
         costs = self.costs(way, LIMIT, self.files_of(drawn_batches(SCRIPTS, requests)))
         return [None if cost.answer.status else cost.plan for cost in costs]
 
-    def plain(self) -> List[Cost]:
-        """Of the scripts whose plain certificates are checked."""
-        count, drawn, low, high = PLAIN
-        files = self.files_of(drawn_batches(drawn, REQUESTS[-1]))
-        return self.costs("plain", high, chosen(files, self.answers("plain", high, files), count, low, high))
-
-    def known(self) -> List[Cost]:
-        """Of the scripts of `tools/bench remember` whose searches open many nodes."""
-        count, drawn, low, high = KNOWN
+    def long(self, way: str, sets: Iterable[List[str]], count: int, high: int) -> List[Cost]:
+        """Of so many scripts of each set whose searches open many nodes, and not more than the limit."""
         files: List[Path] = []
-        for scripts in drawn_sets(drawn).values():
+        for scripts in sets:
             some = self.files_of(scripts)
-            files += chosen(some, self.answers("known", high, some), count, low, high)
-        return self.costs("known", high, files)
+            files += chosen(some, self.answers(way, high, some), count, MANY, high)
+        return self.costs(way, high, files)
 
 
 def a_node(costs: Sequence[Cost]) -> float:
@@ -129,7 +120,7 @@ def small_cell(costs: Sequence[Optional[int]]) -> str:
     known = sorted(cost for cost in costs if cost is not None)
     places = (len(costs) // 2, -(-9 * len(costs) // 10) - 1, max(len(known) - 1, 0))
     over = f" ({len(costs) - len(known)} over)" if len(known) < len(costs) else ""
-    return " / ".join(said(at_place(known, place)) for place in places) + over
+    return cells_at(known, places) + over
 
 
 def rows_of(library: Library) -> Dict[str, str]:
@@ -138,7 +129,7 @@ def rows_of(library: Library) -> Dict[str, str]:
     for way, word in (("plain", "plan"), ("known", "plan --remember"), ("early", "plan --early --within")):
         for requests in REQUESTS:
             rows[f"`{word}` of {requests}, median / nine of ten / greatest"] = small_cell(library.small(way, requests))
-    plain, known = library.plain(), library.known()
+    plain, known = library.long("plain", [drawn_batches(1000, 8)], 12, 30_000), library.long("known", drawn_sets(500).values(), 6, 14_000)
     rows[f"a node of `plan`, with its certificate, {len(plain)} scripts"] = said(round(a_node(plain)))
     rows[f"a node of `plan --remember`, both walks, {len(known)} scripts"] = said(round(a_node(known)))
     rows["a token of `check`, read and checked"] = said(round(a_token(plain)))

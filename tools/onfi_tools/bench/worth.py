@@ -41,22 +41,20 @@ import random
 import statistics
 from typing import Dict, List, NamedTuple, Optional, Sequence, Tuple
 
-from onfi_tools.bench.runs import MOST, OVER, ROOT, add_words, row, run
+from onfi_tools.bench.runs import MOST, OVER, ROOT, add_words, run, table
 from onfi_tools.channel import Device, Want, script_of
-from onfi_tools.drawn import PAGE, SMALL, device_of, drawn_wants
+from onfi_tools.drawn import LARGE, SMALL, device_of, drawn_wants
 from onfi_tools.policies import Policy, best_of_ranks, first_in_first_out, round_robin, round_robin_commands_first
 from onfi_tools.script import lengths_of, page_numbers
 
 REQUESTS = 8
-LARGE_PAGE = {**PAGE, "data_bytes": 16384, "spare_bytes": 2048}
-TWO = {"tR_us": 60, "tPROG_us": 1200, "tBERS_us": 6000}
-FOUR = {"tR_us": 90, "tPROG_us": 800, "tBERS_us": 12000}
+FOUR = {**LARGE, "tR_us": 90, "tPROG_us": 800, "tBERS_us": 12000}
 # Plane address bits, page fields, ns a byte and cycle.
 DEVICES: Dict[str, Tuple[int, Dict[str, int], int]] = {
     "small": (1, SMALL, 20),
-    "two planes": (1, {**LARGE_PAGE, **TWO}, 20),
-    "four planes": (2, {**LARGE_PAGE, **FOUR}, 20),
-    "four, fast": (2, {**LARGE_PAGE, **FOUR}, 2),
+    "two planes": (1, LARGE, 20),
+    "four planes": (2, FOUR, 20),
+    "four, fast": (2, FOUR, 2),
 }
 PROFILES = {path.stem: path.read_text() for path in sorted((ROOT / "examples" / "devices").glob("*.onfi"))}
 # How many of twenty requests are reads, programs and erases; none where requests go in stripes.
@@ -134,34 +132,30 @@ def measure(program: str, limit: int, batch: Batch) -> Optional[Measured]:
     return Measured(batch, optimum, finishes)
 
 
-def check_ways(program: str, batches: List[Batch]) -> int:
-    """Has the program judge the schedules of all ways; gives how many it judged."""
-    judged = 0
+def check_ways(program: str, batches: List[Batch]) -> None:
+    """Has the program judge the schedules of all ways."""
     for batch in batches:
         for name, way in WAYS.items():
             plan = way(batch.device, batch.wants).text()
             answer = run([program, "check"], batch.script() + plan).output.strip()
             if not answer.startswith(("accepted", "refused")) or answer.startswith(("refused plan", "refused 1 ")):
                 raise ValueError(f"{name}: {answer}\n{batch.script()}{plan}")
-            judged += 1
-    return judged
 
 
-def row_of(title: str, measured: List[Measured]) -> str:
+def row_of(title: str, measured: List[Measured]) -> List[str]:
     cells = [title, f"{len(measured)}"]
     for name in WAYS:
         saved = [100 * (1 - one.optimum / one.finishes[name]) for one in measured]
         numbers = (statistics.median(saved), statistics.mean(saved), max(saved), min(saved))
         cells.append(" / ".join(f"{number:.1f}" for number in numbers))
-    return row(cells)
+    return cells
 
 
 def table_of(measured: List[Measured]) -> List[str]:
-    lines = [row(["scripts", "count", *WAYS]), "|---|---:|" + "---|" * len(WAYS)]
     parts = [("all", measured)]
     parts += [(mix, [one for one in measured if one.batch.mix == mix]) for mix in MIXES]
     parts += [(name, [one for one in measured if one.batch.device_name == name]) for name in [*DEVICES, *PROFILES]]
-    return lines + [row_of(title, own) for title, own in parts if own]
+    return table(["scripts", "count", *WAYS], [row_of(title, own) for title, own in parts if own])
 
 
 def words(parser: argparse.ArgumentParser) -> None:
@@ -173,10 +167,11 @@ def main(asked: argparse.Namespace) -> int:
     rng = random.Random(asked.seed)
     devices = list(PROFILES) if asked.profiles else list(DEVICES)
     batches = [drawn_batch(rng, REQUESTS, devices) for _ in range(asked.scripts)]
-    judged = check_ways(asked.program, batches[: asked.check])
+    checked = batches[: asked.check]
+    check_ways(asked.program, checked)
     measured = [one for batch in batches if (one := measure(asked.program, asked.limit, batch))]
     lines = [f"seed {asked.seed}, {asked.scripts:,} scripts, {asked.scripts - len(measured)} over the limit of "
-             f"{asked.limit:,} nodes and left out; {judged:,} schedules of the ways judged legal by `check`"]
+             f"{asked.limit:,} nodes and left out; {len(checked) * len(WAYS):,} schedules of the ways judged legal by `check`"]
     for name in WAYS:
         met = sum(one.finishes[name] == one.optimum for one in measured)
         lines.append(f"{name}: as soon as the optimum on {met} of {len(measured)}")
