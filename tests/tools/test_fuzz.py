@@ -71,7 +71,7 @@ MISSES = {
         RIGHT.replace(NEAR, FAR).replace("within 7 6", "within 9 8"), "'] from 8 to 9", 100),
     "a plan that is judged otherwise": (RIGHT.replace("within 7 6", "within 7 5"), "['check', '--within'] says b'within 7 5", 100),
     "a legal schedule that ends sooner": (RIGHT.replace("legal 7", "legal 6"), "['check', '--legal'] from 0 to 6", 40),
-    "another plan by several workers": (REFUSES + f'if split: say("{OTHER_PLAN}", 0)' + ANSWERS, f"another plan b'{OTHER_PLAN}'", 100),
+    "another plan by several workers": (REFUSES + f'if split: say("{OTHER_PLAN}", 0)' + ANSWERS, f"another plan b'{OTHER_PLAN}'", 200),
     "a reply twice": (RIGHT.replace("closed", "reply,0,0,1,done\\nreply,0,0,1,done\\nclosed"), "replies that don't rise", 40),
     "a stopped channel with another status": (RIGHT.replace("closed", "stopped,0,Bus\\nclosed"), "status 0 of the report", 40),
     "a command line that is refused without a word": (RIGHT.replace("error: a word", ""), "status 5", 100),
