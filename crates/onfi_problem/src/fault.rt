@@ -1,6 +1,7 @@
 use thiserror::Error;
 
-/// Why what was given is not a problem of the program, in the order in which it is reported.
+/// Why what was given is not a problem of the program. The first that holds is reported; `NoLengths` stands last, and comes
+/// before `Clock`.
 #[derive(Clone, Copy, Debug, PartialEq, Eq, Error)]
 pub enum ProblemFault {
     /// More than eight wants, no LUN, or more than eight.
@@ -10,14 +11,14 @@ pub enum ProblemFault {
     /// rise; or what runs on a LUN is not a group of it, or has no phase done, or none left.
     #[error("a want, or a running group, that the LUNs cannot have")]
     BadLun,
-    /// The timing states no lengths for a want or a member of what runs: no post of so many sectors (from
-    /// [`Timing::with_sectors`](onfi_timing::Timing::with_sectors)).
-    #[error("sectors without lengths")]
-    NoLengths,
     /// By the sum of all times the problem may end at 2^62 ns or later.
     #[error("times that reach 2^62 ns")]
     Clock,
     /// Memory for the table of groups was refused.
     #[error("memory was refused")]
     Memory,
+    /// The timing states no lengths for a want or a member of what runs: no post of so many sectors (from
+    /// [`Timing::with_sectors`](onfi_timing::Timing::with_sectors)). It is reported before `Clock`, whose sum needs the lengths.
+    #[error("sectors without lengths")]
+    NoLengths,
 }

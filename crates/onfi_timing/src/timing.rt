@@ -77,12 +77,14 @@ impl Timing {
 
     /// The timing of a device by its parameter page, its geometry and a timing sheet.
     ///
-    /// The page gives tR, tPROG and tBERS (microseconds, the maxima) and tCCS (ns), the sheet the rest.
+    /// The page gives tR, tPROG and tBERS (microseconds, the maxima) and tCCS (ns), the sheet the rest. No post of sectors is
+    /// stated.
     ///
     /// # Errors
     /// `Missing` with the first parameter that the sheet doesn't give; else `ZeroCycle` where tWC or tRC is 0.
     pub fn of(page: &ParamPage, geometry: &Geometry, sheet: &Sheet) -> Result<Timing, SheetFault>
-        ensures { MatchResult result (λ timing. IsTiming page.now geometry.now sheet.now timing) (λ fault. IsTimingFault sheet.now fault) }
+        ensures table { MatchResult result (λ timing. IsTiming page.now geometry.now sheet.now timing) (λ fault. IsTimingFault sheet.now fault) }
+        ensures pages { IfOk result (λ timing. StatesNone timing) }
     {
         let values = match Values::of(sheet) {
             Ok(values) => values,
@@ -102,7 +104,8 @@ impl Timing {
     /// data interfaces).
     ///
     /// The page gives tR, tPROG and tBERS (microseconds, the maxima) and tCCS (ns), the strobes how bytes go (ps), the sheet
-    /// the rest; tRC of the sheet is not looked at. Each length is its sum in ps, rounded up to whole ns once.
+    /// the rest; tRC of the sheet is not looked at. Each length is its sum in ps, rounded up to whole ns once. No post of
+    /// sectors is stated.
     ///
     /// # Errors
     /// `Sheet(Missing)` with the first parameter but tRC that the sheet doesn't give; else `Sheet(ZeroCycle)` where tWC is
@@ -113,7 +116,8 @@ impl Timing {
         sheet: &Sheet,
         strobes: &Strobes,
     ) -> Result<Timing, StrobeFault>
-        ensures { MatchResult result (λ timing. IsStrobedTiming page.now geometry.now sheet.now strobes.now timing) (λ fault. IsStrobedFault sheet.now strobes.now fault) }
+        ensures table { MatchResult result (λ timing. IsStrobedTiming page.now geometry.now sheet.now strobes.now timing) (λ fault. IsStrobedFault sheet.now strobes.now fault) }
+        ensures pages { IfOk result (λ timing. StatesNone timing) }
     {
         let values = match values_beside(sheet) {
             Ok(values) => values,
