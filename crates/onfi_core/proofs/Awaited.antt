@@ -1,11 +1,9 @@
 -- The items that a choice is of wait.
 use Rattle.std.proofs.Common.{◌≡◌, ℕ, ◌+◌, ◌<◌, List, length, Some, take, drop, sym, ap, ◌∙◌, subst, arith}
 use Rattle.std.specs.Prelude.{slice_get}
-use Rattle.std.specs.List.{AllByRecursion as All}
 use Rattle.onfi_request.specs.Range.{Fits}
 use Rattle.onfi_request.specs.declared.request.Item.{Item}
 use Rattle.onfi_request.specs.declared.want.Want.{Want}
-use Rattle.onfi_group.specs.Words.{number}
 use Rattle.onfi_problem.specs.Problem.{has_id}
 use Rattle.onfi_problem.proofs.Perm.{All-has}
 use Rattle.onfi_problem.proofs.Wants.{number_has}

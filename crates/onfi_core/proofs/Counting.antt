@@ -1,22 +1,16 @@
 -- How far a half is.
-use Rattle.std.proofs.Common.{◌≡◌, ℕ, zero, suc, ◌+◌, ◌-◌, ◌<◌, inl, inr, Bool, true, false, List, [], ◌∷◌, length, Option, Some, None, drop, refl, sym, ap, subst, ◌∙◌, length-append, length-drop, arith}
-use Rattle.std.specs.Prelude.{cond, count_by, is_some, nat_lt, slice_get, slice_index_or, ◌==◌, IsTrue, MatchOption}
-use Rattle.std.specs.List.{flat_map}
-use Rattle.std.proofs.lemmas.Bool.{cases_Bool, cases_lt, eqb-true, false≢true, lt-ltb, ltb-true}
+use Rattle.std.proofs.Common.{◌≡◌, ℕ, zero, suc, ◌+◌, ◌-◌, ◌<◌, inl, inr, Bool, true, List, [], ◌∷◌, length, Option, Some, None, drop, sym, ap, subst, ◌∙◌, length-append, length-drop, arith}
+use Rattle.std.specs.Prelude.{cond, count_by, is_some, nat_lt, slice_index_or, ◌==◌, IsTrue}
+use Rattle.std.proofs.lemmas.Bool.{cases_lt, eqb-true, lt-ltb, ltb-true}
 use Rattle.std.proofs.lemmas.List.Sums.{sum_by-cons}
-use Rattle.onfi_timing.specs.declared.timing.Timing.{Timing}
-use Rattle.onfi_group.specs.Group.{group_spans, lun_of}
 use Rattle.onfi_group.specs.Words.{number}
-use Rattle.onfi_problem.specs.declared.lun_state.LunState.{LunState}
-use Rattle.onfi_problem.specs.declared.lun_state.LunState.TheVariants.{Free, Running}
-use Rattle.onfi_schedule.specs.Schedule.{Placed, group_phases, phases, phases_left, rest_phases}
 use Rattle.slab.specs.Slab.{Slab, slab_len}
 use Rattle.onfi_core.specs.declared.setup.Setup.{Setup}
 use Rattle.onfi_core.specs.declared.setup.Choice.TheVariants.{InOrder}
 use Rattle.onfi_core.specs.declared.slot.Slot.{Slot}
 use Rattle.onfi_core.specs.Kept.{IsSound, is_of_place}
 use Rattle.onfi_core.specs.State.{HalfState}
-use Rattle.onfi_core.specs.Steps.{none_left, unplanned}
+use Rattle.onfi_core.specs.Steps.{unplanned}
 use Rattle.onfi_core.specs.View.{AreSlots, WantsBy, WantsItem}
 use Rattle.onfi_core.specs.State.{wants_from}
 use Rattle.onfi_core.proofs.Numbered.{length_wants}

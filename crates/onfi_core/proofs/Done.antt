@@ -1,6 +1,6 @@
 -- What a phase that is done leaves of a half.
 use Rattle.std.proofs.Common.{◌≡◌, ℕ, ◌+◌, ◌*◌, ◌-◌, ◌<◌, ◌≤◌, ◌⊎◌, inl, inr, List, [], ◌∷◌, ◌++◌, length, Some, None, Option, drop, refl, sym, ap, ◌∙◌, subst, append-nil, length-append, arith}
-use Rattle.std.specs.Prelude.{slice_get, slice_index_or, slice_set, nat_lt, if◌then◌else◌}
+use Rattle.std.specs.Prelude.{slice_get, slice_set}
 use Rattle.std.proofs.lemmas.Bool.{lt-ltb, le-ltb, cases_lt}
 use Rattle.onfi_timing.specs.Phases.{phase_length}
 use Rattle.onfi_request.specs.declared.answer.Answer.{Answer}
@@ -14,11 +14,10 @@ use Rattle.onfi_group.specs.Words.{number}
 use Rattle.onfi_problem.specs.Moves.{Move, Next, Start, IsMove, move_lun, lun_after, placed, without, next_ran}
 use Rattle.onfi_problem.specs.Problem.{Problem, IsProblem, has_id}
 use Rattle.onfi_problem.proofs.Wants.{number_has}
-use Rattle.onfi_problem.specs.declared.lun_state.LunState.{LunState}
 use Rattle.onfi_problem.specs.declared.lun_state.LunState.TheVariants.{Free, Running}
-use Rattle.onfi_problem.proofs.Places.{get_within, within_get}
+use Rattle.onfi_problem.proofs.Places.{get_within}
 use Rattle.onfi_schedule.specs.Laws.{ComesNext}
-use Rattle.onfi_schedule.specs.Schedule.{Placed, Schedule, Legal}
+use Rattle.onfi_schedule.specs.Schedule.{Schedule, Legal}
 use Rattle.onfi_schedule.proofs.Following.{first_move_law}
 use Rattle.slab.specs.Slab.{Slab}
 use Rattle.onfi_flight.specs.declared.due.Due.{Due}

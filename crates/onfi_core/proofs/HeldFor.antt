@@ -1,5 +1,5 @@
 -- Whom the held replies are for, and what a quiet half has left.
-use Rattle.std.proofs.Common.{◌≡◌, ℕ, suc, zero, ◌+◌, ◌*◌, ◌-◌, ◌<◌, ◌≤◌, true, List, [], ◌∷◌, ◌++◌, length, take, refl, sym, ap, ◌∙◌, subst, arith, ◌≢◌}
+use Rattle.std.proofs.Common.{◌≡◌, ℕ, suc, zero, ◌+◌, ◌*◌, ◌<◌, ◌≤◌, true, List, [], ◌∷◌, ◌++◌, length, take, refl, sym, ap, ◌∙◌, subst, arith, ◌≢◌}
 use Rattle.std.specs.Prelude.{◌==◌}
 use Rattle.std.specs.List.{AllByRecursion as All, filter, flat_map}
 use Rattle.std.proofs.lemmas.Bool.{eq-eqb}
@@ -28,21 +28,20 @@ use Rattle.onfi_core.proofs.Hosted.{to_own}
 use Rattle.onfi_core.proofs.Lists.{All-at}
 use Rattle.onfi_problem.proofs.Wants.{Pairs-filter}
 use Rattle.onfi_core.specs.Core.{PostedInOrder}
-use Rattle.onfi_core.proofs.Promise.{promise}
+use Rattle.onfi_core.proofs.Promise.{rightful_reached}
 
 -- What is posted to a host is in order of making
 
 pub posted_in_order : PostedInOrder
 posted_in_order s c reached host =
-    let p = promise s c reached in
-    let m = p.made host in
+    let m = reached.half.made host in
     let posted = filter (is_to host) c.half.posted in
     let held = filter (is_to host) c.half.held in
     record {
       faults_same = All-front (λ (r : Reply). r.basis.faults ≡ c.chip.faults) posted held m.faults;
       each = All-front (λ (r : Reply). IsRightful (device_for s c.chip) r.basis.accepted r) posted held m.each;
       rise = Pairs-front (λ (a b : Reply). IsBeginning a.basis.accepted b.basis.accepted) posted held m.rise;
-      once = Pairs-filter (λ (a b : Reply). a.place ≢ b.place) (is_to host) c.half.posted p.rightful.once;
+      once = Pairs-filter (λ (a b : Reply). a.place ≢ b.place) (is_to host) c.half.posted (rightful_reached s c reached).once;
     }
 
 -- Held replies are to hosts of the setup

@@ -1,13 +1,11 @@
 -- Lists and their places.
-use Rattle.std.proofs.Common.{◌≡◌, ℕ, zero, suc, ◌+◌, ◌<◌, ◌⊎◌, List, [], ◌∷◌, ◌++◌, length, Some, take, drop, refl, ap, arith}
-use Rattle.std.specs.Prelude.{map, slice_get, slice_index_or}
+use Rattle.std.proofs.Common.{◌≡◌, ℕ, zero, suc, ◌+◌, ◌<◌, ◌⊎◌, List, [], ◌∷◌, ◌++◌, length, Some, take, refl, ap, arith}
+use Rattle.std.specs.Prelude.{slice_get, slice_index_or}
 use Rattle.std.specs.List.{AllByRecursion as All}
-use Rattle.std.proofs.lemmas.List.{take-append-drop}
-use Rattle.onfi_group.specs.Words.{Has, Pairs}
 pub use Rattle.onfi_problem.proofs.Places.{drop_next, get_has}
 pub use Rattle.onfi_flight.proofs.Lists.{All-drop, All-map, All-take, Pairs-map, cut_there, index_get, set_self}
 pub use Rattle.onfi_lun.proofs.Places.{each_set}
-use Rattle.onfi_problem.proofs.Perm.{All-has, All-weaker}
+use Rattle.onfi_problem.proofs.Perm.{All-has}
 
 pub get_at_length : {A : Type 0} (xs : List A) (x : A) (ys : List A) → slice_get (xs ++ x ∷ ys) (length xs) ≡ Some x
 get_at_length [] x ys = refl

@@ -1,19 +1,17 @@
 -- How often requests that wait were passed over, by what a half keeps.
-use Rattle.std.proofs.Common.{◌≡◌, ◌≢◌, ℕ, zero, suc, ◌+◌, ◌-◌, ◌<◌, ◌≤◌, inl, inr, Bool, true, false, List, [], ◌∷◌, ◌++◌, length, None, Some, take, drop, map, refl, sym, ap, ◌∙◌, subst, arith}
-use Rattle.std.specs.Prelude.{slice_get, slice_index_or, slice_set, replicate, Option, ◌==◌, nat_lt, if◌then◌else◌}
+use Rattle.std.proofs.Common.{◌≡◌, ℕ, ◌+◌, ◌-◌, ◌<◌, ◌≤◌, inl, inr, Bool, true, false, List, [], ◌∷◌, ◌++◌, length, None, Some, take, drop, map, refl, sym, ap, ◌∙◌, arith}
+use Rattle.std.specs.Prelude.{slice_get, slice_index_or, slice_set, replicate, Option, if◌then◌else◌}
 use Rattle.std.proofs.lemmas.Bool.{cases_Bool, eq-eqb, ne_eqb}
 use Rattle.std.proofs.lemmas.List.{get_or-replicate, take-append-drop}
 use Rattle.std.proofs.lemmas.Option.{slice_get-get_or}
-use Rattle.onfi_timing.specs.declared.kind.Kind.{Kind}
 use Rattle.onfi_request.specs.declared.request.Item.{Item}
 use Rattle.onfi_request.specs.declared.want.Want.{Want}
-use Rattle.onfi_group.specs.Words.{number}
 use Rattle.onfi_group.proofs.Counting.{number-append}
 use Rattle.onfi_problem.proofs.Places.{drop_next, get_set_other, get_set_same, length_set, same_place, same_some}
 use Rattle.onfi_steady.specs.Waiting.{newest_with, wants_of}
 use Rattle.onfi_core.specs.declared.arrivals.Arrivals.{Arrivals}
 use Rattle.onfi_core.proofs.Lists.{index_get}
-use Rattle.onfi_core.specs.Passed.{AreArrivals, count_on, is_item_on, is_later_on, newest_from, waiter_of, waiters_of}
+use Rattle.onfi_core.specs.Passed.{AreArrivals, count_on, is_item_on, newest_from, waiter_of}
 
 -- the wants of requests that wait are those they were made of
 pub wants_of_waiters : (accepted : List Item) (waiting items : List Want) → wants_of (map (waiter_of accepted waiting) items) ≡ items

@@ -1,12 +1,7 @@
 -- A wait keeps what every reachable state keeps.
-use Rattle.std.proofs.Common.{◌≡◌, ℕ, ◌+◌, ◌-◌, ◌<◌, ◌≤◌, ◌^◌, inl, inr, Bool, true, List, [], ◌∷◌, Option, Some, refl, subst, arith}
-use Rattle.std.specs.Prelude.{map, max, nat_lt, if◌then◌else◌, slice_get}
-use Rattle.std.specs.List.{AllByRecursion as All, flat_map}
+use Rattle.std.proofs.Common.{◌≡◌, ℕ, Bool, true, List, Option, refl}
+use Rattle.std.specs.Prelude.{nat_lt, if◌then◌else◌}
 use Rattle.onfi_request.specs.declared.reply.Reply.{Reply}
-use Rattle.onfi_group.specs.Words.{Has}
-use Rattle.onfi_problem.proofs.Perm.{All-back, All-both, All-flat_map, All-front, Has-append_left, Has-append_right, Has-flat_map_in}
-use Rattle.onfi_schedule.specs.declared.phase.Phase.{Phase}
-use Rattle.onfi_schedule.specs.Schedule.{Placed, Schedule, Legal, phases}
 use Rattle.onfi_flight.specs.Flight.{Flight, waited as flight_waited}
 use Rattle.onfi_flight.proofs.Stays.{wait_stays}
 use Rattle.slab.specs.Slab.{Slab}

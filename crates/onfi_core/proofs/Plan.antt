@@ -1,5 +1,5 @@
 -- A planning keeps what every reachable state keeps.
-use Rattle.std.proofs.Common.{◌≡◌, ◌≢◌, ℕ, ◌+◌, ◌-◌, ◌<◌, ◌≤◌, ◌⊎◌, inl, inr, true, List, [], ◌++◌, length, take, drop, Some, None, append-nil, refl, sym, ap, subst, ◌∙◌, append_assoc, length-drop, length-append, arith}
+use Rattle.std.proofs.Common.{◌≡◌, ◌≢◌, ℕ, ◌+◌, ◌<◌, ◌≤◌, ◌⊎◌, inl, inr, List, [], ◌++◌, length, take, drop, Some, None, append-nil, refl, sym, ap, subst, ◌∙◌, append_assoc, length-drop, length-append, arith}
 use Rattle.std.specs.Prelude.{slice_get, ◌%◌, ◌^◌}
 use Rattle.std.specs.List.{AllByRecursion as All}
 use Rattle.std.proofs.Math.Nat.{mod-lt}

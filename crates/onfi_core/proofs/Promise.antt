@@ -1,6 +1,6 @@
 -- What is reached keeps the promise.
 use Rattle.std.proofs.Common.{◌≡◌, ◌≢◌, ℕ, ◌+◌, ◌<◌, ◌≤◌, inl, inr, true, List, [], ◌∷◌, refl, arith}
-use Rattle.std.specs.Prelude.{◌==◌}
+use Rattle.std.specs.Prelude.{◌==◌, Bool, IfSome}
 use Rattle.std.specs.List.{AllByRecursion as All}
 use Rattle.std.proofs.lemmas.Bool.{cases_Bool}
 use Rattle.std.proofs.lemmas.Bool.Decides.{nat_tests}
@@ -11,7 +11,10 @@ use Rattle.onfi_request.specs.declared.request.Item.{Item}
 use Rattle.onfi_group.specs.Words.{number}
 use Rattle.onfi_problem.specs.Problem.{has_id}
 use Rattle.onfi_core.specs.Kept.{IsReached, KeepsPromise, is_of_place}
-use Rattle.onfi_core.specs.State.{ChannelState, wants_from}
+use Rattle.onfi_plan.specs.Certificate.{Certificate}
+use Rattle.onfi_die.specs.Rightful.{AreRightful}
+use Rattle.onfi_core.specs.State.{ChannelState, device_for, wants_from}
+use Rattle.onfi_core.specs.Steps.{IsPromised}
 use Rattle.onfi_core.specs.declared.setup.Setup.{Setup}
 
 pub none_before : (geometry : Geometry) (n i : ℕ) (xs : List Item) → i < n → number (has_id i) (wants_from geometry n xs) ≡ 0
@@ -41,16 +44,21 @@ places_apart (r ∷ rs) h =
     let one : 1 + number (is_of_place r.place) rs ≤ 1 = rw t at (h r.place) in
     (not_there r rs (omega arith), places_apart rs (λ i. let k = h i in omega arith))
 
-pub promise : (s : Setup) (c : ChannelState) → IsReached s c → KeepsPromise s c
-promise s c r = record {
-  rightful = record {
-    once = places_apart c.half.posted (λ i. let a = r.half.sound.once i in let b = one_each s.geometry 0 i c.half.accepted in omega arith);
-    each = r.half.posted;
-  };
+-- what is posted is rightful
+pub rightful_reached : (s : Setup) (c : ChannelState) → IsReached s c → AreRightful (device_for s c.chip) c.half.accepted c.half.posted
+rightful_reached s c r = record {
+  once = places_apart c.half.posted (λ i. let a = r.half.sound.once i in let b = one_each s.geometry 0 i c.half.accepted in omega arith);
+  each = r.half.posted;
+}
+
+pub promise : (exact : Bool) (certifies : Certificate → Type 0) (s : Setup) (c : ChannelState) → IsReached s c → IfSome c.half.last (IsPromised exact certifies) → KeepsPromise exact certifies s c
+promise exact certifies s c r promised = record {
+  rightful = rightful_reached s c r;
   sent = r.sent;
   serials = r.serials;
   collected = r.collected;
   once = r.half.sound.once;
   made = r.half.made;
   last = r.half.sound.last;
+  promised = promised;
 }

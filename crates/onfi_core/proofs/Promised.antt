@@ -1,6 +1,6 @@
 -- The last plan is as its planner promises.
-use Rattle.std.proofs.Common.{◌≡◌, ℕ, ◌≤◌, inl, inr, true, false, Bool, Some, None, refl, sym, ap, ◌∙◌, subst}
-use Rattle.std.specs.Prelude.{Option, Result, Ok, Err, IfOk, IfErr, IfSome, IsTrue}
+use Rattle.std.proofs.Common.{◌≡◌, ℕ, ◌≤◌, inl, inr, Bool, Some, None, refl, sym, ap, ◌∙◌, subst}
+use Rattle.std.specs.Prelude.{Option, Result, Ok, Err, IfOk, IfErr, IfNone, IfSome, IsTrue, MatchOption}
 use Rattle.onfi_schedule.specs.Schedule.{finish}
 use Rattle.onfi_check.specs.Tree.{AcceptsTokens}
 use Rattle.onfi_plan.specs.Certificate.{Certificate, ShowsBelow}
@@ -13,21 +13,24 @@ use Rattle.onfi_core.specs.declared.outcome.Outcome.{Outcome}
 use Rattle.onfi_core.specs.declared.outcome.Outcome.TheVariants.{Stopped}
 use Rattle.onfi_core.specs.declared.setup.Setup.{Setup}
 use Rattle.onfi_core.specs.State.{HalfState, ChannelState, Planning}
-use Rattle.onfi_core.specs.Steps.{Does, FinishIsOptimal, IsOptimal, IsPlanned, IsPromised, PlainIsPlain, Step, StepBy, after_refusal, refusal}
+use Rattle.onfi_core.specs.Steps.{Does, FinishIsBest, IsAny, IsPlainPlan, IsPlanned, IsPromised, PlainIsPlain, PlansSuch, Step, StepBy, after_refusal, refusal}
 use Rattle.onfi_core.specs.View.{PlanRefused}
 
 -- What exact planners plan
 
-pub finish_is_optimal : FinishIsOptimal
-finish_is_optimal plan planned same = record {
-  legal = planned.legal;
-  least = λ other legal. subst (λ n. n ≤ finish plan.problem other) (same ∙ planned.finish) (planned.none_before other legal);
+pub finish_is_best : FinishIsBest
+finish_is_best plan planned same = record {
+  optimal = record {
+    legal = planned.legal;
+    least = λ other legal. subst (λ n. n ≤ finish plan.problem other) (same ∙ planned.finish) (planned.none_before other legal);
+  };
+  finish = planned.finish;
+  shown = subst (ShowsBelow plan.cert plan.problem.wants plan.problem) same planned.shown;
 }
 
-pub last_optimal : (exact : Bool) (certifies : Certificate → Type 0) (last : Option Planning) → IsTrue exact → IfSome last IsPlanned → IfSome last (IsPromised exact certifies) → IfSome last IsOptimal
-last_optimal true certifies None is planned promised = tt
-last_optimal true certifies (Some plan) is planned promised = finish_is_optimal plan planned (promised.exactly refl)
-last_optimal false certifies last is planned promised = cc
+-- a plan as its planner promises
+pub is_promised : (exact : Bool) (certifies : Certificate → Type 0) (plan : Planning) → IsPlanned plan → (IsTrue exact → plan.below ≡ plan.finish) → certifies plan.cert → IsPromised exact certifies plan
+is_promised exact certifies plan planned exactly kind = record { exactly = exactly; best = λ is. finish_is_best plan planned (exactly is); kind = kind }
 
 pub plain_is_plain : PlainIsPlain
 plain_is_plain plan planned promised =
@@ -35,12 +38,19 @@ plain_is_plain plan planned promised =
     let cert = promised.kind.1 in
     let shown : AcceptsTokens tokens plan.problem plan.below = subst (λ c. ShowsBelow c plan.problem.wants plan.problem plan.below) cert planned.shown in
     record {
-      optimal = finish_is_optimal plan planned (promised.exactly refl);
+      optimal = (promised.best refl).optimal;
       finish = planned.finish;
       tokens = tokens;
       cert = cert;
       accepted = subst (AcceptsTokens tokens plan.problem) (promised.exactly refl) shown;
     }
+
+-- what is shown of the last plan, where it is plain
+pub shown_plainly : {A : Type 0} (result : Option A) (shown : A → Planning) (last : Option Planning) → IfSome result (λ r. last ≡ Some (shown r))
+    → IfNone result (IfSome last (λ plan. IsPlainPlan plan → ⊥)) → IfSome last IsPlainPlan → MatchOption result (last ≡ None) (λ r. last ≡ Some (shown r))
+shown_plainly (Some r) shown last some none is = some
+shown_plainly None shown None some none is = refl
+shown_plainly None shown (Some plan) some none is = absurd (none is)
 
 -- A planning
 
@@ -89,3 +99,35 @@ by_refusal s c e o c' other (Some refused) d = ap (λ (x : ChannelState). x.half
 -- they leave the last plan
 pub other_last : (Such : Planning → Type 0) (s : Setup) (c : ChannelState) (e : Event) (o : Outcome) (c' : ChannelState) → IsOther e → Step s c e o c' → IfSome c.half.last Such → IfSome c'.half.last Such
 other_last Such s c e o c' other step old = subst (λ l. IfSome l Such) (sym (by_refusal s c e o c' other (refusal s c e) step)) old
+
+-- Plannings
+
+any_last : (last : Option Planning) → IfSome last IsAny
+any_last None = tt
+any_last (Some plan) = tt
+
+-- whatever was planned is whatever it is
+pub any_plans : (o : Outcome) (c : ChannelState) → PlansSuch IsAny o c
+any_plans o c finish is = any_last c.half.last
+
+-- what is left of a planning that wasn't accepted
+other_plan : (Such : Planning → Type 0) (s : Setup) (c : ChannelState) (channel : ℕ) (o : Outcome) (c' : ChannelState) → Does s c (Plan channel) o c' → PlansSuch Such o c' → IfSome c.half.last Such → IfSome c'.half.last Such
+other_plan Such s c channel o c' (inl (taken, plan, out, plans, after)) such old = such plan.finish out
+other_plan Such s c channel o c' (inr (inl (out, over, same))) such old = subst (λ (x : ChannelState). IfSome x.half.last Such) (sym same) old
+other_plan Such s c channel o c' (inr (inr (inl (out, late, after)))) such old = subst (λ (x : ChannelState). IfSome x.half.last Such) (sym after) old
+other_plan Such s c channel o c' (inr (inr (inr (out, same)))) such old = subst (λ (x : ChannelState). IfSome x.half.last Such) (sym same) old
+
+plan_by : (Such : Planning → Type 0) (s : Setup) (c : ChannelState) (channel : ℕ) (o : Outcome) (c' : ChannelState) (refused : Option Outcome) → StepBy refused s c (Plan channel) o c' → PlansSuch Such o c' → IfSome c.half.last Such → IfSome c'.half.last Such
+plan_by Such s c channel o c' None step such old = other_plan Such s c channel o c' step such old
+plan_by Such s c channel o c' (Some refused) step such old = subst (λ l. IfSome l Such) (sym (ap (λ (x : ChannelState). x.half.last) step.1 ∙ left_by refused c)) old
+
+-- the last plan stays such, where what a step plans is such
+pub step_last : (Such : Planning → Type 0) (s : Setup) (c : ChannelState) (e : Event) (o : Outcome) (c' : ChannelState) → Step s c e o c' → PlansSuch Such o c' → IfSome c.half.last Such → IfSome c'.half.last Such
+step_last Such s c (Plan channel) o c' step such old = plan_by Such s c channel o c' (refusal s c (Plan channel)) step such old
+step_last Such s c (Submit host channel r) o c' step such old = other_last Such s c (Submit host channel r) o c' tt step old
+step_last Such s c (Accept channel) o c' step such old = other_last Such s c (Accept channel) o c' tt step old
+step_last Such s c (Bus channel) o c' step such old = other_last Such s c (Bus channel) o c' tt step old
+step_last Such s c (Wait channel moment) o c' step such old = other_last Such s c (Wait channel moment) o c' tt step old
+step_last Such s c (Ready channel lun) o c' step such old = other_last Such s c (Ready channel lun) o c' tt step old
+step_last Such s c (Post channel host) o c' step such old = other_last Such s c (Post channel host) o c' tt step old
+step_last Such s c (Collect channel host) o c' step such old = other_last Such s c (Collect channel host) o c' tt step old

@@ -16,7 +16,7 @@ use Rattle.onfi_lun.specs.declared.lanes.any_lun.AnyLun.{AnyLun}
 use Rattle.onfi_lun.specs.Lanes.{LanesAgree}
 use Rattle.onfi_core.specs.declared.event.Event.{Event}
 use Rattle.onfi_core.specs.declared.outcome.Outcome.{Outcome}
-use Rattle.onfi_core.specs.Steps.{Step, bus_refusal, submitted}
+use Rattle.onfi_core.specs.Steps.{IsAny, Step, bus_refusal, submitted}
 use Rattle.onfi_problem.proofs.Places.{length_set}
 use Rattle.onfi_core.specs.declared.host_queue.HostQueue.{HostQueue}
 use Rattle.onfi_core.specs.declared.setup.Setup.{Setup}
@@ -42,7 +42,7 @@ other_queue s c c' j q es ep ec old = record {
 }
 
 -- what isn't said of the hosts changes nothing
-pub queues_same : (s : Setup) (lent lent' : Option Reply) (room room' : ℕ) (hosts : List HostQueue) (lanes lanes' : List AnyLun) (c c' : ChannelState) → AreQueues s lent room hosts lanes c → Reaches s c' → (c'.half.stopped ≡ None → LanesAgree c'.chip lanes') → c'.sent ≡ c.sent → c'.half.posted ≡ c.half.posted → c'.collected ≡ c.collected → lent' ≡ None → room' ≡ room → AreQueues s lent' room' hosts lanes' c'
+pub queues_same : (s : Setup) (lent lent' : Option Reply) (room room' : ℕ) (hosts : List HostQueue) (lanes lanes' : List AnyLun) (c c' : ChannelState) → AreQueues s lent room hosts lanes c → Reaches IsAny s c' → (c'.half.stopped ≡ None → LanesAgree c'.chip lanes') → c'.sent ≡ c.sent → c'.half.posted ≡ c.half.posted → c'.collected ≡ c.collected → lent' ≡ None → room' ≡ room → AreQueues s lent' room' hosts lanes' c'
 queues_same s lent lent' room room' hosts lanes lanes' c c' q reached lanes_are es ep ec el er = record {
   settled = el;
   reached = reached;
@@ -53,7 +53,7 @@ queues_same s lent lent' room room' hosts lanes lanes' c c' q reached lanes_are 
 }
 
 -- a host's queue changed
-module _ (s : Setup) (lent lent' : Option Reply) (room room' : ℕ) (hosts hosts' : List HostQueue) (lanes : List AnyLun) (c c' : ChannelState) (q : AreQueues s lent room hosts lanes c) (reached : Reaches s c') (lanes_are : c'.half.stopped ≡ None → LanesAgree c'.chip lanes) (settled : lent' ≡ None) (room_is : room' ≡ room) (host : ℕ) (queue queue' : HostQueue) (at : slice_get hosts host ≡ Some queue) (set : hosts' ≡ slice_set hosts host queue') where
+module _ (s : Setup) (lent lent' : Option Reply) (room room' : ℕ) (hosts hosts' : List HostQueue) (lanes : List AnyLun) (c c' : ChannelState) (q : AreQueues s lent room hosts lanes c) (reached : Reaches IsAny s c') (lanes_are : c'.half.stopped ≡ None → LanesAgree c'.chip lanes) (settled : lent' ≡ None) (room_is : room' ≡ room) (host : ℕ) (queue queue' : HostQueue) (at : slice_get hosts host ≡ Some queue) (set : hosts' ≡ slice_set hosts host queue') where
   old : IsHostQueue s c host queue
   old = q.each host queue at
 
@@ -189,7 +189,7 @@ empty_at room (q ∷ hosts) (suc i) queue h e = empty_at room hosts i queue h.1 
 pub queues_opened : (s : Setup) (faults : List Fault) (failures : Failures) (room : ℕ) (hosts : List HostQueue) (lanes : List AnyLun) → LanesAgree (opened s.geometry s.timing faults failures) lanes → length hosts ≡ s.hosts → All (IsEmptyQueue s.post_cap) hosts → s.submit_cap ≤ room → AreQueues s None room hosts lanes (first s faults failures)
 queues_opened s faults failures room hosts lanes agree count empty room_is = record {
   settled = refl;
-  reached = opened_reaches s (first s faults failures) (faults, failures, refl);
+  reached = opened_reaches IsAny s (first s faults failures) (faults, failures, refl);
   lanes_are = λ going. agree;
   room_is = room_is;
   count = count;

@@ -14,14 +14,14 @@ use Rattle.onfi_core.specs.Core.{Did, DidAll, Doing, IsOpened, channel_of, with_
 use Rattle.onfi_core.specs.Core.Doing.{Happens, SetsBatch}
 use Rattle.onfi_core.specs.Kept.{IsReached}
 use Rattle.onfi_core.specs.Reaching.{Reaches, StaysReached, EventsReach, StepReaches, BatchReached, AcceptingReached, PostingReached}
-use Rattle.onfi_core.specs.State.{HalfState, ChannelState, is_to, posted_to, quiet, sent_by}
-use Rattle.onfi_core.specs.Steps.{Step, StepBy, GoesOut, refusal, submitted}
+use Rattle.onfi_core.specs.State.{HalfState, ChannelState, Planning, is_to, posted_to, quiet, sent_by}
+use Rattle.onfi_core.specs.Steps.{IsAny, PlansSuch, Step, StepBy, GoesOut, refusal, submitted}
 use Rattle.onfi_core.specs.View.{IsOldest, accepting}
-use Rattle.onfi_core.proofs.Channels.{all_kept, batch_kept}
+use Rattle.onfi_core.proofs.Channels.{all_kept, batch_kept, opened_with_none}
 use Rattle.onfi_core.proofs.HeldFor.{goes_to}
 use Rattle.onfi_core.proofs.Hosted.{to_own}
 use Rattle.onfi_core.proofs.Lists.{get_at_length}
-use Rattle.onfi_core.proofs.Opening.{opened}
+use Rattle.onfi_core.proofs.Promised.{any_plans}
 use Rattle.onfi_core.proofs.Reach.{step_kept}
 use Rattle.onfi_core.proofs.Refused.{accepts, collect_open, post_open, step_does, submit_open}
 pub use Rattle.onfi_request.proofs.Faults.{no_fault}
@@ -54,43 +54,45 @@ first_by None s c _ o c' h = h
 first_step : (s : Setup) (c : ChannelState) (e : Event) (o : Outcome) (c' : ChannelState) → Step s c e o c' → Step s c (to_first e) o c'
 first_step s c e o c' h = subst (λ (q : Option Outcome). StepBy q s c (to_first e) o c') (sym (same_refusal s c e)) (first_by (refusal s c e) s c e o c' h)
 
-did_more : (s : Setup) (cs : List ChannelState) (ds : List Doing) (mid : List ChannelState) (d : Doing) (cs' : List ChannelState) → DidAll s cs ds mid → Did s mid d cs' → DidAll s cs (ds ++ d ∷ []) cs'
-did_more s cs [] mid d cs' did one = (cs', subst (λ (x : List ChannelState). Did s x d cs') did one, refl)
-did_more s cs (b ∷ ds) mid d cs' (next, first, rest) one = (next, first, did_more s next ds mid d cs' rest one)
+did_more : (Such : Planning → Type 0) (s : Setup) (cs : List ChannelState) (ds : List Doing) (mid : List ChannelState) (d : Doing) (cs' : List ChannelState) → DidAll Such s cs ds mid → Did Such s mid d cs' → DidAll Such s cs (ds ++ d ∷ []) cs'
+did_more Such s cs [] mid d cs' did one = (cs', subst (λ (x : List ChannelState). Did Such s x d cs') did one, refl)
+did_more Such s cs (b ∷ ds) mid d cs' (next, first, rest) one = (next, first, did_more Such s next ds mid d cs' rest one)
 
-reaches_more : (s : Setup) (c c' : ChannelState) (d : Doing) → Reaches s c → Did s (c ∷ []) d (c' ∷ []) → Reaches s c'
-reaches_more s c c' d r one = record { start = r.start; opened = r.opened; doings = r.doings ++ d ∷ []; did = did_more s (r.start ∷ []) r.doings (c ∷ []) d (c' ∷ []) r.did one }
+reaches_more : (Such : Planning → Type 0) (s : Setup) (c c' : ChannelState) (d : Doing) → Reaches Such s c → Did Such s (c ∷ []) d (c' ∷ []) → Reaches Such s c'
+reaches_more Such s c c' d r one = record { start = r.start; opened = r.opened; doings = r.doings ++ d ∷ []; did = did_more Such s (r.start ∷ []) r.doings (c ∷ []) d (c' ∷ []) r.did one }
 
-pub opened_reaches : (s : Setup) (c : ChannelState) → IsOpened s c → Reaches s c
-opened_reaches s c o = record { start = c; opened = o; doings = []; did = refl }
+pub opened_reaches : (Such : Planning → Type 0) (s : Setup) (c : ChannelState) → IsOpened s c → Reaches Such s c
+opened_reaches Such s c o = record { start = c; opened = o; doings = []; did = refl }
 
-pub step_reaches : StepReaches
-step_reaches s c e o c' r step =
+pub step_reaches : (Such : Planning → Type 0) → StepReaches Such
+step_reaches Such s c e o c' r step such =
     let at = of_first e in
-    reaches_more s c c' (Happens (to_first e) o) r (inr (c, c', ap (slice_get (c ∷ [])) at, first_step s c e o c' step, sym (ap (λ n. slice_set (c ∷ []) n c') at)))
+    reaches_more Such s c c' (Happens (to_first e) o) r (inr (c, c', ap (slice_get (c ∷ [])) at, first_step s c e o c' step, such, sym (ap (λ n. slice_set (c ∷ []) n c') at)))
 
-batch_reaches : (s : Setup) (c : ChannelState) (batch : ℕ) → 1 ≤ batch → batch ≤ 8 → Reaches s c → Reaches s (with_batch batch c)
-batch_reaches s c batch some few r = reaches_more s c (with_batch batch c) (SetsBatch 0 batch) r (some, few, c, refl, refl)
+batch_reaches : (Such : Planning → Type 0) (s : Setup) (c : ChannelState) (batch : ℕ) → 1 ≤ batch → batch ≤ 8 → Reaches Such s c → Reaches Such s (with_batch batch c)
+batch_reaches Such s c batch some few r = reaches_more Such s c (with_batch batch c) (SetsBatch 0 batch) r (some, few, c, refl, refl)
 
-pub events_reach : EventsReach
-events_reach s c r =
-    let (faults, failures, is) = r.opened in
-    (all_kept s (r.start ∷ []) r.doings (c ∷ []) (subst (IsReached s) (sym is) (opened s faults failures), tt) r.did).0
+pub events_reach : (Such : Planning → Type 0) → EventsReach Such
+events_reach Such s c r = (all_kept Such s (r.start ∷ []) r.doings (c ∷ []) (opened_with_none Such s r.start r.opened, tt) r.did).0
 
-pub batch_reached : BatchReached
-batch_reached s c batch some few = (λ r. batch_kept s batch c some few r, λ r. batch_reaches s c batch some few r)
+-- whatever the step plans
+pub any_reaches : (s : Setup) (c : ChannelState) (e : Event) (o : Outcome) (c' : ChannelState) → Reaches IsAny s c → Step s c e o c' → Reaches IsAny s c'
+any_reaches s c e o c' r step = step_reaches IsAny s c e o c' r step (any_plans o c')
 
--- two steps
-stays : (s : Setup) (c c1 c2 : ChannelState) (e1 e2 : Event) (o1 o2 : Outcome) → Step s c e1 o1 c1 → Step s c1 e2 o2 c2 → StaysReached s c c2
-stays s c c1 c2 e1 e2 o1 o2 first second = (
+pub batch_reached : (Such : Planning → Type 0) → BatchReached Such
+batch_reached Such s c batch some few = (λ r. batch_kept s batch c some few r, λ r. batch_reaches Such s c batch some few r)
+
+-- two steps that plan nothing
+stays : (Such : Planning → Type 0) (s : Setup) (c c1 c2 : ChannelState) (e1 e2 : Event) (o1 o2 : Outcome) → Step s c e1 o1 c1 → PlansSuch Such o1 c1 → Step s c1 e2 o2 c2 → PlansSuch Such o2 c2 → StaysReached Such s c c2
+stays Such s c c1 c2 e1 e2 o1 o2 first none second no_more = (
   λ r. step_kept s c1 e2 o2 c2 (step_kept s c e1 o1 c1 r first) second,
-  λ r. step_reaches s c1 e2 o2 c2 (step_reaches s c e1 o1 c1 r first) second,
+  λ r. step_reaches Such s c1 e2 o2 c2 (step_reaches Such s c e1 o1 c1 r first none) second no_more,
 )
 
 -- Accepting
 
-pub accepting_reached : AcceptingReached
-accepting_reached s h chip x open' next =
+pub accepting_reached : (Such : Planning → Type 0) → AcceptingReached Such
+accepting_reached Such s h chip x open' next =
     let c = quiet h chip in
     let sent : Item = record { host = x.host; serial = length (sent_by x.host c); request = x.request } in
     let same : sent ≡ x = ap (λ n. let y : Item = record { host = x.host; serial = n; request = x.request } in y) (sym next.serial) in
@@ -99,11 +101,11 @@ accepting_reached s h chip x open' next =
     let c1 = submitted c x.host x.request in
     let first : Step s c (event.Submit x.host 0 x.request) (outcome.Submitted (length (sent_by x.host c))) c1 = step_does s c (event.Submit x.host 0 x.request) (outcome.Submitted (length (sent_by x.host c))) c1 (submit_open s c x.host 0 x.request next.host (no_fault s.geometry x.request next.in_range) low room) (refl, refl) in
     let second : Step s c1 (event.Accept 0) (outcome.Accepted (length h.accepted)) (quiet (accepting h sent) chip) = accepts s c1 (quiet (accepting h sent) chip) 0 sent [] open' refl refl in
-    subst (λ (y : Item). StaysReached s c (quiet (accepting h y) chip)) same (stays s c c1 (quiet (accepting h sent) chip) (event.Submit x.host 0 x.request) (event.Accept 0) _ _ first second)
+    subst (λ (y : Item). StaysReached Such s c (quiet (accepting h y) chip)) same (stays Such s c c1 (quiet (accepting h sent) chip) (event.Submit x.host 0 x.request) (event.Accept 0) _ _ first (λ _ is. cc) second (λ _ is. cc))
 
 -- Posting
 
-module _ (s : Setup) (h : HalfState) (chip : Chip) (host : ℕ) (r : Reply) (before behind : List Reply) (held : h.held ≡ before ++ r ∷ behind) (oldest : filter (is_to host) before ≡ []) (own : r.host ≡ host) (known : host < s.hosts) where
+module _ (Such : Planning → Type 0) (s : Setup) (h : HalfState) (chip : Chip) (host : ℕ) (r : Reply) (before behind : List Reply) (held : h.held ≡ before ++ r ∷ behind) (oldest : filter (is_to host) before ≡ []) (own : r.host ≡ host) (known : host < s.hosts) where
   abbrev moved : HalfState
   moved = record h { held = before ++ behind; posted = h.posted ++ r ∷ [] }
 
@@ -127,13 +129,13 @@ module _ (s : Setup) (h : HalfState) (chip : Chip) (host : ℕ) (r : Reply) (bef
       let there : slice_get (posted_to host sent_out) (length list) ≡ Some r = ap (λ rs. slice_get rs (length list)) more ∙ get_at_length list r [] in
       step_does s sent_out (event.Collect 0 host) (outcome.Collected r) (quiet moved chip) (collect_open s sent_out host 0 known (omega arith)) (r, refl, there, refl)
 
-  posting_stays : StaysReached s (quiet h chip) (quiet moved chip)
-  posting_stays = stays s (quiet h chip) sent_out (quiet moved chip) (event.Post 0 host) (event.Collect 0 host) (outcome.Posted r.place) (outcome.Collected r) posting_step collecting_step
+  posting_stays : StaysReached Such s (quiet h chip) (quiet moved chip)
+  posting_stays = stays Such s (quiet h chip) sent_out (quiet moved chip) (event.Post 0 host) (event.Collect 0 host) (outcome.Posted r.place) (outcome.Collected r) posting_step (λ _ is. cc) collecting_step (λ _ is. cc)
 
-pub posting_reached : PostingReached
-posting_reached s h h' chip host r out =
+pub posting_reached : (Such : Planning → Type 0) → PostingReached Such
+posting_reached Such s h h' chip host r out =
     let known : IsReached s (quiet h chip) → host < s.hosts = λ reached. goes_to s (quiet h chip) h' host r reached out in
-    let stays_at = λ (at : host < s.hosts). subst (λ (m : HalfState). StaysReached s (quiet h chip) (quiet m chip)) (sym out.after) (posting_stays s h chip host r out.before out.behind out.held out.oldest out.own at) in (
+    let stays_at = λ (at : host < s.hosts). subst (λ (m : HalfState). StaysReached Such s (quiet h chip) (quiet m chip)) (sym out.after) (posting_stays Such s h chip host r out.before out.behind out.held out.oldest out.own at) in (
       λ reached. (stays_at (known reached)).0 reached,
-      λ reaches. (stays_at (known (events_reach s (quiet h chip) reaches))).1 reaches,
+      λ reaches. (stays_at (known (events_reach Such s (quiet h chip) reaches).0)).1 reaches,
     )

@@ -1,5 +1,5 @@
 -- A LUN that is found ready keeps what every reachable state keeps.
-use Rattle.std.proofs.Common.{◌≡◌, ◌≢◌, ℕ, zero, suc, ◌-◌, ◌<◌, inl, inr, Bool, true, false, List, [], ◌∷◌, ◌++◌, length, drop, Option, Some, None, refl, sym, ap, ◌∙◌, subst, arith}
+use Rattle.std.proofs.Common.{◌≡◌, ◌≢◌, ℕ, zero, suc, ◌-◌, inl, inr, Bool, true, false, List, [], ◌∷◌, ◌++◌, length, drop, Option, Some, None, refl, sym, ap, ◌∙◌, subst, arith}
 use Rattle.std.specs.Prelude.{◌==◌, map, min, nat_lt, not, if◌then◌else◌, slice_get, slice_set}
 use Rattle.std.specs.List.{AllByRecursion as All, flat_map}
 use Rattle.std.proofs.lemmas.Bool.Decides.{nat_tests}
@@ -9,7 +9,7 @@ use Rattle.onfi_group.specs.Words.{number}
 use Rattle.onfi_problem.specs.declared.lun_state.LunState.{LunState}
 use Rattle.onfi_problem.specs.declared.lun_state.LunState.TheVariants.{Free, Running}
 use Rattle.onfi_problem.specs.Moves.{free_from}
-use Rattle.onfi_problem.specs.Problem.{IsProblem, has_id}
+use Rattle.onfi_problem.specs.Problem.{has_id}
 use Rattle.onfi_problem.proofs.Places.{get_set_other, get_set_same, length_set, same_place}
 use Rattle.onfi_flight.specs.Flight.{Flight, IsFlight, luns_ready_by, readied as flight_readied}
 use Rattle.onfi_flight.proofs.Stays.{ready_stays}

@@ -1,5 +1,5 @@
 -- After a planning by whole groups nothing is to be planned.
-use Rattle.std.proofs.Common.{◌≡◌, ◌≢◌, ℕ, suc, ◌+◌, ◌*◌, ◌-◌, ◌<◌, ◌≤◌, inl, inr, Bool, true, false, List, [], ◌∷◌, ◌++◌, length, Some, take, drop, append-nil, refl, sym, ap, ◌∙◌, subst, arith}
+use Rattle.std.proofs.Common.{◌≡◌, ◌≢◌, ℕ, suc, ◌+◌, ◌-◌, ◌<◌, inl, inr, Bool, true, false, List, [], ◌∷◌, ◌++◌, length, Some, take, drop, append-nil, refl, sym, ap, ◌∙◌, subst, arith}
 use Rattle.std.specs.Prelude.{if◌then◌else◌, nat_lt, not, slice_get}
 use Rattle.std.specs.List.{list_any}
 use Rattle.std.proofs.lemmas.Bool.{cases_Bool, cases_lt, le-ltb}
@@ -17,10 +17,10 @@ use Rattle.onfi_core.specs.declared.setup.Choice.TheVariants.{WholeGroups}
 use Rattle.onfi_core.specs.declared.setup.Setup.{Setup}
 use Rattle.onfi_core.specs.Choice.{AreMerged}
 use Rattle.onfi_core.specs.Kept.{IsSound}
-use Rattle.onfi_core.specs.Passed.{waiter_of, waiters_of}
+use Rattle.onfi_core.specs.Passed.{waiter_of}
 use Rattle.onfi_core.specs.Reaching.{PlanSettles}
 use Rattle.onfi_core.specs.State.{HalfState, Planning, wants_from}
-use Rattle.onfi_core.specs.Steps.{ChoosesWhole, Plans, Taken, TakesBy, is_current, is_empty, none_left, nothing_to_plan, places_left, planned_by, taken_next, unplanned}
+use Rattle.onfi_core.specs.Steps.{ChoosesWhole, Plans, Taken, TakesBy, is_current, is_empty, none_left, places_left, planned_by, taken_next, unplanned}
 use Rattle.onfi_core.specs.Whole.{is_running}
 use Rattle.onfi_core.proofs.HeldFor.{front_nil, idle_wants, is_nil, no_start}
 use Rattle.onfi_core.proofs.PassedOver.{wants_of_waiters}

@@ -1,5 +1,5 @@
 -- The phase that is due, and what it leaves.
-use Rattle.std.specs.Prelude.{ℕ, ◌<◌, ◌≤◌, ◌-◌, List, [], length, map, option_to_list, slice_get}
+use Rattle.std.specs.Prelude.{◌<◌, ◌≤◌, ◌-◌, List, [], length, map, option_to_list, slice_get}
 use Rattle.onfi_request.specs.declared.reply.Reply.{Reply}
 use Rattle.onfi_request.specs.declared.request.Item.{Item}
 use Rattle.onfi_request.specs.declared.fault.Fault.{Fault}

@@ -25,7 +25,8 @@ use Rattle.onfi_core.specs.declared.setup.Setup.{Setup}
 use Rattle.onfi_core.specs.State.{HalfState, ChannelState, want_of, wants_from, item_at, request_of, device_for, is_to, sent_by, posted_to, collected_by}
 use Rattle.onfi_core.specs.declared.setup.Choice.TheVariants.{InOrder}
 pub use Rattle.onfi_core.specs.Choice.{is_want_on, on, Rise}
-use Rattle.onfi_core.specs.Steps.{unplanned, IsPlanned}
+use Rattle.onfi_plan.specs.Certificate.{Certificate}
+use Rattle.onfi_core.specs.Steps.{unplanned, IsPlanned, IsPromised}
 
 -- the group of a LUN that has commands left
 abbrev pub commanding : Option LunState → List Want
@@ -164,8 +165,8 @@ first_half s = record {
 abbrev pub first : Setup → List Fault → Failures → ChannelState
 first s faults failures = record { half = first_half s; chip = opened s.geometry s.timing faults failures; sent = []; waiting = []; collected = [] }
 
--- The promise of one channel: what is posted is rightful in what was accepted; what a host sent is accepted or waits, in order and numbered; what it collected is a beginning of what it was posted; each accepted place is exactly one of unplanned, planned with its post undone, held and posted; and the last plan is a legal schedule of its problem and its finish, a number no later before which no legal schedule ends, and a certificate accepted for that
-pub record KeepsPromise (s : Setup) (c : ChannelState) : Type 0 where
+-- The promise of one channel: what is posted is rightful in what was accepted; what a host sent is accepted or waits, in order and numbered; what it collected is a beginning of what it was posted; each accepted place is exactly one of unplanned, planned with its post undone, held and posted; and the last plan is a legal schedule of its problem and its finish, a number no later before which no legal schedule ends, and a certificate accepted for that; where the planner is exact it is the best, and shown to be
+pub record KeepsPromise (exact : Bool) (certifies : Certificate → Type 0) (s : Setup) (c : ChannelState) : Type 0 where
   pub rightful : AreRightful (device_for s c.chip) c.half.accepted c.half.posted
   pub sent : c.sent ≡ c.half.accepted ++ c.waiting
   pub serials : (host : ℕ) → SerialsFrom 0 (sent_by host c)
@@ -173,3 +174,4 @@ pub record KeepsPromise (s : Setup) (c : ChannelState) : Type 0 where
   pub once : (place : ℕ) → times s c.half place ≡ number (has_id place) (wants_from s.geometry 0 c.half.accepted)
   pub made : (host : ℕ) → AreMade (device_for s c.chip) c.half.accepted (made_for host c.half)
   pub last : IfSome c.half.last IsPlanned
+  pub promised : IfSome c.half.last (IsPromised exact certifies)

@@ -1,5 +1,5 @@
 -- What callers see of a channel and of a core, and what their fields keep.
-use Rattle.std.specs.Prelude.{◌≡◌, ℕ, ◌≤◌, List, [], ◌++◌, length, map, Option, Some, None, IfSome, slice_get}
+use Rattle.std.specs.Prelude.{◌≡◌, ℕ, ◌≤◌, List, [], ◌++◌, length, map, Option, Some, None, slice_get}
 use Rattle.std.specs.List.{AllByRecursion as Each}
 use Rattle.std.specs.VecDeque.{deque_capacity}
 use Rattle.onfi_request.specs.declared.request.Item.{Item}
@@ -11,6 +11,7 @@ use Rattle.onfi_core.specs.declared.host_queue.HostQueue.{HostQueue}
 use Rattle.onfi_core.specs.declared.setup.Setup.{Setup}
 use Rattle.onfi_core.specs.Kept.{first}
 use Rattle.onfi_core.specs.Reaching.{Reaches}
+use Rattle.onfi_core.specs.Steps.{IsAny}
 use Rattle.onfi_core.specs.State.{HalfState, ChannelState, Planning, sent_by, posted_to, collected_by}
 
 -- a channel but for its chip
@@ -61,17 +62,16 @@ pub record IsHostQueue (s : Setup) (c : ChannelState) (host : ℕ) (queue : Host
 -- the queues are those of the channel, which is one that events reach; until it stops the LUNs in their phases are the chip's
 pub record AreQueues (s : Setup) (lent : Option Reply) (room : ℕ) (hosts : List HostQueue) (lanes : List AnyLun) (c : ChannelState) : Type 0 where
   pub settled : lent ≡ None
-  pub reached : Reaches s c
+  pub reached : Reaches IsAny s c
   pub lanes_are : c.half.stopped ≡ None → LanesAgree c.chip lanes
   pub room_is : s.submit_cap ≤ room
   pub count : length hosts ≡ s.hosts
   pub each : (host : ℕ) (queue : HostQueue) → slice_get hosts host ≡ Some queue → IsHostQueue s c host queue
 
--- the channels are those of the setup, events reach them, and the last planning of each is such
+-- the channels are those of the setup, and events reach them of which each plan is such
 pub record AreChannels {C : Type 0} (state : C → Chip) (Such : Planning → Type 0) (s : Setup) (views : List (ChannelView C)) : Type 0 where
   pub count : length views ≡ s.channels
-  pub each : Each (λ v. (v.0.setup ≡ s) × Reaches s (state_in state v)) views
-  pub last : Each (λ v. IfSome v.0.half.last Such) views
+  pub each : Each (λ v. (v.0.setup ≡ s) × Reaches Such s (state_in state v)) views
 
 -- the channels as they open with those chips
 pub record AreOpened {C : Type 0} (state : C → Chip) (s : Setup) (chips : List C) (views : List (ChannelView C)) : Type 0 where

@@ -11,42 +11,42 @@ use Rattle.onfi_core.specs.declared.outcome.Outcome.{Outcome}
 use Rattle.onfi_core.specs.declared.setup.Choice.TheVariants.{WholeGroups}
 use Rattle.onfi_core.specs.declared.setup.Setup.{Setup}
 use Rattle.onfi_core.specs.State.{HalfState, ChannelState, Planning, quiet, posted_to}
-use Rattle.onfi_core.specs.Steps.{Step, GoesOut, Plans, Taken, accept_refusal, held_for, none_left, nothing_to_plan, plan_refusal, planned_by, taken_next, unplanned}
+use Rattle.onfi_core.specs.Steps.{Step, GoesOut, Plans, PlansSuch, Taken, accept_refusal, held_for, none_left, nothing_to_plan, plan_refusal, planned_by, taken_next, unplanned}
 use Rattle.onfi_core.specs.Kept.{IsReached, IsSound}
-use Rattle.onfi_core.specs.Core.{Doing, DidAll, IsOpened, with_batch}
+use Rattle.onfi_core.specs.Core.{Doing, DidAll, IsOpened, IsReachedWith, with_batch}
 use Rattle.onfi_core.specs.Refusals.{planned_outcome}
 use Rattle.onfi_core.specs.View.{IsNext, PlanRefused, accepting}
 
--- the channel was opened, and then this was done to a core that has it alone
-pub record Reaches (s : Setup) (c : ChannelState) : Type 0 where
+-- the channel was opened, and then this was done to a core that has it alone, and each plan of it is such
+pub record Reaches (Such : Planning → Type 0) (s : Setup) (c : ChannelState) : Type 0 where
   pub start : ChannelState
   pub opened : IsOpened s start
   pub doings : List Doing
-  pub did : DidAll s (start ∷ []) doings (c ∷ [])
+  pub did : DidAll Such s (start ∷ []) doings (c ∷ [])
 
 -- where one stands the other does
-abbrev pub StaysReached : Setup → ChannelState → ChannelState → Type 0
-StaysReached s c c' = (IsReached s c → IsReached s c') × (Reaches s c → Reaches s c')
+abbrev pub StaysReached : (Planning → Type 0) → Setup → ChannelState → ChannelState → Type 0
+StaysReached Such s c c' = (IsReached s c → IsReached s c') × (Reaches Such s c → Reaches Such s c')
 
--- what events reach keeps what reachable states keep
-abbrev pub EventsReach : Type 0
-EventsReach = (s : Setup) (c : ChannelState) → Reaches s c → IsReached s c
+-- what events reach keeps what reachable states keep, and its last plan is such
+abbrev pub EventsReach : (Planning → Type 0) → Type 0
+EventsReach Such = (s : Setup) (c : ChannelState) → Reaches Such s c → IsReachedWith Such s c
 
 -- each step leads from a channel that events reach to one that they reach
-abbrev pub StepReaches : Type 0
-StepReaches = (s : Setup) (c : ChannelState) (e : Event) (o : Outcome) (c' : ChannelState) → Reaches s c → Step s c e o c' → Reaches s c'
+abbrev pub StepReaches : (Planning → Type 0) → Type 0
+StepReaches Such = (s : Setup) (c : ChannelState) (e : Event) (o : Outcome) (c' : ChannelState) → Reaches Such s c → Step s c e o c' → PlansSuch Such o c' → Reaches Such s c'
 
 -- so does a batch that is set
-abbrev pub BatchReached : Type 0
-BatchReached = (s : Setup) (c : ChannelState) (batch : ℕ) → 1 ≤ batch → batch ≤ 8 → StaysReached s c (with_batch batch c)
+abbrev pub BatchReached : (Planning → Type 0) → Type 0
+BatchReached Such = (s : Setup) (c : ChannelState) (batch : ℕ) → 1 ≤ batch → batch ≤ 8 → StaysReached Such s c (with_batch batch c)
 
 -- an item that is next is submitted and accepted
-abbrev pub AcceptingReached : Type 0
-AcceptingReached = (s : Setup) (h : HalfState) (chip : Chip) (x : Item) → accept_refusal h ≡ None → IsNext s h x → StaysReached s (quiet h chip) (quiet (accepting h x) chip)
+abbrev pub AcceptingReached : (Planning → Type 0) → Type 0
+AcceptingReached Such = (s : Setup) (h : HalfState) (chip : Chip) (x : Item) → accept_refusal h ≡ None → IsNext s h x → StaysReached Such s (quiet h chip) (quiet (accepting h x) chip)
 
 -- the oldest reply that is held for a host is posted and collected
-abbrev pub PostingReached : Type 0
-PostingReached = (s : Setup) (h h' : HalfState) (chip : Chip) (host : ℕ) (r : Reply) → GoesOut h h' host r → StaysReached s (quiet h chip) (quiet h' chip)
+abbrev pub PostingReached : (Planning → Type 0) → Type 0
+PostingReached Such = (s : Setup) (h h' : HalfState) (chip : Chip) (host : ℕ) (r : Reply) → GoesOut h h' host r → StaysReached Such s (quiet h chip) (quiet h' chip)
 
 -- what a half's planning came to is what its channel's does
 abbrev pub PlannedStep : Type 0

@@ -1,5 +1,5 @@
 -- What an event does to a channel.
-use Rattle.std.specs.Prelude.{◌≡◌, ◌≢◌, ℕ, ◌+◌, ◌-◌, ◌^◌, ◌<◌, ◌≤◌, ◌⊎◌, ◌==◌, max, not, nat_le, nat_lt, if◌then◌else◌, Bool, true, false, IsTrue, List, [], ◌∷◌, ◌++◌, length, take, drop, Option, Some, None, slice_get}
+use Rattle.std.specs.Prelude.{◌≡◌, ◌≢◌, ℕ, ◌+◌, ◌-◌, ◌^◌, ◌<◌, ◌≤◌, ◌⊎◌, ◌==◌, max, not, nat_le, nat_lt, if◌then◌else◌, Bool, true, false, IsTrue, List, [], ◌∷◌, ◌++◌, length, take, drop, Option, Some, None, IfSome, slice_get}
 use Rattle.std.specs.List.{filter, list_any}
 use Rattle.onfi_timing.specs.declared.operation.Operation.TheVariants.{Read}
 use Rattle.onfi_timing.specs.Kinds.{operation_of, sectors_of}
@@ -143,17 +143,30 @@ pub record IsPlanned (plan : Planning) : Type 0 where
   pub none_before : NoneBefore plan.problem plan.below
   pub shown : ShowsBelow plan.cert plan.problem.wants plan.problem plan.below
 
--- what its planner promises beside: where it is exact nothing ends sooner, and the certificate is one that it gives
+-- an optimal schedule of the problem, its finish, and a certificate accepted for that
+pub record IsBest (plan : Planning) : Type 0 where
+  pub optimal : Optimal plan.problem plan.schedule
+  pub finish : plan.finish ≡ finish plan.problem plan.schedule
+  pub shown : ShowsBelow plan.cert plan.problem.wants plan.problem plan.finish
+
+-- what its planner promises beside: where it is exact nothing ends sooner, so that the plan is the best and is shown to be; and the
+-- certificate is one that it gives
 pub record IsPromised (exact : Bool) (certifies : Certificate → Type 0) (plan : Planning) : Type 0 where
   pub exactly : IsTrue exact → plan.below ≡ plan.finish
+  pub best : IsTrue exact → IsBest plan
   pub kind : certifies plan.cert
+
+-- whatever the plan
+abbrev pub IsAny : Planning → Type 0
+IsAny plan = Unit {0}
+
+-- where this came of a planning that was accepted, the channel's last plan is such
+abbrev pub PlansSuch : (Planning → Type 0) → Outcome → ChannelState → Type 0
+PlansSuch Such o c = (finish : ℕ) → o ≡ Planned finish → IfSome c.half.last Such
 
 -- a plan that is plain: nothing ends before its finish, and tokens show it
 abbrev pub IsPlainPlan : Planning → Type 0
 IsPlainPlan plan = IsPromised true IsPlain plan
-
-abbrev pub IsOptimal : Planning → Type 0
-IsOptimal plan = Optimal plan.problem plan.schedule
 
 -- an optimal schedule of the problem, its finish, and a token list accepted for it
 pub record IsPlainlyPlanned (plan : Planning) : Type 0 where
@@ -163,9 +176,9 @@ pub record IsPlainlyPlanned (plan : Planning) : Type 0 where
   pub cert : plan.cert ≡ Plain tokens
   pub accepted : AcceptsTokens tokens plan.problem plan.finish
 
--- a plan before whose finish nothing ends is optimal
-abbrev pub FinishIsOptimal : Type 0
-FinishIsOptimal = (plan : Planning) → IsPlanned plan → plan.below ≡ plan.finish → IsOptimal plan
+-- a plan before whose finish nothing ends is the best
+abbrev pub FinishIsBest : Type 0
+FinishIsBest = (plan : Planning) → IsPlanned plan → plan.below ≡ plan.finish → IsBest plan
 
 -- what an exact planner plans that gives tokens is shown by tokens
 abbrev pub PlainIsPlain : Type 0

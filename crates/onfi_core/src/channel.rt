@@ -178,7 +178,7 @@ impl<C: Chip> Channel<C> {
         ensures step { (channel : ℕ) → Step self.old.0.setup (state_in C.state self.old) (event.Bus channel) result (state_in C.state self.new) }
         ensures setup { self.new.0.setup ≡ self.old.0.setup }
     {
-        match self.half.due() {
+        match self.half.due(alloc) {
             Ok(due) => self.run(alloc, due),
             Err(DueRefusal::Stopped(cause)) => Outcome::Stopped(cause),
             Err(DueRefusal::NoPlan) => Outcome::NoPlan,

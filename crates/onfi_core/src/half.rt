@@ -291,11 +291,25 @@ impl Half {
         finish
     }
 
-    /// The undone phase of least start. This takes no memory.
+    /// The undone phase of least start. What [`Half::done`] fills was made by [`Half::open`], so nothing grows here, and `alloc`
+    /// isn't asked.
     ///
     /// # Errors
     /// `Stopped` where the channel stopped; else `NoPlan` where no phase of the plan is left.
-    pub fn due(&self) -> Result<Due, DueRefusal>
+    pub fn due(&self, alloc: Global) -> Result<Due, DueRefusal>
+        ensures due { IfOk result (λ due. IsDue self.now.state due) }
+        ensures open { IfOk result (λ due. bus_refusal self.now.state ≡ None) }
+        ensures refused { IfErr result (λ refusal. bus_refusal self.now.state ≡ Some (due_outcome refusal)) }
+    {
+        let _ = alloc;
+        self.next_due()
+    }
+
+    /// As [`Half::due`], without an allocator: for who looks at the next phase and doesn't run it.
+    ///
+    /// # Errors
+    /// As [`Half::due`].
+    pub fn next_due(&self) -> Result<Due, DueRefusal>
         ensures due { IfOk result (λ due. IsDue self.now.state due) }
         ensures open { IfOk result (λ due. bus_refusal self.now.state ≡ None) }
         ensures refused { IfErr result (λ refusal. bus_refusal self.now.state ≡ Some (due_outcome refusal)) }

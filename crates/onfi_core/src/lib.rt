@@ -29,9 +29,9 @@ pub use event::Event;
 pub use half::passing::{ReadyRefusal, WaitRefusal};
 pub use half::{AcceptFault, DueRefusal, Half, PlanRefusal};
 pub use laws::{
-    accepting_reached, batch_reached, events_reach, finish_is_optimal, headline, idle_is,
-    next_behind, nothing_held, opened_is_reached, plain_is_plain, plan_settles, planned_step,
-    posted_in_order, posting_reached, reached_keeps, run_keeps, step_keeps, step_reaches,
+    accepting_reached, batch_reached, events_reach, finish_is_best, headline, idle_is, next_behind,
+    nothing_held, opened_is_reached, plain_is_plain, plan_settles, planned_step, posted_in_order,
+    posting_reached, reached_keeps, run_keeps, step_keeps, step_reaches,
 };
 pub use machine::{Core, CoreFault};
 pub use onfi_lun::{DriveFault, PhaseResult};

@@ -7,7 +7,7 @@ ghost use Rattle.std.specs.List.{AllByRecursion as Each};
 ghost use Rattle.onfi_core.specs.Core.{CoreStep, CoreRun, Did};
 ghost use Rattle.onfi_core.specs.Core.Doing.{SetsBatch};
 ghost use Rattle.onfi_core.specs.State.{ChannelState};
-ghost use Rattle.onfi_core.specs.Steps.{IsOptimal, IsPromised};
+ghost use Rattle.onfi_core.specs.Steps.{IsBest, IsPromised};
 ghost use Rattle.onfi_core.specs.Kept.{IsReached, KeepsPromise};
 ghost use Rattle.onfi_core.specs.Reaching.{Reaches};
 ghost use Rattle.onfi_core.specs.Queues.{IsFresh, AreOpened, opened_with, state_in, states_in};
@@ -123,9 +123,9 @@ impl<C: Chip, P: Planner> Core<C, P> {
 
     /// One event, and what it came to.
     pub fn step(&mut self, alloc: Global, event: Event) -> Outcome
-        ensures step { CoreStep self.old.0 (states_in C.state self.old) event result (states_in C.state self.new) }
+        ensures step { CoreStep (IsPromised P.exact P.certifies) self.old.0 (states_in C.state self.old) event result (states_in C.state self.new) }
         ensures setup { self.new.0 ≡ self.old.0 }
-        ensures by_events { Each (Reaches self.new.0) (states_in C.state self.new) }
+        ensures by_events { Each (Reaches (IsPromised P.exact P.certifies) self.new.0) (states_in C.state self.new) }
         ensures promised { Each (λ c. IfSome c.half.last (IsPromised P.exact P.certifies)) (states_in C.state self.new) }
     {
         self.is_reached();
@@ -139,19 +139,20 @@ impl<C: Chip, P: Planner> Core<C, P> {
         outcome
     }
 
-    /// The events one after another, and what each came to.
+    /// The events one after another, and what each came to. Each plan of them is as the planner promises: of an exact one it is
+    /// optimal, and its certificate is accepted for its finish.
     ///
     /// # Errors
     /// Where memory for the answer was refused: then nothing was done.
     pub fn run(&mut self, alloc: Global, events: Vec<Event>) -> Result<Vec<Outcome>, AllocError>
-        ensures run { IfOk result (λ outcomes. CoreRun self.old.0 (states_in C.state self.old) events.items outcomes.items (states_in C.state self.new)) }
+        ensures run { IfOk result (λ outcomes. CoreRun (IsPromised P.exact P.certifies) self.old.0 (states_in C.state self.old) events.items outcomes.items (states_in C.state self.new)) }
         ensures nothing { OnErr result (self.new ≡ self.old) }
         ensures setup { self.new.0 ≡ self.old.0 }
-        ensures by_events { Each (Reaches self.new.0) (states_in C.state self.new) }
+        ensures by_events { Each (Reaches (IsPromised P.exact P.certifies) self.new.0) (states_in C.state self.new) }
         ensures reached { Each (IsReached self.new.0) (states_in C.state self.new) }
-        ensures keeps { Each (KeepsPromise self.new.0) (states_in C.state self.new) }
+        ensures keeps { Each (KeepsPromise P.exact P.certifies self.new.0) (states_in C.state self.new) }
         ensures promised { Each (λ c. IfSome c.half.last (IsPromised P.exact P.certifies)) (states_in C.state self.new) }
-        ensures optimal { IsTrue P.exact → Each (λ c. IfSome c.half.last IsOptimal) (states_in C.state self.new) }
+        ensures best { IsTrue P.exact → Each (λ c. IfSome c.half.last IsBest) (states_in C.state self.new) }
     {
         self.is_reached();
         let mut outcomes = Vec::with_capacity(alloc, events.len())?;
@@ -165,11 +166,11 @@ impl<C: Chip, P: Planner> Core<C, P> {
 
     // Each channel is one that events reach, and keeps its promise.
     fn is_reached(&self)
-        ensures by_events { Each (Reaches self.now.0) (states_in C.state self.now) }
+        ensures by_events { Each (Reaches (IsPromised P.exact P.certifies) self.now.0) (states_in C.state self.now) }
         ensures reached { Each (IsReached self.now.0) (states_in C.state self.now) }
-        ensures keeps { Each (KeepsPromise self.now.0) (states_in C.state self.now) }
+        ensures keeps { Each (KeepsPromise P.exact P.certifies self.now.0) (states_in C.state self.now) }
         ensures promised { Each (λ c. IfSome c.half.last (IsPromised P.exact P.certifies)) (states_in C.state self.now) }
-        ensures optimal { IsTrue P.exact → Each (λ c. IfSome c.half.last IsOptimal) (states_in C.state self.now) }
+        ensures best { IsTrue P.exact → Each (λ c. IfSome c.half.last IsBest) (states_in C.state self.now) }
     {
         let _setup = self.setup;
     }
@@ -188,7 +189,7 @@ impl<C: Chip, P: Planner> Core<C, P> {
         requires there { channel < self.old.0.channels }
         requires some { 1 ≤ batch }
         requires few { batch ≤ 8 }
-        ensures set { Did self.old.0 (states_in C.state self.old) (SetsBatch channel batch) (states_in C.state self.new) }
+        ensures set { Did (IsPromised P.exact P.certifies) self.old.0 (states_in C.state self.old) (SetsBatch channel batch) (states_in C.state self.new) }
         ensures setup { self.new.0 ≡ self.old.0 }
     {
         let channel = &mut self.channels[usize::from(channel)];

@@ -3,7 +3,7 @@ use Rattle.onfi_core.specs.declared.event.Event.TheVariants as event
 use Rattle.onfi_core.specs.declared.outcome.Outcome.TheVariants as outcome
 use Rattle.onfi_core.specs.State.{ChannelState}
 use Rattle.onfi_core.proofs.Queueing.{collected_is, host_collected, next_collected, outside, queue_there, queues_collected, queues_kept, uncollected_count}
-use Rattle.onfi_core.proofs.Reaching.{step_reaches}
+use Rattle.onfi_core.proofs.Reaching.{any_reaches}
 use Rattle.onfi_core.proofs.Refused.{collect_open, nothing_to_collect, step_does}
 use Rattle.onfi_core.proofs.channel.Channel.collect.Goals as goal
 
@@ -48,7 +48,7 @@ invariant_of-self-2 g c =
     let some : length queue.completions.items ≡ length (r ∷ c.pop_front.new.self.items) = ap length c.in-Some.ensures.items in
     let after : ChannelState = record now { sent = c.with_collected-self-inside.result.accepted; collected = c.with_collected-self-inside.result.posted } in
     let step = step_does f.half.setup now (event.Collect 0 c.from-at.result) (outcome.Collected r) after (collect_open f.half.setup now c.from-at.result 0 known (omega arith)) (r, refl, at, same) in
-    let reached = step_reaches f.half.setup now (event.Collect 0 c.from-at.result) (outcome.Collected r) after i.reached step in
+    let reached = any_reaches f.half.setup now (event.Collect 0 c.from-at.result) (outcome.Collected r) after i.reached step in
     queues_collected f.half.setup _ _ _ _ f.hosts.items _ _ now _ i reached i.lanes_are i.settled refl c.from-at.result queue (record { sent = queue.sent; completions = c.pop_front.new.self }) there refl r (host_collected f.half.setup now c.from-at.result r at) e.0 refl e.2 refl c.in-Some.ensures.items c.pop_front.ensures.capacity
 
 pub returns-clause-step : goal.returns-clause-step

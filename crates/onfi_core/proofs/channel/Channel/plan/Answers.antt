@@ -7,7 +7,7 @@ use Rattle.onfi_core.specs.declared.event.Event.TheVariants as event
 use Rattle.onfi_core.specs.declared.outcome.Outcome.{Outcome}
 use Rattle.onfi_core.specs.Steps.{IsPromised, Step}
 use Rattle.onfi_core.proofs.Queueing.{outside, queues_same}
-use Rattle.onfi_core.proofs.Reaching.{step_reaches}
+use Rattle.onfi_core.proofs.Reaching.{any_reaches}
 use Rattle.onfi_core.proofs.Promised.{planned_last}
 use Rattle.onfi_core.proofs.Running.{after_planning, going_before, nothing_posted, refused_alone}
 use Rattle.onfi_core.proofs.channel.Channel.plan.Goals as goal
@@ -22,7 +22,7 @@ invariant_of-self g c =
     let refused = refused_alone f.half.setup now.half c.plan_by-planned.result c.plan_by-planned.new.self f.half e.refused in
     let step = after_planning f.half.setup now 0 f.half c.plan_by-planned.result c.plan_by-planned.new.self e.planned refused in
     let posted = nothing_posted f.half.setup now f.half c.plan_by-planned.result c.plan_by-planned.new.self e.planned refused in
-    let reached = step_reaches f.half.setup now (event.Plan 0) (planned_outcome c.plan_by-planned.result) after i.reached step in
+    let reached = any_reaches f.half.setup now (event.Plan 0) (planned_outcome c.plan_by-planned.result) after i.reached step in
     let q = queues_same f.half.setup _ c.plan_by-planned.new.self.lent _ _ f.hosts.items _ _ now after i reached (λ going. i.lanes_are (going_before f.half c.plan_by-planned.new.self c.plan_by-planned.result e.planned e.refused going)) refl posted refl e.settled refl in
     rw e.setup q
 

@@ -8,7 +8,7 @@ use Rattle.onfi_core.specs.State.{ChannelState, HalfState}
 use Rattle.onfi_core.specs.Steps.{Step, not_collected}
 use Rattle.onfi_core.specs.View.{HalfView}
 use Rattle.onfi_core.proofs.Queueing.{outside, queue_there, queues_posted, same_queue, uncollected_count}
-use Rattle.onfi_core.proofs.Reaching.{step_reaches}
+use Rattle.onfi_core.proofs.Reaching.{any_reaches}
 use Rattle.onfi_core.proofs.Refused.{post_full, post_open, step_does}
 use Rattle.onfi_core.proofs.channel.Channel.post.Goals as goal
 
@@ -71,7 +71,7 @@ invariant_of-self-2 g c =
     let goes = rw lent at c.posted.ensures.posted in
     let after : ChannelState = record now { half = c.posted.new.self.state } in
     let step : (n : ℕ) → Step f.half.setup now (event.Post n c.args.host) (outcome.Posted r.place) after = λ channel. step_does f.half.setup now (event.Post channel c.args.host) (outcome.Posted r.place) after (post_open f.half.setup now c.args.host channel known r c.in-Some.ensures.oldest room) (r, c.posted.new.self.state, refl, goes, refl) in
-    let reached = step_reaches f.half.setup now (event.Post 0 c.args.host) (outcome.Posted r.place) after i.reached (step 0) in
+    let reached = any_reaches f.half.setup now (event.Post 0 c.args.host) (outcome.Posted r.place) after i.reached (step 0) in
     let there' = queue_there f.hosts.items c.from-at.result c.from-at.result c.index_mut.result.now within c.index_mut.ensures.value refl in
     let setup = c.posted.ensures.setup ∙ ap (λ (v : HalfView). v.setup) lent in
     let p = ap (λ (h : HalfState). h.posted) goes.after in

@@ -5,7 +5,7 @@ use Rattle.onfi_core.specs.declared.setup.Setup.{Setup}
 use Rattle.onfi_core.specs.State.{ChannelState}
 use Rattle.onfi_core.specs.Steps.{Step, fault_of, refusal}
 use Rattle.onfi_core.proofs.Queueing.{outside, outside_same, queue_there, queues_sent, submitted_is}
-use Rattle.onfi_core.proofs.Reaching.{step_reaches}
+use Rattle.onfi_core.proofs.Reaching.{any_reaches}
 use Rattle.onfi_core.proofs.Refused.{serials_spent, step_does, submit_full, submit_open}
 use Rattle.onfi_core.proofs.channel.Channel.submit.Goals as goal
 
@@ -57,7 +57,7 @@ invariant_of-self g c =
     let same = submitted_is now c.args.host serial c.args.request c.with_accepted-self-inside.result.accepted c.push_back_reserved.new.self.items c.with_accepted-self-inside.result.posted numbered e.0 c.push_back_reserved.ensures.items e.2 in
     let after : ChannelState = record now { sent = c.with_accepted-self-inside.result.accepted; waiting = c.push_back_reserved.new.self.items; collected = c.with_accepted-self-inside.result.posted } in
     let step : (n : ℕ) → Step f.half.setup now (event.Submit c.args.host n c.args.request) (outcome.Submitted serial) after = λ channel. step_does f.half.setup now (event.Submit c.args.host channel c.args.request) (outcome.Submitted serial) after (open' channel) (ap outcome.Submitted numbered, same) in
-    let reached = step_reaches f.half.setup now (event.Submit c.args.host 0 c.args.request) (outcome.Submitted serial) after i.reached (step 0) in
+    let reached = any_reaches f.half.setup now (event.Submit c.args.host 0 c.args.request) (outcome.Submitted serial) after i.reached (step 0) in
     let queue = c.index_mut.result.now in
     let there' = queue_there f.hosts.items c.from-at.result c.from-at.result queue within c.index_mut.ensures.value refl in
     queues_sent f.half.setup _ _ _ _ f.hosts.items _ _ now after i reached i.lanes_are i.settled c.push_back_reserved.ensures.capacity c.from-at.result queue (record { sent = queue.sent + 1; completions = queue.completions }) there' refl

@@ -5,7 +5,7 @@ use Rattle.onfi_core.specs.declared.event.Event.TheVariants as event
 use Rattle.onfi_core.specs.declared.outcome.Outcome.{Outcome}
 use Rattle.onfi_core.specs.Steps.{Step}
 use Rattle.onfi_core.proofs.Queueing.{outside, queues_same}
-use Rattle.onfi_core.proofs.Reaching.{step_reaches}
+use Rattle.onfi_core.proofs.Reaching.{any_reaches}
 use Rattle.onfi_core.proofs.Refused.{after_waiting, waiting_posts, waiting_stops}
 use Rattle.onfi_core.proofs.channel.Channel.wait.Goals as goal
 
@@ -20,7 +20,7 @@ invariant_of-self g c =
     let step = after_waiting f.half.setup now 0 c.args.moment f.half new c.wait-waited.result refl e.waited e.refused e.unchanged in
     let posted = waiting_posts f.half.setup now c.args.moment f.half new c.wait-waited.result refl e.waited e.unchanged in
     let stopped = waiting_stops f.half.setup now c.args.moment f.half new c.wait-waited.result refl e.waited e.unchanged in
-    let reached = step_reaches f.half.setup now (event.Wait 0 c.args.moment) (waited_outcome c.wait-waited.result) after i.reached step in
+    let reached = any_reaches f.half.setup now (event.Wait 0 c.args.moment) (waited_outcome c.wait-waited.result) after i.reached step in
     let q = queues_same f.half.setup _ new.lent _ _ f.hosts.items _ _ now after i reached (λ going. i.lanes_are (sym stopped ∙ going)) refl posted refl e.settled refl in
     rw e.setup q
 

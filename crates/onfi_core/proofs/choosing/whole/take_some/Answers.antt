@@ -1,4 +1,4 @@
-use Rattle.std.proofs.Common.{◌≡◌, ◌<◌, arith}
+use Rattle.std.proofs.Common.{◌<◌, arith}
 use Rattle.onfi_core.proofs.Wholes.{some_taken}
 use Rattle.onfi_core.proofs.choosing.whole.take_some.Goals as goal
 

@@ -1,4 +1,4 @@
-use Rattle.std.proofs.Common.{◌≡◌, ◌<◌, false, length, refl, true, arith}
+use Rattle.std.proofs.Common.{◌≡◌, false, refl, true, arith}
 use Rattle.onfi_core.proofs.Renewing.{none_more, none_start, one_starts}
 use Rattle.onfi_core.proofs.half.renewing.one_may_start.Goals as goal
 

@@ -2,7 +2,7 @@ use Rattle.std.proofs.Common.{◌≡◌, None, subst}
 use Rattle.onfi_flight.specs.Flight.{Tells}
 use Rattle.onfi_core.proofs.Becoming.{due_outside, none_outside, open_outside}
 use Rattle.onfi_core.proofs.Halves.{sound_flight}
-use Rattle.onfi_core.proofs.half.Half.due.Goals as goal
+use Rattle.onfi_core.proofs.half.Half.next_due.Goals as goal
 
 pub unreachable-requires : goal.unreachable-requires
 unreachable-requires c = c.due.ensures.legal (sound_flight c.self.inside.setup _ c.self.invariant.sound) c.in-Illegal.is
