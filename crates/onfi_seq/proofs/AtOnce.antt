@@ -1,5 +1,6 @@
 -- Turns and drainings at the greatest moment: no time passes in them.
 use Rattle.std.proofs.Common.{◌≡◌, ℕ, ◌-◌, ◌^◌, ◌<◌, inl, inr, List, [], ◌∷◌, subst, arith}
+use Rattle.onfi_core.specs.State.{Planning}
 use Rattle.onfi_queue.specs.Ends.{HostView}
 use Rattle.onfi_reply.specs.Ends.{InboxView}
 use Rattle.onfi_seq.specs.declared.drained.DrainedAt.{DrainedAt}
@@ -44,16 +45,16 @@ goes_now q answer q' t until is = waits_never q q' until (subst (λ (a : TurnAt)
 
 -- Drainings
 
-made_at_once : (q : Seen) (answers : List TurnAt) (q' : Seen) → MakesBy (Turned greatest) q answers q' → MakesBy TurnedAtOnce q answers q'
-made_at_once q [] q' same = same
-made_at_once q (answer ∷ answers) q' (mid, made, on, turned) = (mid, made_at_once q answers mid made, on, turned_at_once mid answer q' turned)
+made_at_once : (Such : Planning → Type 0) (q : Seen) (answers : List TurnAt) (q' : Seen) → MakesBy Such (Turned greatest) q answers q' → MakesBy Such TurnedAtOnce q answers q'
+made_at_once Such q [] q' same = same
+made_at_once Such q (answer ∷ answers) q' (mid, made, on, turned, such) = (mid, made_at_once Such q answers mid made, on, turned_at_once mid answer q' turned, such)
 
-module _ (q : Seen) (hosts : List HostView) (inboxes : List InboxView) (turns : ℕ) (end : DrainedAt) (q' : Seen) (inboxes' : List InboxView) (d : Drains greatest q hosts inboxes turns end q' inboxes') where
-  pub drained_at_once : DrainsBy TurnedAtOnce q hosts inboxes turns end q' inboxes'
+module _ (Such : Planning → Type 0) (q : Seen) (hosts : List HostView) (inboxes : List InboxView) (turns : ℕ) (end : DrainedAt) (q' : Seen) (inboxes' : List InboxView) (d : Drains Such greatest q hosts inboxes turns end q' inboxes') where
+  pub drained_at_once : DrainsBy Such TurnedAtOnce q hosts inboxes turns end q' inboxes'
   drained_at_once = record {
     answers = d.answers;
     last = d.last;
-    ran = made_at_once q d.answers d.last d.ran;
+    ran = made_at_once Such q d.answers d.last d.ran;
     few = d.few;
     refused = d.refused;
     counted = d.counted;
@@ -61,9 +62,9 @@ module _ (q : Seen) (hosts : List HostView) (inboxes : List InboxView) (turns : 
     after = d.after;
   }
 
-  none_waits : (until : ℕ) (answers : List TurnAt) (last : Seen) → MakesBy (Turned greatest) q answers last → IsLast (turn.Waits until) answers → ⊥
+  none_waits : (until : ℕ) (answers : List TurnAt) (last : Seen) → MakesBy Such (Turned greatest) q answers last → IsLast (turn.Waits until) answers → ⊥
   none_waits until [] last made waits = waits
-  none_waits until (answer ∷ answers) last (mid, made, on, turned) is = waits_never mid last until (subst (λ (a : TurnAt). Turned greatest mid a last) is turned)
+  none_waits until (answer ∷ answers) last (mid, made, on, turned, such) is = waits_never mid last until (subst (λ (a : TurnAt). Turned greatest mid a last) is turned)
 
   pub ends_now : EndsNow end
   ends_now until is =

@@ -9,7 +9,8 @@ use Rattle.onfi_reply.specs.Ends.{InboxView, TookIn, after_refusing}
 use Rattle.onfi_seq.specs.declared.drained.DrainedAt.{DrainedAt}
 use Rattle.onfi_seq.specs.declared.drained.DrainedAt.TheVariants as drained
 use Rattle.onfi_seq.specs.declared.turn.TurnAt.{TurnAt}
-use Rattle.onfi_seq.specs.Drained.{AreAccepted, AreNextBehind, Drains, EndsAs, EndsBefore, EndsBehind, GoesOn, HasGrown, HaveGrown, MakesBy, ends_it, left_by, refusals_of}
+use Rattle.onfi_core.specs.State.{Planning}
+use Rattle.onfi_seq.specs.Drained.{AreAccepted, AreNextBehind, Drains, EndsAs, EndsBefore, EndsBehind, GoesOn, HasGrown, HaveGrown, MakesBy, TurnPlans, ends_it, left_by, refusals_of}
 use Rattle.onfi_seq.proofs.Same.{same_channel_all, short_by_memory}
 use Rattle.onfi_seq.specs.Sequencer.{AreCounts, IsRight, IsSameChannel, Seen, SequencerFields}
 use Rattle.onfi_seq.specs.Turned.{Turned}
@@ -129,9 +130,9 @@ same_channel_none : (q : Seen) → IsSameChannel q q
 same_channel_none q = record { setup = refl; faults = refl; intake = refl; posters = refl }
 
 -- so many turns were made, on the same channel, and the inboxes took in
-pub record Draining (now : ℕ) (q : Seen) (inboxes : List InboxView) (made : ℕ) (q' : Seen) (inboxes' : List InboxView) : Type 0 where
+pub record Draining (Such : Planning → Type 0) (now : ℕ) (q : Seen) (inboxes : List InboxView) (made : ℕ) (q' : Seen) (inboxes' : List InboxView) : Type 0 where
   pub answers : List TurnAt
-  pub ran : MakesBy (Turned now) q answers q'
+  pub ran : MakesBy Such (Turned now) q answers q'
   pub count : length answers ≡ made
   pub on : GoesOn answers q'.0.half
   pub same : IsSameChannel q q'
@@ -139,8 +140,8 @@ pub record Draining (now : ℕ) (q : Seen) (inboxes : List InboxView) (made : �
   pub grown : HaveGrown inboxes inboxes'
   pub taken : refusals_of inboxes' ≡ refusals_of inboxes
 
-pub draining_first : (now : ℕ) (q : Seen) (inboxes : List InboxView) → Draining now q inboxes 0 q inboxes
-draining_first now q inboxes = record {
+pub draining_first : (Such : Planning → Type 0) (now : ℕ) (q : Seen) (inboxes : List InboxView) → Draining Such now q inboxes 0 q inboxes
+draining_first Such now q inboxes = record {
   answers = [];
   ran = refl;
   count = refl;
@@ -154,8 +155,8 @@ draining_first now q inboxes = record {
 marked : (q : Seen) → q.0.short ≡ true → q ≡ left_by drained.Memory q
 marked q short = ap (λ (b : Bool). let z : Seen = (record q.0 { short = b }, q.1) in z) short
 
-module _ (now : ℕ) (q : Seen) (inboxes : List InboxView) (made : ℕ) (q' : Seen) (inboxes' : List InboxView) (so_far : Draining now q inboxes made q' inboxes') where
-  pub draining_taken : (inboxes'' : List InboxView) → HaveGrown inboxes' inboxes'' → refusals_of inboxes'' ≡ refusals_of inboxes' → Draining now q inboxes made q' inboxes''
+module _ (Such : Planning → Type 0) (now : ℕ) (q : Seen) (inboxes : List InboxView) (made : ℕ) (q' : Seen) (inboxes' : List InboxView) (so_far : Draining Such now q inboxes made q' inboxes') where
+  pub draining_taken : (inboxes'' : List InboxView) → HaveGrown inboxes' inboxes'' → refusals_of inboxes'' ≡ refusals_of inboxes' → Draining Such now q inboxes made q' inboxes''
   draining_taken inboxes'' more none = record {
     answers = so_far.answers;
     ran = so_far.ran;
@@ -167,13 +168,13 @@ module _ (now : ℕ) (q : Seen) (inboxes : List InboxView) (made : ℕ) (q' : Se
     taken = none ∙ so_far.taken;
   }
 
-  pub draining_turned : (answer : TurnAt) (q'' : Seen) → Turned now q' answer q'' → IsSameChannel q' q'' → (q'.0.short ≡ true → q''.0.short ≡ true) → ends_it answer q''.0.half ≡ false
-      → Draining now q inboxes (made + 1) q'' inboxes'
-  draining_turned answer q'' turned same still on =
+  pub draining_turned : (answer : TurnAt) (q'' : Seen) → Turned now q' answer q'' → TurnPlans Such answer q'' → IsSameChannel q' q'' → (q'.0.short ≡ true → q''.0.short ≡ true) → ends_it answer q''.0.half ≡ false
+      → Draining Such now q inboxes (made + 1) q'' inboxes'
+  draining_turned answer q'' turned such same still on =
       let count = so_far.count in
       record {
         answers = answer ∷ so_far.answers;
-        ran = (q', so_far.ran, so_far.on, turned);
+        ran = (q', so_far.ran, so_far.on, turned, such);
         count = omega arith;
         on = on;
         same = same_channel_all q q' q'' so_far.same same;
@@ -188,20 +189,20 @@ module _ (now : ℕ) (q : Seen) (inboxes : List InboxView) (made : ℕ) (q' : Se
 
   -- ended so before a turn
   drains_so : (hosts : List HostView) (turns : ℕ) (end : DrainedAt) → made ≤ turns → EndsAs end q'.0.half hosts turns so_far.answers 0 → q' ≡ left_by end q'
-      → Drains now q hosts inboxes turns end q' inboxes'
+      → Drains Such now q hosts inboxes turns end q' inboxes'
   drains_so hosts turns end few ends after =
       let count = so_far.count in
       let taken = so_far.taken in
       record { answers = so_far.answers; last = q'; ran = so_far.ran; few = omega (arith, count, few); refused = 0; counted = omega (arith, taken); ends = ends; after = after }
 
-  pub drains_here : (hosts : List HostView) (turns : ℕ) (end : DrainedAt) → made ≤ turns → EndsBefore end q'.0.half hosts turns made → Drains now q hosts inboxes turns end q' inboxes'
+  pub drains_here : (hosts : List HostView) (turns : ℕ) (end : DrainedAt) → made ≤ turns → EndsBefore end q'.0.half hosts turns made → Drains Such now q hosts inboxes turns end q' inboxes'
   drains_here hosts turns drained.Empty few ends = drains_so hosts turns drained.Empty few (so_far.on, ends, refl) refl
   drains_here hosts turns drained.TurnsSpent few ends = drains_so hosts turns drained.TurnsSpent few (so_far.on, so_far.count ∙ ends.0, ends.1, refl) refl
   drains_here hosts turns _ few ends = absurd ends
 
   -- ended since a taking in was refused
   pub drains_refused : (hosts : List HostView) (turns : ℕ) (q'' : Seen) (inboxes'' : List InboxView) → made ≤ turns → refusals_of inboxes'' ≡ refusals_of inboxes' + 1 → q'' ≡ left_by drained.Memory q'
-      → Drains now q hosts inboxes turns drained.Memory q'' inboxes''
+      → Drains Such now q hosts inboxes turns drained.Memory q'' inboxes''
   drains_refused hosts turns q'' inboxes'' few more after =
       let count = so_far.count in
       record {
@@ -216,15 +217,15 @@ module _ (now : ℕ) (q : Seen) (inboxes : List InboxView) (made : ℕ) (q' : Se
       }
 
   -- ended so after a turn
-  drains_then : (hosts : List HostView) (turns : ℕ) (answer : TurnAt) (q'' : Seen) (end : DrainedAt) → made < turns → Turned now q' answer q''
-      → EndsAs end q''.0.half hosts turns (answer ∷ so_far.answers) 0 → q'' ≡ left_by end q'' → Drains now q hosts inboxes turns end q'' inboxes'
-  drains_then hosts turns answer q'' end few turned ends after =
+  drains_then : (hosts : List HostView) (turns : ℕ) (answer : TurnAt) (q'' : Seen) (end : DrainedAt) → made < turns → Turned now q' answer q'' → TurnPlans Such answer q''
+      → EndsAs end q''.0.half hosts turns (answer ∷ so_far.answers) 0 → q'' ≡ left_by end q'' → Drains Such now q hosts inboxes turns end q'' inboxes'
+  drains_then hosts turns answer q'' end few turned such ends after =
       let count = so_far.count in
       let taken = so_far.taken in
       record {
         answers = answer ∷ so_far.answers;
         last = q'';
-        ran = (q', so_far.ran, so_far.on, turned);
+        ran = (q', so_far.ran, so_far.on, turned, such);
         few = omega (arith, count, few);
         refused = 0;
         counted = omega (arith, taken);
@@ -232,22 +233,22 @@ module _ (now : ℕ) (q : Seen) (inboxes : List InboxView) (made : ℕ) (q' : Se
         after = after;
       }
 
-  pub drains_behind : (hosts : List HostView) (turns : ℕ) (answer : TurnAt) (q'' : Seen) (end : DrainedAt) → made < turns → Turned now q' answer q'' → EndsBehind end answer q''.0.half
-      → Drains now q hosts inboxes turns end q'' inboxes'
-  drains_behind hosts turns answer q'' (drained.Stopped cause) few turned ends = drains_then hosts turns answer q'' (drained.Stopped cause) few turned (ends, refl) refl
-  drains_behind hosts turns answer q'' (drained.Waits until) few turned ends = drains_then hosts turns answer q'' (drained.Waits until) few turned (ends, refl) refl
-  drains_behind hosts turns answer q'' (drained.Over opened) few turned ends =
-      drains_then hosts turns answer q'' (drained.Over opened) few turned (ends.0, ends.1, refl) refl
-  drains_behind hosts turns answer q'' drained.Memory few turned ends =
+  pub drains_behind : (hosts : List HostView) (turns : ℕ) (answer : TurnAt) (q'' : Seen) (end : DrainedAt) → made < turns → Turned now q' answer q'' → TurnPlans Such answer q'' → EndsBehind end answer q''.0.half
+      → Drains Such now q hosts inboxes turns end q'' inboxes'
+  drains_behind hosts turns answer q'' (drained.Stopped cause) few turned such ends = drains_then hosts turns answer q'' (drained.Stopped cause) few turned such (ends, refl) refl
+  drains_behind hosts turns answer q'' (drained.Waits until) few turned such ends = drains_then hosts turns answer q'' (drained.Waits until) few turned such (ends, refl) refl
+  drains_behind hosts turns answer q'' (drained.Over opened) few turned such ends =
+      drains_then hosts turns answer q'' (drained.Over opened) few turned such (ends.0, ends.1, refl) refl
+  drains_behind hosts turns answer q'' drained.Memory few turned such ends =
       let short = short_by_memory now q' q'' (subst (λ (x : TurnAt). Turned now q' x q'') ends.0 turned) in
-      drains_then hosts turns answer q'' drained.Memory few turned (inl (ends.0, ends.1, refl)) (marked q'' short)
-  drains_behind hosts turns answer q'' _ few turned ends = absurd ends
+      drains_then hosts turns answer q'' drained.Memory few turned such (inl (ends.0, ends.1, refl)) (marked q'' short)
+  drains_behind hosts turns answer q'' _ few turned such ends = absurd ends
 
 -- the mark of refused memory changes neither what always holds nor the channel
-pub right_marked : (q q' : Seen) → q' ≡ left_by drained.Memory q → IsRight q → IsRight q'
-right_marked q q' is right =
-    let here : IsRight (left_by drained.Memory q) = record { accepted = right.accepted; posters = right.posters; posted = right.posted; rightful = right.rightful; made = right.made; reached = right.reached } in
-    subst IsRight (sym is) here
+pub right_marked : (Such : Planning → Type 0) (q q' : Seen) → q' ≡ left_by drained.Memory q → IsRight Such q → IsRight Such q'
+right_marked Such q q' is right =
+    let here : IsRight Such (left_by drained.Memory q) = record { accepted = right.accepted; posters = right.posters; posted = right.posted; rightful = right.rightful; made = right.made; reached = right.reached } in
+    subst (IsRight Such) (sym is) here
 
 pub same_marked : (q q' : Seen) → q' ≡ left_by drained.Memory q → IsSameChannel q q'
 same_marked q q' is = subst (IsSameChannel q) (sym is) (record { setup = refl; faults = refl; intake = refl; posters = refl })

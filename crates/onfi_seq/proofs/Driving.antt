@@ -50,9 +50,8 @@ driven_opened Such s h chip lanes is fresh agree =
     let here : ChannelState = quiet (first_half s) chip in
     let opened : IsDriven Such s None (first_half s) chip lanes = record {
       settled = refl;
-      reached = opened_reaches s here (chip.faults, chip.failures, ap (λ (x : Chip). quiet (first_half s) x) fresh);
+      reached = opened_reaches Such s here (chip.faults, chip.failures, ap (λ (x : Chip). quiet (first_half s) x) fresh);
       lanes_are = λ going. agree chip (ap (λ (x : Chip). x.luns) fresh);
-      last = tt;
     } in
     subst (λ (v : HalfView). IsDriven Such v.setup v.lent v.state chip lanes) (sym is) opened
 
@@ -65,8 +64,8 @@ module _ {C : Type 0} where
   outside state P inside now is h = subst (λ (x : DriverView C). P x.0 (state x.1)) is h
 
 -- what is due is what starts next
-pub starts_next : (s : Setup) (h : HalfState) (chip : Chip) → Reaches s (quiet h chip) → (due : Due) → IsDue h due → StartsNext h due.start
-starts_next s h chip reached due is = record { move = move_of due; left = left_behind h.left due; next = is.next (events_reach s (quiet h chip) reached).half.sound.legal }
+pub starts_next : (Such : Planning → Type 0) (s : Setup) (h : HalfState) (chip : Chip) → Reaches Such s (quiet h chip) → (due : Due) → IsDue h due → StartsNext h due.start
+starts_next Such s h chip reached due is = record { move = move_of due; left = left_behind h.left due; next = is.next (events_reach Such s (quiet h chip) reached).0.half.sound.legal }
 
 -- .. and was due where it ran
 pub runs_by : (now : ℕ) (h : HalfState) (start : ℕ) (result : Ran) → StartsNext h start → start ≤ now → IsAt start result → RunsBy now h result
@@ -81,17 +80,15 @@ runs_by now h start ran.NoPhase next low e = absurd e
 pub driven_accepting : (Such : Planning → Type 0) (s : Setup) (lent : Option Reply) (h : HalfState) (chip : Chip) (lanes : List AnyLun) (x : Item) → accept_refusal h ≡ None → IsHostsNext s h x → IsDriven Such s lent h chip lanes → IsDriven Such s lent (accepting h x) chip lanes
 driven_accepting Such s lent h chip lanes x room next driven = record {
   settled = driven.settled;
-  reached = (accepting_reached s h chip x room next).1 driven.reached;
+  reached = (accepting_reached Such s h chip x room next).1 driven.reached;
   lanes_are = driven.lanes_are;
-  last = driven.last;
 }
 
 pub driven_batch : (Such : Planning → Type 0) (s : Setup) (lent : Option Reply) (h : HalfState) (chip : Chip) (lanes : List AnyLun) (batch : ℕ) → 1 ≤ batch → batch ≤ 8 → IsDriven Such s lent h chip lanes → IsDriven Such s lent (record h { batch = batch }) chip lanes
 driven_batch Such s lent h chip lanes batch some few driven = record {
   settled = driven.settled;
-  reached = (batch_reached s (quiet h chip) batch some few).1 driven.reached;
+  reached = (batch_reached Such s (quiet h chip) batch some few).1 driven.reached;
   lanes_are = driven.lanes_are;
-  last = driven.last;
 }
 
 -- Planning
@@ -110,12 +107,12 @@ planning_step old h chip channel result planned why =
 
 pub driven_planned : (Such : Planning → Type 0) (old h : HalfView) (chip : Chip) (lanes : List AnyLun) (result : Result ℕ PlanRefusal) → IsDriven Such old.setup old.lent old.state chip lanes → PlannedAs old h result → IfOk result (λ _. IfSome h.state.last Such) → RefusedAs old h result → h.lent ≡ None → h.setup ≡ old.setup → IsDriven Such h.setup h.lent h.state chip lanes
 driven_planned Such old h chip lanes result driven planned new why settled setup =
-    let reached = step_reaches old.setup (quiet old.state chip) (event.Plan 0) (planned_outcome result) (quiet h.state chip) driven.reached (planning_step old h chip 0 result planned why) in
+    let last = planned_last Such old.setup old.state result h.state new (refused_alone old.setup old.state result h old why) (events_reach Such old.setup (quiet old.state chip) driven.reached).1 in
+    let reached = step_reaches Such old.setup (quiet old.state chip) (event.Plan 0) (planned_outcome result) (quiet h.state chip) driven.reached (planning_step old h chip 0 result planned why) (λ _ _. last) in
     record {
       settled = settled;
-      reached = subst (λ (s : Setup). Reaches s (quiet h.state chip)) (sym setup) reached;
+      reached = subst (λ (s : Setup). Reaches Such s (quiet h.state chip)) (sym setup) reached;
       lanes_are = λ going. driven.lanes_are (going_before old h result planned why going);
-      last = planned_last Such old.setup old.state result h.state new (refused_alone old.setup old.state result h old why) driven.last;
     }
 
 -- Phases
@@ -147,32 +144,31 @@ pub driven_ran : (Such : Planning → Type 0) (old new : HalfView) (chip chip' :
     → ((c : ChannelState) (n : ℕ) → Step old.setup (channel_with c old.state chip) (event.Bus n) o (channel_with c new.state chip')) → (new.state.stopped ≡ None → LanesAgree chip' lanes')
     → IsDriven Such old.setup old.lent old.state chip lanes → IsDriven Such new.setup new.lent new.state chip' lanes'
 driven_ran Such old new chip chip' lanes lanes' o kept step agree driven =
-    let reached = step_reaches old.setup (quiet old.state chip) (event.Bus 0) o (quiet new.state chip') driven.reached (phase_step old new chip chip' 0 o kept step) in
+    let last = subst (λ (l : Option Planning). IfSome l Such) (sym kept.last) (events_reach Such old.setup (quiet old.state chip) driven.reached).1 in
+    let reached = step_reaches Such old.setup (quiet old.state chip) (event.Bus 0) o (quiet new.state chip') driven.reached (phase_step old new chip chip' 0 o kept step) (λ _ _. last) in
     record {
       settled = kept.lent ∙ driven.settled;
-      reached = subst (λ (s : Setup). Reaches s (quiet new.state chip')) (sym kept.setup) reached;
+      reached = subst (λ (s : Setup). Reaches Such s (quiet new.state chip')) (sym kept.setup) reached;
       lanes_are = agree;
-      last = subst (λ (l : Option Planning). IfSome l Such) (sym kept.last) driven.last;
     }
 
 -- Posts
 
-module _ (s : Setup) (h : HalfState) (chip : Chip) (reached : Reaches s (quiet h chip)) (host : ℕ) (r : Reply) where
+module _ (Such : Planning → Type 0) (s : Setup) (h : HalfState) (chip : Chip) (reached : Reaches Such s (quiet h chip)) (host : ℕ) (r : Reply) where
   pub may_post : (p : PosterView) → IsOldest host h.held r → p.opened.host ≡ host → p.opened.geometry ≡ s.geometry → p.posted ≡ filter (is_to host) h.posted → IsNext p.opened p.posted r
   may_post p oldest host_is geometry posted =
       let after : HalfState = record h { held = oldest.before ++ oldest.behind; posted = h.posted ++ r ∷ [] } in
       let goes : GoesOut h after host r = record { before = oldest.before; behind = oldest.behind; held = oldest.is; oldest = oldest.none; own = oldest.own; after = refl } in
-      let right = next_behind s (quiet h chip) after host r (events_reach s (quiet h chip) reached) goes in
+      let right = next_behind s (quiet h chip) after host r (events_reach Such s (quiet h chip) reached).0 goes in
       let here = subst (λ (x : Geometry). AreRightfulIn x r (filter (is_to host) h.posted ++ r ∷ [])) (sym geometry) right in
       record {
         host = oldest.own ∙ sym host_is;
         rightful = subst (λ (rs : List Reply). AreRightfulIn p.opened.geometry r (rs ++ r ∷ [])) (sym posted) here;
       }
 
-  pub driven_posted : (Such : Planning → Type 0) (lent : Option Reply) (h' : HalfState) (lanes : List AnyLun) → GoesOut h h' host r → lent ≡ None → (h.stopped ≡ None → LanesAgree chip lanes) → IfSome h.last Such → IsDriven Such s lent h' chip lanes
-  driven_posted Such lent h' lanes goes settled agree last = record {
+  pub driven_posted : (lent : Option Reply) (h' : HalfState) (lanes : List AnyLun) → GoesOut h h' host r → lent ≡ None → (h.stopped ≡ None → LanesAgree chip lanes) → IsDriven Such s lent h' chip lanes
+  driven_posted lent h' lanes goes settled agree = record {
     settled = settled;
-    reached = (posting_reached s h h' chip host r goes).1 reached;
+    reached = (posting_reached Such s h h' chip host r goes).1 reached;
     lanes_are = λ going. agree (sym (ap (λ (x : HalfState). x.stopped) goes.after) ∙ going);
-    last = subst (λ (x : HalfState). IfSome x.last Such) (sym goes.after) last;
   }

@@ -8,12 +8,14 @@ use Rattle.onfi_chip.specs.Chip.{Chip}
 use Rattle.onfi_problem.proofs.Places.{get_within, length_set}
 use Rattle.onfi_core.specs.declared.setup.Setup.{Setup}
 use Rattle.onfi_core.specs.Kept.{first_half}
-use Rattle.onfi_core.specs.State.{HalfState, is_from, is_to}
+use Rattle.onfi_core.specs.State.{HalfState, Planning, is_from, is_to}
 use Rattle.onfi_core.specs.Steps.{GoesOut}
+use Rattle.onfi_seq.specs.declared.turn.TurnAt.{TurnAt}
+use Rattle.onfi_seq.specs.Drained.{TurnPlans}
 use Rattle.onfi_core.specs.View.{accepting}
 use Rattle.onfi_core.specs.Reaching.{Reaches}
 use Rattle.onfi_core.proofs.Opening.{same_element}
-use Rattle.onfi_core.proofs.Promise.{promise}
+use Rattle.onfi_core.proofs.Promise.{rightful_reached}
 use Rattle.onfi_core.proofs.Reaching.{events_reach}
 use Rattle.onfi_core.proofs.Hosted.{from_other, from_own, to_other, to_own}
 use Rattle.onfi_core.proofs.Lists.{each_set, set_self}
@@ -175,14 +177,18 @@ kept_offered q counts host p offer.Nothing h p' kept at (same, is, none) = kept_
 
 -- What always holds
 
-pub right_is : (q : Seen) (counts : List ℕ) → IsKept q.0 counts → Reaches q.0.setup (channel_of q) → IsRight q
-right_is q counts kept reached =
-    let keeps = promise q.0.setup (channel_of q) (events_reach q.0.setup (channel_of q) reached) in
+pub right_is : (Such : Planning → Type 0) (q : Seen) (counts : List ℕ) → IsKept q.0 counts → Reaches Such q.0.setup (channel_of q) → IsRight Such q
+right_is Such q counts kept reached =
+    let keeps = (events_reach Such q.0.setup (channel_of q) reached).0 in
     record {
       accepted = kept.accepted;
       posters = kept.posters;
       posted = λ host p there. (kept.each host p there).posted;
-      rightful = keeps.rightful;
-      made = keeps.made;
+      rightful = rightful_reached q.0.setup (channel_of q) keeps;
+      made = keeps.half.made;
       reached = reached;
     }
+
+-- the last plan is such, whatever the turn before it did
+pub right_plans : (Such : Planning → Type 0) (answer : TurnAt) (q : Seen) → IsRight Such q → TurnPlans Such answer q
+right_plans Such answer q right planned = (events_reach Such q.0.setup (channel_of q) right.reached).1

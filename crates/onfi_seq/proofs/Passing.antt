@@ -26,7 +26,7 @@ use Rattle.onfi_core.specs.Steps.{Step, has_begun, is_current, is_empty, is_sett
 use Rattle.onfi_flight.specs.Times.{later_group, later_starts}
 use Rattle.onfi_core.specs.View.{HalfView, WantsBy}
 use Rattle.onfi_core.proofs.HeldFor.{is_nil}
-use Rattle.onfi_core.proofs.Reaching.{step_reaches}
+use Rattle.onfi_core.proofs.Reaching.{events_reach, step_reaches}
 use Rattle.onfi_core.proofs.Rooms.{few_places, places_idle}
 use Rattle.onfi_core.proofs.Refused.{after_waiting, finds_ready, waiting_posts}
 use Rattle.std.proofs.lemmas.Bool.{cases_Bool}
@@ -73,13 +73,13 @@ module _ (old new : HalfView) (chip : Chip) (now : ℕ) (result : Result ℕ Wai
       → new.lent ≡ None → new.setup ≡ old.setup → IsDriven Such new.setup new.lent new.state chip lanes
   driven_waited Such lanes driven settled setup =
       let same = going_still result done unchanged in
-      let reached = step_reaches old.setup (quiet old.state chip) (event.Wait 0 now) (waited_outcome result) (quiet new.state chip)
-      driven.reached (waiting_step 0) in
+      let last = subst (λ x. IfSome x Such) (sym same.1) (events_reach Such old.setup (quiet old.state chip) driven.reached).1 in
+      let reached = step_reaches Such old.setup (quiet old.state chip) (event.Wait 0 now) (waited_outcome result) (quiet new.state chip)
+      driven.reached (waiting_step 0) (λ _ _. last) in
       record {
         settled = settled;
-        reached = subst (λ (s : Setup). Reaches s (quiet new.state chip)) (sym setup) reached;
+        reached = subst (λ (s : Setup). Reaches Such s (quiet new.state chip)) (sym setup) reached;
         lanes_are = λ going. driven.lanes_are (sym same.0 ∙ going);
-        last = subst (λ x. IfSome x Such) (sym same.1) driven.last;
       }
 
   waits_by : (r : Result ℕ WaitRefusal) → WaitedAs old new now r
@@ -195,13 +195,13 @@ module _ (old new : HalfView) (chip chip' : Chip) (lun : ℕ) (open' : ready_ref
   pub driven_readied : (Such : Planning → Type 0) (lanes lanes' : List AnyLun) → IsDriven Such old.setup old.lent old.state chip lanes → LanesAgree chip' lanes'
       → IsDriven Such new.setup new.lent new.state chip' lanes'
   driven_readied Such lanes lanes' driven agree =
-      let reached = step_reaches old.setup (quiet old.state chip) (event.Ready 0 lun) (outcome.ReadyFrom (ready_of lun old.state))
-      (quiet new.state chip') driven.reached (ready_step 0) in
+      let last = subst (λ (v : HalfView). IfSome v.state.last Such) (sym is) (events_reach Such old.setup (quiet old.state chip) driven.reached).1 in
+      let reached = step_reaches Such old.setup (quiet old.state chip) (event.Ready 0 lun) (outcome.ReadyFrom (ready_of lun old.state))
+      (quiet new.state chip') driven.reached (ready_step 0) (λ _ _. last) in
       record {
         settled = ap (λ (v : HalfView). v.lent) is ∙ driven.settled;
-        reached = subst (λ (s : Setup). Reaches s (quiet new.state chip')) (sym (ap (λ (v : HalfView). v.setup) is)) reached;
+        reached = subst (λ (s : Setup). Reaches Such s (quiet new.state chip')) (sym (ap (λ (v : HalfView). v.setup) is)) reached;
         lanes_are = λ going. agree;
-        last = subst (λ (v : HalfView). IfSome v.state.last Such) (sym is) driven.last;
       }
 
 -- LUNs are asked, one after another

@@ -7,7 +7,7 @@ use Rattle.onfi_core.specs.declared.outcome.Cause.{Cause}
 use Rattle.onfi_core.specs.declared.outcome.Cause.TheVariants.{Clock}
 use Rattle.onfi_core.specs.declared.outcome.Outcome.TheVariants.{NoPlan, NothingToPlan, Stopped}
 use Rattle.onfi_core.specs.Reaching.{Reaches}
-use Rattle.onfi_core.specs.State.{ChannelState, HalfState, is_to}
+use Rattle.onfi_core.specs.State.{ChannelState, HalfState, Planning, is_to}
 use Rattle.onfi_core.specs.Steps.{bus_refusal, held_for, if_stopped, none_left, nothing_to_plan, or_else, plan_refusal, refused_where, taken_next}
 use Rattle.onfi_core.specs.declared.setup.Replanning.{Replanning}
 use Rattle.onfi_core.specs.declared.setup.Replanning.TheVariants.{Lazily}
@@ -78,15 +78,15 @@ module _ (q : Seen) (v : HalfView) (is : v ≡ record { setup = q.0.setup; state
 
 -- Rest
 
-pub rests_is : (q : Seen) → Reaches q.0.setup (channel_of q) → MayRunPhase q → bus_refusal q.0.half ≡ Some NoPlan → Rests q
-rests_is q reached may refused =
+pub rests_is : (Such : Planning → Type 0) (q : Seen) → Reaches Such q.0.setup (channel_of q) → MayRunPhase q → bus_refusal q.0.half ≡ Some NoPlan → Rests q
+rests_is Such q reached may refused =
     let none = no_plan q.0.half.stopped (none_left q.0.half) may.before.before.going refused in
     let taken : taken_next q.0.setup q.0.half ≡ [] = elim may.plans [
       | inl t ↦ t
       | inr (inl both) ↦ absurd (let e : true ≡ false = sym none ∙ both.1 in cc)
       | inr (inr on) ↦ absurd (let e : true ≡ false = sym none ∙ on.left in cc)
     ] in
-    let idle = idle_is q.0.setup q.0.half (events_reach q.0.setup (channel_of q) reached).half.sound none taken in
+    let idle = idle_is q.0.setup q.0.half (events_reach Such q.0.setup (channel_of q) reached).0.half.sound none taken in
     record { before = may.before; phases = none; wants = idle.0; items = idle.1 }
 
 -- neither half nor chip changed
@@ -165,8 +165,8 @@ offering_nothing q q' q'' host held so_far (same, why, none) = record {
   held_is = held_more q host held so_far.held_is (subst (λ (x : Seen). held_for host x.0.half ≡ []) so_far.same none);
 }
 
-pub offered_all : (q q' : Seen) (held : Offer) → q.0.setup.hosts ≡ 4 → Reaches q.0.setup (channel_of q) → Offering q q' 4 held → OfferedAll q held q'
-offered_all q q' offer.Posted hosts reached so_far = absurd so_far.held_is
-offered_all q q' offer.Full hosts reached so_far = (so_far.same, so_far.lower, so_far.held_is)
-offered_all q q' offer.Nothing hosts reached so_far =
-    (so_far.same, so_far.lower, nothing_held q.0.setup (channel_of q) (events_reach q.0.setup (channel_of q) reached) (λ host low. so_far.held_is host (omega (arith, low, hosts))))
+pub offered_all : (Such : Planning → Type 0) (q q' : Seen) (held : Offer) → q.0.setup.hosts ≡ 4 → Reaches Such q.0.setup (channel_of q) → Offering q q' 4 held → OfferedAll q held q'
+offered_all Such q q' offer.Posted hosts reached so_far = absurd so_far.held_is
+offered_all Such q q' offer.Full hosts reached so_far = (so_far.same, so_far.lower, so_far.held_is)
+offered_all Such q q' offer.Nothing hosts reached so_far =
+    (so_far.same, so_far.lower, nothing_held q.0.setup (channel_of q) (events_reach Such q.0.setup (channel_of q) reached).0 (λ host low. so_far.held_is host (omega (arith, low, hosts))))

@@ -1,11 +1,11 @@
 -- What draining and closing a channel come to.
-use Rattle.std.specs.Prelude.{◌≡◌, ◌≢◌, ◌⊎◌, ℕ, ◌+◌, ◌<◌, ◌≤◌, Bool, true, false, List, [], ◌∷◌, ◌++◌, length, map, Some, slice_get}
+use Rattle.std.specs.Prelude.{◌≡◌, ◌≢◌, ◌⊎◌, ℕ, ◌+◌, ◌<◌, ◌≤◌, Bool, true, false, List, [], ◌∷◌, ◌++◌, length, map, Some, IfSome, slice_get}
 use Rattle.std.specs.List.{filter}
 use Rattle.atomic_table.specs.Seated.{TableId}
 use Rattle.onfi_request.specs.declared.reply.Reply.{Reply}
 use Rattle.onfi_group.specs.Words.{number}
 use Rattle.onfi_core.specs.Kept.{is_of_place}
-use Rattle.onfi_core.specs.State.{HalfState, is_from}
+use Rattle.onfi_core.specs.State.{HalfState, Planning, is_from}
 use Rattle.onfi_core.specs.Steps.{none_left}
 use Rattle.onfi_queue.specs.Ends.{AreHostsOf, HostView}
 use Rattle.onfi_reply.specs.declared.opened_for.OpenedFor.{OpenedFor}
@@ -76,10 +76,15 @@ abbrev pub GoesOn : List TurnAt → HalfState → Type 0
 GoesOn [] h = Unit {0}
 GoesOn (answer ∷ answers) h = ends_it answer h ≡ false
 
--- such turns gave these answers, the last first, each from where the one before it ended, and none but the last ends a draining
-abbrev pub MakesBy : (Seen → TurnAt → Seen → Type 0) → Seen → List TurnAt → Seen → Type 0
-MakesBy Turns q [] q' = q' ≡ q
-MakesBy Turns q (answer ∷ answers) q' = (mid : Seen) × MakesBy Turns q answers mid × GoesOn answers mid.0.half × Turns mid answer q'
+-- what a turn planned is such
+abbrev pub TurnPlans : (Planning → Type 0) → TurnAt → Seen → Type 0
+TurnPlans Such answer q' = answer ≡ turn.Planned → IfSome q'.0.half.last Such
+
+-- such turns gave these answers, the last first, each from where the one before it ended; what each planned is such, and none but the last
+-- ends a draining
+abbrev pub MakesBy : (Planning → Type 0) → (Seen → TurnAt → Seen → Type 0) → Seen → List TurnAt → Seen → Type 0
+MakesBy Such Turns q [] q' = q' ≡ q
+MakesBy Such Turns q (answer ∷ answers) q' = (mid : Seen) × MakesBy Such Turns q answers mid × GoesOn answers mid.0.half × Turns mid answer q' × TurnPlans Such answer q'
 
 -- the last answer
 abbrev pub IsLast : TurnAt → List TurnAt → Type 0
@@ -119,11 +124,11 @@ left_by (drained.Stopped cause) q = q
 left_by (drained.Waits until) q = q
 left_by (drained.Over opened) q = q
 
--- no more such turns than those were made, the end is given as it was, and so many takings in were refused
-pub record DrainsBy (Turns : Seen → TurnAt → Seen → Type 0) (q : Seen) (hosts : List HostView) (inboxes : List InboxView) (turns : ℕ) (end : DrainedAt) (q' : Seen) (inboxes' : List InboxView) : Type 0 where
+-- no more such turns than those were made, what each planned is such, the end is given as it was, and so many takings in were refused
+pub record DrainsBy (Such : Planning → Type 0) (Turns : Seen → TurnAt → Seen → Type 0) (q : Seen) (hosts : List HostView) (inboxes : List InboxView) (turns : ℕ) (end : DrainedAt) (q' : Seen) (inboxes' : List InboxView) : Type 0 where
   pub answers : List TurnAt
   pub last : Seen
-  pub ran : MakesBy Turns q answers last
+  pub ran : MakesBy Such Turns q answers last
   pub few : length answers ≤ turns
   pub refused : ℕ
   pub counted : refusals_of inboxes' ≡ refusals_of inboxes + refused
@@ -131,8 +136,8 @@ pub record DrainsBy (Turns : Seen → TurnAt → Seen → Type 0) (q : Seen) (ho
   pub after : q' ≡ left_by end last
 
 -- .. by turns at the moment
-abbrev pub Drains : ℕ → Seen → List HostView → List InboxView → ℕ → DrainedAt → Seen → List InboxView → Type 0
-Drains now q hosts inboxes turns end q' inboxes' = DrainsBy (Turned now) q hosts inboxes turns end q' inboxes'
+abbrev pub Drains : (Planning → Type 0) → ℕ → Seen → List HostView → List InboxView → ℕ → DrainedAt → Seen → List InboxView → Type 0
+Drains Such now q hosts inboxes turns end q' inboxes' = DrainsBy Such (Turned now) q hosts inboxes turns end q' inboxes'
 
 -- ---- inside a draining
 -- how it ends before a turn, where so many are made

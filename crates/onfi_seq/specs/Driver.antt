@@ -1,5 +1,5 @@
 -- A half with its chip, as the sequencer drives them.
-use Rattle.std.specs.Prelude.{◌≡◌, ◌≢◌, ◌⊎◌, ℕ, zero, suc, ◌<◌, ◌≤◌, ◌^◌, List, [], Option, None, Some, Result, Ok, Err, IfSome}
+use Rattle.std.specs.Prelude.{◌≡◌, ◌≢◌, ◌⊎◌, ℕ, zero, suc, ◌<◌, ◌≤◌, ◌^◌, List, [], Option, None, Some, Result, Ok, Err}
 use Rattle.onfi_request.specs.declared.reply.Reply.{Reply}
 use Rattle.onfi_problem.specs.Moves.{Move}
 use Rattle.onfi_schedule.specs.Schedule.{Schedule}
@@ -35,12 +35,11 @@ DriverView C = DriverFields × C
 abbrev pub channel_in : {C : Type 0} → (C → Chip) → DriverView C → ChannelState
 channel_in state view = quiet view.0.half (state view.1)
 
--- no reply is on its way out, events reach the channel, until it stops the LUNs in their phases are the chip's, and the last planning is such
+-- no reply is on its way out, events reach the channel, of which each plan is such, and until it stops the LUNs in their phases are the chip's
 pub record IsDriven (Such : Planning → Type 0) (s : Setup) (lent : Option Reply) (h : HalfState) (chip : Chip) (lanes : List AnyLun) : Type 0 where
   pub settled : lent ≡ None
-  pub reached : Reaches s (quiet h chip)
+  pub reached : Reaches Such s (quiet h chip)
   pub lanes_are : h.stopped ≡ None → LanesAgree chip lanes
-  pub last : IfSome h.last Such
 
 -- the next phase starts then
 pub record StartsNext (h : HalfState) (start : ℕ) : Type 0 where

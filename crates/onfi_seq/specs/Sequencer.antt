@@ -7,7 +7,7 @@ use Rattle.onfi_die.specs.Rightful.{AreRightful}
 use Rattle.onfi_core.specs.declared.setup.Setup.{Setup}
 use Rattle.onfi_core.specs.Kept.{AreMade, made_for}
 use Rattle.onfi_core.specs.Reaching.{Reaches}
-use Rattle.onfi_core.specs.State.{HalfState, ChannelState, device_for, is_from, is_to, quiet}
+use Rattle.onfi_core.specs.State.{HalfState, ChannelState, Planning, device_for, is_from, is_to, quiet}
 use Rattle.onfi_queue.specs.declared.opened.Opened.{Opened}
 use Rattle.onfi_queue.specs.Ends.{IntakeView, fresh_intake}
 use Rattle.onfi_reply.specs.declared.opened_for.OpenedFor.{OpenedFor}
@@ -61,14 +61,14 @@ pub record AreFreshPosters (s : Setup) (channel : ℕ) (posters : List PosterVie
 -- ---- what always holds
 -- What is accepted came through the intake, and what is posted to a host went through its poster. All replies that were
 -- posted are rightful in what is accepted, under the chip's faults, each place at most once. Each reply that is posted or held
--- rests on the chip's faults and on a beginning of what is accepted. The channel is one that events reach.
-pub record IsRight (q : Seen) : Type 0 where
+-- rests on the chip's faults and on a beginning of what is accepted. The channel is one that events reach, of which each plan is such.
+pub record IsRight (Such : Planning → Type 0) (q : Seen) : Type 0 where
   pub accepted : q.0.intake.accepted ≡ q.0.half.accepted
   pub posters : length q.0.posters ≡ 4
   pub posted : (host : ℕ) (p : PosterView) → slice_get q.0.posters host ≡ Some p → p.posted ≡ filter (is_to host) q.0.half.posted
   pub rightful : AreRightful (device_for q.0.setup q.1) q.0.half.accepted q.0.half.posted
   pub made : (host : ℕ) → AreMade (device_for q.0.setup q.1) q.0.half.accepted (made_for host q.0.half)
-  pub reached : Reaches q.0.setup (channel_of q)
+  pub reached : Reaches Such q.0.setup (channel_of q)
 
 -- which queue an end is of, how many it holds, and what it was opened with
 abbrev pub intake_ends : IntakeView → TableId × ℕ × Opened

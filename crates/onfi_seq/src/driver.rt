@@ -78,7 +78,7 @@ impl<C: Chip, P: Planner> Driver<C, P> {
     /// The half, to look at.
     pub(crate) fn half(&self) -> &Half
         ensures half { result.now ≡ record { setup = self.now.0.setup; state = self.now.0.half; lent = None } }
-        ensures reached { Reaches self.now.0.setup (channel_in C.state self.now) }
+        ensures reached { Reaches (IsPromised P.exact P.certifies) self.now.0.setup (channel_in C.state self.now) }
         ensures promised { IfSome self.now.0.half.last (IsPromised P.exact P.certifies) }
     {
         &self.half
@@ -156,7 +156,7 @@ impl<C: Chip, P: Planner> Driver<C, P> {
         ensures accepted { self.new.0.half.accepted ≡ self.old.0.half.accepted }
         ensures posted { self.new.0.half.posted ≡ self.old.0.half.posted }
     {
-        match self.half.due() {
+        match self.half.due(alloc) {
             Ok(due) => self.run_by(alloc, due, now),
             Err(DueRefusal::Stopped(cause)) => Ran::Stopped(cause),
             Err(DueRefusal::NoPlan) => Ran::NoPhase,

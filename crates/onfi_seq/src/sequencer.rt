@@ -5,7 +5,7 @@ ghost use Rattle.onfi_schedule.specs.Schedule.{Optimal, finish};
 ghost use Rattle.onfi_check.specs.Tree.{AcceptsTokens};
 ghost use Rattle.onfi_core.specs.Kept.{first_half};
 ghost use Rattle.onfi_core.specs.Queues.{IsFresh};
-ghost use Rattle.onfi_core.specs.Steps.{IsOptimal, IsPromised, none_left};
+ghost use Rattle.onfi_core.specs.Steps.{IsBest, IsPromised, none_left};
 ghost use Rattle.onfi_core.specs.Unanswered.{unanswered_senders};
 ghost use Rattle.onfi_core.specs.View.{plainly_with, planning_with};
 ghost use Rattle.onfi_seq.specs.Sequencer.{AreFreshPosters, IsFreshIntake, IsRight, seen_in};
@@ -140,7 +140,7 @@ impl<C: Chip, P: Planner> Sequencer<C, P> {
 
     /// What always holds of a sequencer, for a caller's proof; nothing happens.
     pub fn look(&self)
-        ensures { IsRight (seen_in C.state self.now) }
+        ensures { IsRight (IsPromised P.exact P.certifies) (seen_in C.state self.now) }
     {
         let _half = self.driver.half();
     }
@@ -149,7 +149,7 @@ impl<C: Chip, P: Planner> Sequencer<C, P> {
     pub fn last_plan(&self) -> Option<(&Problem, &Plan)>
         ensures last { MatchOption result (self.now.0.half.last ≡ None) (λ r. self.now.0.half.last ≡ Some (planning_with r.0.now.problem r.1.now)) }
         ensures promised { IfSome self.now.0.half.last (IsPromised P.exact P.certifies) }
-        ensures optimal { IsTrue P.exact → IfSome self.now.0.half.last IsOptimal }
+        ensures best { IsTrue P.exact → IfSome self.now.0.half.last IsBest }
     {
         self.driver.half().last_plan()
     }

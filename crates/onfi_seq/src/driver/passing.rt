@@ -19,7 +19,7 @@ impl<C: Chip, P: Planner> Driver<C, P> {
         ensures none { IfNone result (self.now.0.half.stopped ≡ None → none_left self.now.0.half ≡ true) }
         ensures left { IfSome result (λ _. bus_refusal self.now.0.half ≡ None) }
     {
-        match self.half.due() {
+        match self.half.next_due() {
             Ok(due) => Some(due.start),
             Err(_) => None,
         }

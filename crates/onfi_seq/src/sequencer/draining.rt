@@ -3,6 +3,7 @@
 ghost use Rattle.std.specs.Prelude.{◌≡◌, ◌↔◌, ℕ, ◌+◌, ◌<◌, ◌≤◌, length, true, false, IfSome, IfNone, IsTrue, OnOk, OnErr, Some, slice_get};
 ghost use Rattle.std.specs.List.{filter};
 ghost use Rattle.onfi_core.specs.State.{is_from};
+ghost use Rattle.onfi_core.specs.Steps.{IsPromised};
 ghost use Rattle.onfi_seq.specs.Drained.{AreAccepted, AreOtherEnds, Drains, DrainsBy, EndsBefore, EndsBehind, HasGrown, HaveGrown, IsAnswered, IsShort, ends_it, left_by, refusals_of};
 ghost use Rattle.onfi_seq.specs.NoClock.{TurnedAtOnce, greatest, timed_end};
 ghost use Rattle.onfi_seq.specs.Sequencer.{IsRight, IsSameChannel, seen_in};
@@ -36,10 +37,10 @@ impl<C: Chip, P: Planner> Sequencer<C, P> {
         turns: u64,
     ) -> Drained
         requires { AreOtherEnds self.old.0 hosts.now inboxes.old }
-        ensures drains { Drains greatest (seen_in C.state self.old) hosts.now inboxes.old turns (timed_end result) (seen_in C.state self.new) inboxes.new }
-        ensures no_time { DrainsBy TurnedAtOnce (seen_in C.state self.old) hosts.now inboxes.old turns (timed_end result) (seen_in C.state self.new) inboxes.new }
+        ensures drains { Drains (IsPromised P.exact P.certifies) greatest (seen_in C.state self.old) hosts.now inboxes.old turns (timed_end result) (seen_in C.state self.new) inboxes.new }
+        ensures no_time { DrainsBy (IsPromised P.exact P.certifies) TurnedAtOnce (seen_in C.state self.old) hosts.now inboxes.old turns (timed_end result) (seen_in C.state self.new) inboxes.new }
         ensures inboxes { HaveGrown inboxes.old inboxes.new }
-        ensures right { IsRight (seen_in C.state self.new) }
+        ensures right { IsRight (IsPromised P.exact P.certifies) (seen_in C.state self.new) }
         ensures same { IsSameChannel (seen_in C.state self.old) (seen_in C.state self.new) }
         ensures short { self.old.0.short ≡ true → self.new.0.short ≡ true }
     {
@@ -59,9 +60,9 @@ impl<C: Chip, P: Planner> Sequencer<C, P> {
         turns: u64,
     ) -> DrainedAt
         requires { AreOtherEnds self.old.0 hosts.now inboxes.old }
-        ensures drains { Drains now (seen_in C.state self.old) hosts.now inboxes.old turns result (seen_in C.state self.new) inboxes.new }
+        ensures drains { Drains (IsPromised P.exact P.certifies) now (seen_in C.state self.old) hosts.now inboxes.old turns result (seen_in C.state self.new) inboxes.new }
         ensures inboxes { HaveGrown inboxes.old inboxes.new }
-        ensures right { IsRight (seen_in C.state self.new) }
+        ensures right { IsRight (IsPromised P.exact P.certifies) (seen_in C.state self.new) }
         ensures same { IsSameChannel (seen_in C.state self.old) (seen_in C.state self.new) }
         ensures short { self.old.0.short ≡ true → self.new.0.short ≡ true }
     {

@@ -1,7 +1,8 @@
 //! A turn: the first thing that can be done.
 
 ghost use Rattle.std.specs.Prelude.{◌≡◌, ◌⊎◌, ℕ, ◌<◌, ◌≤◌, true, false, [], length, IfSome, IfNone, IsTrue, None, Some, slice_set};
-ghost use Rattle.onfi_core.specs.Steps.{none_left, taken_next};
+ghost use Rattle.onfi_core.specs.Steps.{IsPromised, none_left, taken_next};
+ghost use Rattle.onfi_seq.specs.Drained.{TurnPlans};
 ghost use Rattle.onfi_seq.specs.Driver.{StartsNext};
 ghost use Rattle.onfi_seq.specs.NoClock.{TurnedAtOnce, greatest, timed};
 ghost use Rattle.onfi_seq.specs.Sequencer.{IsRight, IsSameChannel, seen_in};
@@ -38,7 +39,8 @@ impl<C: Chip, P: Planner> Sequencer<C, P> {
     pub fn turn<R: Wait, G: Gate>(&mut self, rt: &R, alloc: Global, gate: &mut G) -> Turn
         ensures turned { Turned greatest (seen_in C.state self.old) (timed result) (seen_in C.state self.new) }
         ensures no_time { TurnedAtOnce (seen_in C.state self.old) (timed result) (seen_in C.state self.new) }
-        ensures right { IsRight (seen_in C.state self.new) }
+        ensures planned { TurnPlans (IsPromised P.exact P.certifies) (timed result) (seen_in C.state self.new) }
+        ensures right { IsRight (IsPromised P.exact P.certifies) (seen_in C.state self.new) }
         ensures same { IsSameChannel (seen_in C.state self.old) (seen_in C.state self.new) }
         ensures short { self.old.0.short ≡ true → self.new.0.short ≡ true }
         ensures gated { (number : ℕ) × G.told gate.old self.old.0.intake.opened.channel number gate.new }
@@ -64,7 +66,8 @@ impl<C: Chip, P: Planner> Sequencer<C, P> {
         now: u64,
     ) -> TurnAt
         ensures turned { Turned now (seen_in C.state self.old) result (seen_in C.state self.new) }
-        ensures right { IsRight (seen_in C.state self.new) }
+        ensures planned { TurnPlans (IsPromised P.exact P.certifies) result (seen_in C.state self.new) }
+        ensures right { IsRight (IsPromised P.exact P.certifies) (seen_in C.state self.new) }
         ensures same { IsSameChannel (seen_in C.state self.old) (seen_in C.state self.new) }
         ensures short { self.old.0.short ≡ true → self.new.0.short ≡ true }
         ensures gated { (number : ℕ) × G.told gate.old self.old.0.intake.opened.channel number gate.new }

@@ -13,7 +13,7 @@ post-requires g c =
     let f = c.self.inside in
     let geometry = within (λ (v : DriverFields). c.args.poster.now.opened.geometry ≡ v.setup.geometry) _ _ c.self.view_is c.requires.geometry in
     let posted = within (λ (v : DriverFields). c.args.poster.now.posted ≡ filter (is_to c.args.host) v.half.posted) _ _ c.self.view_is c.requires.posted in
-    may_post f.half.setup f.half.state (g.C.Chip.state f.chip) i.reached c.args.host c.in-Some.reply c.args.poster.now c.in-Some.ensures.oldest c.requires.host geometry posted
+    may_post (IsPromised g.P.Planner.exact g.P.Planner.certifies) f.half.setup f.half.state (g.C.Chip.state f.chip) i.reached c.args.host c.in-Some.reply c.args.poster.now c.in-Some.ensures.oldest c.requires.host geometry posted
 
 pub invariant_of-self-in-Ok : goal.invariant_of-self-in-Ok
 invariant_of-self-in-Ok g c =
@@ -22,4 +22,4 @@ invariant_of-self-in-Ok g c =
     let lent = c.in-Some.ensures.lent in
     let goes = rw lent at c.posted.ensures.posted in
     let setup = c.posted.ensures.setup ∙ ap (λ (v : HalfView). v.setup) lent in
-    rw setup (driven_posted f.half.setup f.half.state (g.C.Chip.state f.chip) i.reached c.args.host c.in-Some.reply (IsPromised g.P.Planner.exact g.P.Planner.certifies) c.posted.new.self.lent c.posted.new.self.state f.lanes goes c.posted.ensures.settled i.lanes_are i.last)
+    rw setup (driven_posted (IsPromised g.P.Planner.exact g.P.Planner.certifies) f.half.setup f.half.state (g.C.Chip.state f.chip) i.reached c.args.host c.in-Some.reply c.posted.new.self.lent c.posted.new.self.state f.lanes goes c.posted.ensures.settled i.lanes_are)

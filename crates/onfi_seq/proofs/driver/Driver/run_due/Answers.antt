@@ -12,13 +12,13 @@ use Rattle.onfi_seq.proofs.Driving.{driven_ran, is_at, outside, phase_step, ran_
 use Rattle.onfi_seq.proofs.driver.Driver.run_due.Goals as goal
 
 pub run_due-came-requires-clause-sound : goal.run_due-came-requires-clause-sound
-run_due-came-requires-clause-sound g c = (events_reach c.self.inside.half.setup _ c.self.invariant.reached).half.sound
+run_due-came-requires-clause-sound g c = (events_reach (IsPromised g.P.Planner.exact g.P.Planner.certifies) c.self.inside.half.setup _ c.self.invariant.reached).0.half.sound
 
 pub run_due-came-requires-clause-agree : goal.run_due-came-requires-clause-agree
 run_due-came-requires-clause-agree g c =
     let f = c.self.inside in
     let open' = within (λ (v : DriverFields). bus_refusal v.half ≡ None) _ _ c.self.view_is c.requires.open in
-    (events_reach f.half.setup _ c.self.invariant.reached).chip (going_on f.half.state open')
+    (events_reach (IsPromised g.P.Planner.exact g.P.Planner.certifies) f.half.setup _ c.self.invariant.reached).0.chip (going_on f.half.state open')
 
 pub run_due-came-requires-clause-lanes : goal.run_due-came-requires-clause-lanes
 run_due-came-requires-clause-lanes g c =

@@ -1,5 +1,6 @@
 use Rattle.std.proofs.Common.{◌≡◌, ℕ, ◌+◌, sym, subst, arith}
 use Rattle.onfi_core.specs.Reaching.{Reaches}
+use Rattle.onfi_core.specs.Steps.{IsPromised}
 use Rattle.onfi_seq.specs.declared.offer.Offer.{Offer}
 use Rattle.onfi_seq.specs.Sequencer.{Seen, channel_of, seen_in}
 use Rattle.onfi_seq.specs.Turned.{NothingPosts, Posts}
@@ -31,5 +32,5 @@ returns g c =
     let new = seen_in state c.loop-host.self in
     let all : c.loop-host.host ≡ 4 = omega (arith, c.loop-host-test.false, c.loop-host.auto.host-end) in
     let hosts = seen_outside state (λ (q : Seen). q.0.setup.hosts ≡ 4) _ _ c.self.view_is c.self.invariant.hosts in
-    let reached = seen_outside state (λ (q : Seen). Reaches q.0.setup (channel_of q)) _ _ c.self.view_is c.half-half.ensures.reached in
-    offered_all old new c.loop-host.held hosts reached (subst (λ (n : ℕ). Offering old new n c.loop-host.held) all c.loop-host.invariant)
+    let reached = seen_outside state (λ (q : Seen). Reaches (IsPromised g.P.Planner.exact g.P.Planner.certifies) q.0.setup (channel_of q)) _ _ c.self.view_is c.half-half.ensures.reached in
+    offered_all (IsPromised g.P.Planner.exact g.P.Planner.certifies) old new c.loop-host.held hosts reached (subst (λ (n : ℕ). Offering old new n c.loop-host.held) all c.loop-host.invariant)

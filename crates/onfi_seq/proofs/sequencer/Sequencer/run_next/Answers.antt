@@ -1,3 +1,4 @@
+use Rattle.onfi_core.specs.Steps.{IsPromised}
 use Rattle.onfi_seq.specs.Driver.{channel_in}
 use Rattle.onfi_seq.specs.Sequencer.{Seen}
 use Rattle.onfi_seq.specs.Turned.{Goes, IsRest, MayRunPhase}
@@ -15,5 +16,5 @@ returns-in-NoPhase g c =
     let may = seen_within state MayRunPhase _ _ c.self.view_is c.requires.before in
     let rest = seen_within state (λ (q : Seen). IsRest q c.args.rest) _ _ c.self.view_is c.requires.rest in
     let same = seen_same f.intake f.posters f.refused f.short f.driver.0.setup d.0.setup (channel_in state f.driver) (channel_in state d) c.run.ensures.setup c.in-NoPhase.ensures.ran.1 in
-    let rests = rests_is old c.half-half.ensures.reached may c.in-NoPhase.ensures.ran.0 in
+    let rests = rests_is (IsPromised g.P.Planner.exact g.P.Planner.certifies) old c.half-half.ensures.reached may c.in-NoPhase.ensures.ran.0 in
     seen_outside state (λ (q : Seen). Goes c.args.now q c.args.rest new) _ _ c.self.view_is (rest_goes c.args.now old new c.args.rest rest rests same)
