@@ -34,14 +34,14 @@ pub enum ScriptFault {
     Geometry(GeometryFault),
     /// A timing sheet that gives no phase lengths.
     Sheet(SheetFault),
-    /// Strobes that give no phase lengths.
-    Strobe(StrobeFault),
     /// What the rows set up is no problem.
     Problem(ProblemFault),
     /// The device doesn't take an operation.
     Request(RequestFault),
     /// A row that the command or the form of the script does not take.
     NotHere,
+    /// Strobes that give no phase lengths. It is told after `Sheet`.
+    Strobe(StrobeFault),
 }
 
 fn page_name(fault: PageFault) -> &'static str
