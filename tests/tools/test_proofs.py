@@ -202,7 +202,7 @@ class Proofs(unittest.TestCase):
                 self.assertIn(name, words)
 
     def test_names_that_are_praised_are_lemmas(self) -> None:
-        row = next(line for line in self.text.splitlines() if line.startswith("| names by law"))
+        row = next(line for line in self.text.splitlines() if line.startswith("- names by law"))
         good, _, bad = row.partition(";")
         statements = [path.read_text() for path in (support.ROOT / "crates").glob("*/proofs/*.antt")]
         for name in NAME.findall(good):

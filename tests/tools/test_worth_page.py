@@ -74,7 +74,6 @@ class Page(Tables):
         said = f"has {means[0]:.1f} % more than reads first, all, in the mean, {means[1]:.1f} % on the {len(room)}, and with erases {median:.0f} % in the median"
         self.assertIn(said, PAGE)
         self.assertIn(f"have {means[2]:.1f} % more in the mean", PAGE)
-        self.assertIn(f"{means[0]:.1f} % more throughput in the mean", PAGE)
         self.assertIn(f"{means[0]:.1f} % more than that way in the mean, {means[1]:.1f} % on the {len(room)}", README)
 
     def test_no_way_passes_the_bound_by_more_than_is_reported(self) -> None:
