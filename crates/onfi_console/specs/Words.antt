@@ -63,9 +63,9 @@ check_judging = with_rule (with_rule (with_rule (command (codes "check")) (flag 
 abbrev pub check : App
 check = with_rule (with_rule (with_rule check_judging quiet) (file (codes "FILE"))) (file (codes "PLAN"))
 
--- `run [--limit N] [--plain] [--within] [--slack N]`
+-- `run [--limit N] [--remember] [--within] [--slack N]`
 abbrev pub run_search : App
-run_search = with_rule (with_rule (with_rule (with_rule (command (codes "run")) (value (codes "limit"))) (flag (codes "plain"))) (flag (codes "within"))) (value (codes "slack"))
+run_search = with_rule (with_rule (with_rule (with_rule (command (codes "run")) (value (codes "limit"))) (flag (codes "remember"))) (flag (codes "within"))) (value (codes "slack"))
 
 -- .. with `[--rule]`
 abbrev pub run_planning : App
@@ -134,13 +134,6 @@ abbrev pub output_of : Bool → Bool → Output
 output_of trace true = output.Trace true
 output_of true false = output.Trace false
 output_of false false = output.Plan
-
--- the search of a run, by the flags `plain` and `within`, of which one at most is given
-abbrev pub search_of : Bool → Bool → Option ChosenPlanner
-search_of false false = Some Remembering
-search_of true false = Some Plain
-search_of false true = Some BestSoFar
-search_of true true = None
 
 -- the planner of a run by this search, where plans may end later by these thousandths
 abbrev pub RunPlanner : Type 0
@@ -242,7 +235,7 @@ names_search first =
 
 -- .. of `run`
 abbrev pub names_run_search : (List ℕ → Option (List ℕ)) → Bool
-names_run_search first = is_given (first (codes "plain")) || is_given (first (codes "within")) || is_some (first (codes "limit")) || is_some (first (codes "slack"))
+names_run_search first = is_given (first (codes "remember")) || is_given (first (codes "within")) || is_some (first (codes "limit")) || is_some (first (codes "slack"))
 
 -- what is printed of a plan, by the flags that are given
 abbrev pub printed_by : List Used → Output
@@ -282,9 +275,9 @@ pub record IsRun (planner : RunPlanner) (used : List Used) : Type 0 where
   pub no_rule : given (codes "rule") used ≡ false
   pub search : ChosenPlanner
   pub slack : Option ℕ
-  pub is_search : search_of (given (codes "plain") used) (given (codes "within") used) ≡ Some search
+  pub is_search : planner_of (given (codes "remember") used) (given (codes "within") used) ≡ Some search
   pub is_slack : IsSlack (first_of (codes "slack") used) slack
-  pub is_planner : planner ≡ run_planner search (unwrap_or slack 0)
+  pub is_planner : planner ≡ run_planner (planner_within search (unwrap_or slack 0)) (unwrap_or slack 0)
 
 -- `audit` without `--optimum` is for this: neither a limit nor a table is asked for
 pub record IsAudit (options : AuditOptions) (used : List Used) : Type 0 where

@@ -28,7 +28,6 @@ enum ValueFault {
     WithinBesideRemember,
     RememberBesideLegal,
     WithinBesideLegal,
-    PlainBesideWithin,
     Slack,
     SlackWithoutEarly,
     WorkersBesideEarly,
@@ -60,9 +59,6 @@ impl ValueFault {
             ValueFault::WithinBesideLegal => {
                 "'--within' can't be used with '--legal': no certificate is looked at"
             }
-            ValueFault::PlainBesideWithin => {
-                "'--plain' can't be used with '--within': the plain search gives no plan where it isn't over"
-            }
             ValueFault::Slack => "'--slack' wants a number from 0 to 1000, digits alone",
             ValueFault::SlackWithoutEarly => {
                 "'--slack' can't be used without '--early': no other plan may end later"
@@ -75,7 +71,7 @@ impl ValueFault {
                 "'--rule' can't be used with '--limit', '--workers', '--remember', '--within', '--early' or '--slack': it searches nothing"
             }
             ValueFault::RunSearchBesideRule => {
-                "'--rule' can't be used with '--limit', '--plain', '--within' or '--slack': it searches nothing"
+                "'--rule' can't be used with '--limit', '--remember', '--within' or '--slack': it searches nothing"
             }
             ValueFault::LimitWithoutOptimum => {
                 "'--limit' can't be used without '--optimum': nothing else of 'audit' searches"
@@ -350,18 +346,6 @@ fn check_of(used: &ArgMatches<'_>) -> Result<Named, ValueFault>
     })
 }
 
-/// The search that these flags of `run` name.
-fn search_of(plain: bool, within: bool) -> Result<ChosenPlanner, ValueFault>
-    ensures { IfOk result (λ search. spec.search_of plain within ≡ Some search) }
-{
-    match (plain, within) {
-        (false, false) => Ok(ChosenPlanner::Remembering),
-        (true, false) => Ok(ChosenPlanner::Plain),
-        (false, true) => Ok(ChosenPlanner::BestSoFar),
-        (true, true) => Err(ValueFault::PlainBesideWithin),
-    }
-}
-
 /// The planner of a run by this search, whose plans may end later by so many thousandths.
 fn run_planner(search: ChosenPlanner, slack: u16) -> SlackPlanner<ChosenPlanner>
     ensures { result ≡ spec.run_planner search slack }
@@ -410,7 +394,7 @@ fn clock_of(matches: &ArgMatches<'_>) -> Result<bool, ValueFault>
 fn names_run_search(used: &ArgMatches<'_>) -> bool
     ensures { result ≡ spec.names_run_search (first_value (found_of used.now)) }
 {
-    is_given(used, "plain")
+    is_given(used, "remember")
         || is_given(used, "within")
         || has_value(used, "limit")
         || has_value(used, "slack")
@@ -443,13 +427,14 @@ fn run_of(used: &ArgMatches<'_>) -> Result<Named, ValueFault>
     if rule {
         return run_by_rule_of(used);
     }
-    let plain = is_given(used, "plain");
+    let remembers = is_given(used, "remember");
     let within = is_given(used, "within");
-    let search = search_of(plain, within)?;
+    let search = planner_of(remembers, within)?;
     let limit = read_limit(used)?;
     let slack = read_slack(used)?;
     let clocked = clock_of(used)?;
     let slack = slack.unwrap_or(0);
+    let search = planner_within(search, slack);
     let limit = limit.unwrap_or(usual_of(search, slack));
     Ok(Named::Run {
         planner: run_planner(search, slack),

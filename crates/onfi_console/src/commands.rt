@@ -136,14 +136,14 @@ fn check<'a>(alloc: Global) -> Result<Command<'a>, AllocError>
     with(check, file(alloc, "PLAN", help::PLAN_FILE))
 }
 
-/// `run [--limit N] [--plain] [--within] [--slack N]`
+/// `run [--limit N] [--remember] [--within] [--slack N]`
 fn run_search<'a>(alloc: Global) -> Result<Command<'a>, AllocError>
     ensures app { IfOk result (λ a. app_of a ≡ spec.run_search) }
     ensures local { IfOk result (λ a. (fields_of a).has_globals ≡ false) }
 {
     let run = command(alloc, "run", help::RUN, help::RUN_MORE);
     let run = with(run, number(alloc, "limit", help::LIMIT_RUN))?;
-    let run = with(run, flag(alloc, "plain", help::PLAIN_RUN))?;
+    let run = with(run, flag(alloc, "remember", help::REMEMBER_RUN))?;
     let run = with(run, flag(alloc, "within", help::WITHIN_RUN))?;
     with(run, number(alloc, "slack", help::SLACK_RUN))
 }

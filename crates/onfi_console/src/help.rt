@@ -74,6 +74,7 @@ was refused; 5 the command line is refused; 6 a plan wasn't over within the limi
 
 Example:
   onfi_sim run examples/two-hosts.onfi
+  onfi_sim run --remember examples/two-hosts.onfi
   onfi_sim run --within --limit 200 examples/two-hosts.onfi
   onfi_sim run --slack 20 examples/two-hosts.onfi
   onfi_sim run --rule examples/two-hosts.onfi
@@ -121,9 +122,10 @@ pub const LIMIT: &str =
     "Open at most N nodes in a search, 1 to 1048576; the greatest where none is named";
 
 pub const LIMIT_RUN: &str =
-    "Open at most N nodes a plan, 1 to 1048576; else the most, 65536 with --within, or a slack but no --plain";
+    "Open at most N nodes a plan, 1 to 1048576; else the most, 65536 with --within or a slack";
 
-pub const PLAIN_RUN: &str = "Plan by the plain search, which remembers no states";
+pub const REMEMBER_RUN: &str =
+    "Plan by remembered states; answers in practice where the plain search isn't over";
 
 pub const WITHIN_RUN: &str =
     "Take the best plan so far where a search opened as many nodes as it may; no planning is over";

@@ -17,14 +17,15 @@ returns-clause-named c =
     let search = c.in_ok-search.search in
     let slack = c.in_ok-slack.slack in
     let rule : c.is_given-rule.result ≡ spec.given (codes "rule") rows = rw first_value-rows at c.is_given-rule.ensures in
-    let plain : c.is_given-plain.result ≡ spec.given (codes "plain") rows = rw first_value-rows at c.is_given-plain.ensures in
+    let remembers : c.is_given-remembers.result ≡ spec.given (codes "remember") rows = rw first_value-rows at c.is_given-remembers.ensures in
     let within : c.is_given-within.result ≡ spec.given (codes "within") rows = rw first_value-rows at c.is_given-within.ensures in
-    let searched : spec.search_of (spec.given (codes "plain") rows) (spec.given (codes "within") rows) ≡ Some search =
-    sym (ap (λ p. spec.search_of p c.is_given-within.result) plain ∙ ap (λ w. spec.search_of (spec.given (codes "plain") rows) w) within) ∙ c.in_ok-search.ensures in
+    let searched : spec.planner_of (spec.given (codes "remember") rows) (spec.given (codes "within") rows) ≡ Some search =
+    sym (ap (λ r. spec.planner_of r c.is_given-within.result) remembers ∙ ap (λ w. spec.planner_of (spec.given (codes "remember") rows) w) within) ∙ c.in_ok-search.ensures in
     let clock = rw first_value-rows at c.in_ok-clocked.ensures in
     let slacked = rw first_value-rows at c.in_ok-slack.ensures.value in
-    let planner : c.run_planner.result ≡ spec.run_planner search (unwrap_or slack 0) =
-    c.run_planner.ensures ∙ ap (λ n. spec.run_planner search n) c.unwrap_or-slack.ensures in
+    let planner : c.run_planner.result ≡ spec.run_planner (spec.planner_within search (unwrap_or slack 0)) (unwrap_or slack 0) =
+    c.run_planner.ensures ∙ (ap (λ s. spec.run_planner s c.unwrap_or-slack.result) c.planner_within-search.ensures
+    ∙ ap (λ n. spec.run_planner (spec.planner_within search n) n) c.unwrap_or-slack.ensures) in
     let named = rw first_value-rows at c.in_ok-limit.ensures.value in
     let usual = limit_named c.usual_of.result (first_of (codes "limit") rows) c.in_ok-limit.limit named in
     let limit = subst (λ n. spec.IsLimit c.usual_of.result (first_of (codes "limit") rows) n) (sym c.unwrap_or-limit.ensures) usual in (
