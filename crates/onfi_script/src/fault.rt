@@ -40,7 +40,7 @@ pub enum ScriptFault {
     Request(RequestFault),
     /// A row that the command or the form of the script does not take.
     NotHere,
-    /// Strobes that give no phase lengths. It is told after `Sheet`.
+    /// Strobes that give no phase lengths; reported after `Sheet`.
     Strobe(StrobeFault),
 }
 
