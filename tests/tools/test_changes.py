@@ -215,7 +215,7 @@ class Pages(unittest.TestCase):
 
     def test_each_crate_with_wrong_bodies_has_its_cost_and_no_other(self) -> None:
         costs = read_costs(TOOL.COSTS.read_text(encoding="utf-8"))
-        with_edits = [it.name for it in (TOOL.Crate(name, leaves_kits=True) for name in TOOL.PROVE.CRATES) if it.edits or it.twins]
+        with_edits = [it.name for it in map(TOOL.Crate, TOOL.PROVE.CRATES) if it.edits or it.twins]
         self.assertEqual(sorted(costs.minutes), sorted(with_edits))
         self.assertTrue(all(minutes > 0 for minutes in costs.minutes.values()))
         self.assertLess(max(costs.minutes.values()), costs.room)

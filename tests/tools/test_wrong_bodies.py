@@ -73,13 +73,13 @@ PLAIN = HALF.replace("≡ n / 2", "≡ half n")
 STEP = edit("third(1)", "let _n = 1; third(1)")
 
 
-def crate_of(test: unittest.TestCase, files: Dict[str, str], *leaves_kits: bool) -> Any:
+def crate_of(test: unittest.TestCase, files: Dict[str, str]) -> Any:
     """A crate 'demo' of these files; what stands in no folder is an edit of wrong-bodies/."""
     room = support.room_of(test)
     for path, text in {"src/half.rt": PLAIN, **files}.items():
         put(room / "crates" / "demo" / (path if "/" in path else f"wrong-bodies/{path}"), text)
     with unittest.mock.patch.object(TOOL, "ROOT", room):
-        return TOOL.Crate("demo", "", *leaves_kits)
+        return TOOL.Crate("demo")
 
 
 def told(lines: List[str], status: int = 1) -> Any:
@@ -108,19 +108,13 @@ fn odd(n: u8) -> u8 {
 DOWN, EVEN, ODD = ("src/half.rt", "Half", "down"), ("src/half.rt", "", "even"), ("src/half.rt", "", "odd")
 
 
-# A crate with an edit in must-fail/, which rt ci tries too; and what is said of crates with these files.
-OF_KIT = {"must-fail/a.edit": edit("n / 2", "n / 4"), "a.twin": edit("n / 2", "n / (2 - 0)"), "b.edit": edit("n / 2", "n / 8")}
+# What is said of crates with these files.
 NO_TWIN = "NEEDS A TWIN: it adds or removes a statement, and doesn't say why it stands alone"
 BAD: List[Tuple[Dict[str, str], List[str]]] = [
     ({"src/half.rt": HALF, "a.edit": edit("n / 2", "n / 4")}, ["BAD EDIT: an old text stands in src/half.rt 2 times"]),
-    ({**OF_KIT, "must-fail/b.edit": edit("n / 2", "n / 3")}, ["BAD EDIT: another one of its name stands in must-fail/"]),
-    ({"a.edit": STEP, "must-fail/a.twin": edit("third(1)", "let _n = 0; third(1)")},
-     ["BAD TWIN: the kit takes edits alone in must-fail/, so it stands in wrong-bodies/"]),
     ({"a.edit": STEP, "a.twin": edit("third(1)", "let _n = 0; third(1)")}, []),
     ({"a.edit": STEP}, [NO_TWIN]),
     ({"a.edit": "alone: no step changes nothing here\n" + STEP}, []),
-    ({"must-fail/a.edit": STEP}, [NO_TWIN]),
-    ({"must-fail/a.edit": "# alone: no step changes nothing here\n" + STEP}, []),
     ({"a.edit": edit("third(1)", "third(2)")}, []),
 ]
 
@@ -144,21 +138,6 @@ class Edits(unittest.TestCase):
     def test_what_is_wrong(self) -> None:
         for files, said in BAD:
             self.assertEqual([it.text for it in crate_of(self, files).bad], said, files)
-
-    def test_one_of_the_kit_is_left_to_it_and_its_twin_is_tried(self) -> None:
-        for leaves_kits, names in ((False, [["a.edit", "b.edit"], ["a.twin"], []]), (True, [["b.edit"], ["a.twin"], ["a.edit"]])):
-            crate = crate_of(self, OF_KIT, leaves_kits)
-            self.assertEqual([[it.name for it in edits] for edits in (crate.edits, crate.twins, crate.left)], names)
-
-    def test_it_is_left_where_nothing_is_named_and_in_the_gate(self) -> None:
-        room, left = crate_of(self, OF_KIT).folder.parent.parent, "demo, tried by rt ci: a.edit in Half::of: it has a twin\n"
-        self.enterContext(unittest.mock.patch.object(TOOL, "ROOT", room))
-        self.enterContext(unittest.mock.patch.dict(TOOL.PROVE.CRATES, {"demo": []}, clear=True))
-        for words, is_left in (("", True), ("--due", True), ("demo --due", True), ("demo", False), ("--only a", False), ("--only a.", False)):
-            said = io.StringIO()
-            with contextlib.redirect_stdout(said), unittest.mock.patch("sys.argv", ["wrong-bodies", "--list", *words.split()]):
-                self.assertEqual(TOOL.main(), 0)
-            self.assertEqual(left in said.getvalue(), is_left, words)
 
 
 class Asked(unittest.TestCase):
@@ -322,22 +301,16 @@ class Due(unittest.TestCase):
         self.assertIn("due: b: 2 of 4\ndue: b/two.edit: its text changed\n", said)
 
     def test_a_change_makes_the_edits_due_that_it_is_of(self) -> None:
-        """A comment and an edit that only moved none, a function its own, a twin its edit, and what isn't in git yet itself."""
+        """A comment none, a function its own, a twin its edit, and what isn't in git yet itself."""
         self.write("a", "src/lib.rt", self.SOURCE.replace("    2", "    // two\n    2"))
         self.write("b", "src/lib.rt", self.SOURCE.replace("pub fn two() -> u8 {", "pub fn two() -> u8\n    ensures { result ≡ 2 }\n{"))
         self.write("d", "wrong-bodies/one.twin", "file: src/lib.rt\nold:     1\nnew:     1 + 0\n")
         self.write("e", "wrong-bodies/three.edit", "file: src/lib.rt\nold:     1\nnew:     3\n")
-        was = self.folder / "crates/f/wrong-bodies/one.edit"
-        self.write("f", "must-fail/one.edit", was.read_text(encoding="utf-8"))
-        was.unlink()
         self.give_room(40)
         self.land("c", "a b d e f")
-        wanted = {"b": ["two.edit", "two.twin"], "c": self.ALL, "d": ["one.edit", "one.twin"], "e": ["three.edit"]}
         due, said = self.due()
-        self.assertEqual(due, wanted)
+        self.assertEqual(due, {"b": ["two.edit", "two.twin"], "c": self.ALL, "d": ["one.edit", "one.twin"], "e": ["three.edit"]})
         self.assertIn("due: b/two.twin: two changed\n", said)
-        self.write("f", "must-fail/one.edit", "file: src/lib.rt\nold:     1\nnew:     3\n")
-        self.assertEqual(self.due()[0], {**wanted, "f": ["one.edit", "one.twin"]})
 
     def test_what_waits_for_room_comes_first_in_the_next_landing(self) -> None:
         for name in "abc":
@@ -432,14 +405,6 @@ class Gate(unittest.TestCase):
     def test_a_part_that_ends_ill_has_failed(self) -> None:
         self.assertEqual(ran("false"), (0, 1, []))
         self.assertEqual(ran("sh", "-c", "echo 3 passed, 0 failed; exit 1"), (3, 1, []))
-
-    def test_a_must_fail_edit_that_shows_nothing_has_failed(self) -> None:
-        for line in ("rt: must-fail a/b.edit: BAD EDIT: it changes nothing", "rt: crates/a/must-fail/b.twin: BAD EDIT: its name",
-                     "rt: must-fail a/b.edit: refused, as it must be (only because a proof file names it)",
-                     "rt: must-fail a/b.edit: refused, as it must be (only by a limit)"):
-            self.assertEqual(ran("printf", f"{line}\n3 passed, 0 failed"), (3, 1, [line]))
-        for line in ("rt: must-fail a/b.edit: refused, as it must be: note: src/a.rt:1:1", "rt: ok; 2 refused, 1 of them only by a limit, 1 bad"):
-            self.assertEqual(ran("printf", f"{line}\n3 passed, 0 failed"), (3, 0, []))
 
     def test_the_last_parts_are_added_to_those_that_run_alone(self) -> None:
         said = io.StringIO()

@@ -2,7 +2,7 @@
 
 An edit is a file of lines 'file: src/x.rt', 'old: TEXT' and 'new: TEXT', each TEXT in one line, the old text once in the file.
 One that adds or removes a statement may be refused for its shape alone, so it needs a twin, or a line 'alone: REASON' that
-says why it has none; in must-fail/ '# alone: REASON', since the kit asks there that a line of no use to it begins with '#'.
+says why it has none.
 """
 
 from __future__ import annotations
@@ -15,10 +15,7 @@ from typing import Callable, Dict, FrozenSet, Iterable, List, Set, Tuple
 from onfi_tools.functions import Function, Key, functions_of, users_of
 
 Pair = Tuple[str, str, str]
-# Where edits stand. Those of the kit's own folder rt ci tries too, so it takes nothing else there: a twin of one stands in the other.
-KITS, OWN = "must-fail", "wrong-bodies"
-PLACES = (KITS, OWN)
-ALONE = re.compile(r"^(?:# )?alone: (.*)", re.M)
+ALONE = re.compile(r"^alone: (.*)", re.M)
 TOKEN = re.compile(r"""b?"(?:\\.|[^"\\])*"|b?'(?:\\.|[^'\\])'|[A-Za-z_]\w*!?|\d\w*|<<=?|>>=?|&&|\|\||[-+*/%&|^<>=!]=|->|=>|::|\.\.=?|\S""")
 STATEMENT = frozenset("if else match return let for while loop break continue fn => ?".split())
 OPERATOR = frozenset("+ - * / % & | ^ < > ! == != <= >= && || << >> += -= *= /= %= &= |= ^= .. ..= as".split())
@@ -84,11 +81,6 @@ class Edit:
     @property
     def is_twin(self) -> bool:
         return self.file.suffix == ".twin"
-
-    @property
-    def is_of_kit(self) -> bool:
-        """Whether rt ci tries it."""
-        return self.file.parent.name == KITS
 
     def has_twin(self, twins: Iterable[Edit]) -> bool:
         """Whether one of these is its own."""
