@@ -253,10 +253,11 @@ class Due(unittest.TestCase):
                     self.write(name, f"wrong-bodies/{function}{ending}", f"file: src/lib.rt\nold:     {text}\nnew:     {new}\n")
         self.commit()
         self.first = git(self.folder, "rev-parse", "HEAD")
-        here: Dict[str, Any] = {"ROOT": self.folder, "LANDINGS": self.folder / "landings", "COSTS": self.folder / "costs"}
+        here: Dict[str, Any] = {"ROOT": self.folder, **{it: self.folder / it.lower() for it in ("LANDINGS", "COSTS", "MISTAKES")}}
         self.enterContext(unittest.mock.patch.multiple(TOOL, **here))
         self.enterContext(unittest.mock.patch.dict(TOOL.PROVE.CRATES, dict.fromkeys(self.NAMES), clear=True))
         TOOL.COSTS.write_text("# minutes\nroom: 8\n" + "".join(f"{name}: 4\n" for name in self.NAMES), encoding="utf-8")
+        TOOL.MISTAKES.write_text("# none\n", encoding="utf-8")
 
     def write(self, crate: str, path: str, text: str) -> None:
         put(self.folder / "crates" / crate / path, text)
@@ -329,6 +330,26 @@ class Due(unittest.TestCase):
         self.assertEqual(due, {"c": self.ALL})
         self.assertIn("\nwhole: c\nwaiting: a\n", said)
 
+    def test_a_mistake_is_tried_whatever_changed_beside_the_room(self) -> None:
+        """In a crate of which nothing changed, in one that waits, and in one in its turn."""
+        for name in "ab":
+            self.write(name, "src/lib.rt", self.SOURCE.replace("-> u8 {", "-> u8\n    ensures { result ≡ 2 }\n{"))
+        TOOL.MISTAKES.write_text("# always\nb two: a two is a nought\nc one: a one is a nought\n", encoding="utf-8")
+        self.give_room(1)
+        self.land("a b c d e f")
+        due, said = self.due()
+        self.assertEqual(due, {"a": self.ALL, "b": ["two.edit", "two.twin"], "c": ["one.edit", "one.twin"]})
+        self.assertIn("due: 4 edits and twins of the mistakes, whatever changed\n", said)
+        self.write("b", "src/lib.rt", self.SOURCE)
+        self.write("a", "src/lib.rt", self.SOURCE)
+        self.assertEqual(self.due()[0], {"a": self.ALL, "b": ["two.edit", "two.twin"], "c": ["one.edit", "one.twin"]})
+
+    def test_a_wrong_line_of_the_mistakes_is_refused(self) -> None:
+        for line in ("b three: no such edit", "g one: no such crate", "b one:", "b one", "b one.edit: as a file", ""):
+            TOOL.MISTAKES.write_text(f"# always\nb two: a two is a nought\n{line}\n", encoding="utf-8")
+            with self.assertRaisesRegex(TOOL.BadMistake, f"^mistakes:3: .*: {line}$"):
+                self.due()
+
     def test_a_crate_is_tried_where_there_is_no_room(self) -> None:
         for name in "ab":
             self.write(name, "src/lib.rt", self.SOURCE.replace("-> u8 {", "-> u8\n    ensures { result ≡ 2 }\n{"))
@@ -367,6 +388,19 @@ class Due(unittest.TestCase):
         TOOL.ROOT, TOOL.LANDINGS = clone, clone / "landings"
         self.land("")
         self.assertEqual(self.due()[0], whole)
+
+
+class Mistakes(unittest.TestCase):
+    def test_each_mistake_of_the_tree_is_tried_where_nothing_changed(self) -> None:
+        """And no crate is in its turn; so each line of the list names an edit that applies."""
+        listed = [tuple(line.partition(":")[0].split()) for line in TOOL.MISTAKES.read_text(encoding="utf-8").splitlines() if line[0] != "#"]
+        self.assertEqual(len(listed), len({*listed}))
+        crates = [TOOL.Crate(name) for name in TOOL.PROVE.CRATES]
+        changed: Dict[str, Dict[Path, str]] = {it.name: {} for it in crates}
+        with unittest.mock.patch.multiple(TOOL, all_reasons=lambda *_: changed, in_turn=lambda *_: ([], [])), contextlib.redirect_stdout(io.StringIO()):
+            TOOL.leave_what_is_due(crates)
+        self.assertEqual(sorted(listed), sorted((crate.name, it.file.stem) for crate in crates for it in crate.edits))
+        self.assertEqual([it.file for crate in crates for it in crate.twins if not any(it.file.stem == edit.file.stem for edit in crate.edits)], [])
 
 
 class Twins(unittest.TestCase):
