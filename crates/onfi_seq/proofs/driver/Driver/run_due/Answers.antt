@@ -1,12 +1,11 @@
-use Rattle.std.proofs.Common.{◌≡◌, ap, sym, ◌∙◌, subst, None}
+use Rattle.std.proofs.Common.{◌≡◌, sym, subst, None}
 use Rattle.onfi_chip.specs.Chip.{Chip}
-use Rattle.onfi_core.specs.Dues.{IsDue}
 use Rattle.onfi_core.specs.Refusals.{phase_outcome}
 use Rattle.onfi_core.specs.State.{quiet}
 use Rattle.onfi_core.specs.Steps.{IsPromised, bus_refusal}
 use Rattle.onfi_core.proofs.Reaching.{events_reach}
 use Rattle.onfi_core.proofs.Running.{going_on}
-use Rattle.onfi_seq.specs.Driver.{DriverFields, IsAt, RanTo, ran_of}
+use Rattle.onfi_seq.specs.Driver.{DriverFields, IsAt, RanTo}
 use Rattle.onfi_seq.specs.declared.ran.Ran.{Ran}
 use Rattle.onfi_seq.proofs.Driving.{driven_ran, is_at, outside, phase_step, ran_to, same_quiet, within}
 use Rattle.onfi_seq.proofs.driver.Driver.run_due.Goals as goal

@@ -1,4 +1,4 @@
-use Rattle.std.proofs.Common.{inl, inr}
+use Rattle.std.proofs.Common.{inl}
 use Rattle.onfi_core.specs.declared.setup.Replanning.TheVariants.{AtOnce, Lazily}
 use Rattle.onfi_seq.specs.Sequencer.{Seen}
 use Rattle.onfi_seq.specs.Turned.{KeepsPlan, PlansAnew}

@@ -1,4 +1,4 @@
-use Rattle.std.proofs.Common.{◌≡◌, inl, inr, subst, sym}
+use Rattle.std.proofs.Common.{inl, inr, subst, sym}
 use Rattle.onfi_seq.specs.Sequencer.{Seen, seen_in}
 use Rattle.onfi_seq.specs.Turned.{Goes, MayRunPhase, PlansAtOnce}
 use Rattle.onfi_seq.proofs.Passing.{plans_go, turned_then}
