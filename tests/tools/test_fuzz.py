@@ -22,7 +22,7 @@ def say(text, status):
 {body}
 """
 REFUSES = """
-taken = {*"--limit --trace --requests --workers --remember --within --legal --early --slack --plain".split()}
+taken = {*"--limit --trace --requests --workers --remember --within --legal --early --slack".split()}
 options = [word for word in words[1:] if not word.isdigit()]
 if command not in ("plan", "check", "run") or sorted(options) != sorted(taken.intersection(options)):
     sys.stderr.write("error: a word\\n")
