@@ -6,6 +6,7 @@ pub mod ByHost
 pub mod Links
 pub mod Lanes
 pub mod Told
+mod Limits
 pub mod Same
 pub mod Sends
 pub mod Suited

@@ -106,3 +106,16 @@ channel_end end.Done thread false false = thread_or thread end.Unfinished
 channel_end (end.Stopped cause) thread complete short = end.Stopped cause
 channel_end (end.Over opened) thread complete short = end.Over opened
 channel_end end.Unfinished thread complete short = end.Unfinished
+
+-- ---- limits
+-- where it is over, so many nodes were opened
+abbrev pub IsOverAt : ℕ → ChannelEnd → Type 0
+IsOverAt limit (end.Over opened) = opened ≡ limit
+IsOverAt limit (end.Stopped cause) = Unit {0}
+IsOverAt limit end.Done = Unit {0}
+IsOverAt limit end.Unfinished = Unit {0}
+
+-- .. of a turn that ends a thread
+abbrev pub IsTurnOverAt : ℕ → Progress → Type 0
+IsTurnOverAt limit (progress.Over opened) = opened ≡ limit
+IsTurnOverAt limit _ = Unit {0}

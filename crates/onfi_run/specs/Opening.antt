@@ -8,19 +8,21 @@ use Rattle.onfi_chip.specs.SimChip.{array_times, chip_in, failing_calls, failing
 use Rattle.onfi_seq.specs.Drained.{poster_queues}
 use Rattle.onfi_script.specs.declared.device.PageDevice.{PageDevice}
 use Rattle.onfi_script.specs.declared.row.Row.{Row}
+use Rattle.onfi_run.specs.declared.channel_end.ChannelEnd.TheVariants.{Unfinished}
 use Rattle.onfi_run.specs.declared.gated.Gated.{Gated}
 use Rattle.onfi_run.specs.declared.lane.Lane.{Lane}
 use Rattle.onfi_run.specs.Chips.{all_on, array_time_on, fault_on, failing_on, unready_on}
 use Rattle.onfi_run.specs.declared.port.Port.{Port}
 use Rattle.onfi_run.specs.declared.station.Station.{Station}
 use Rattle.onfi_run.specs.ByHost.{host_numbers}
+use Rattle.onfi_run.specs.Ending.{IsOverAt}
 use Rattle.onfi_run.specs.Keys.{ChannelQueues, port_places, ports_of}
 use Rattle.onfi_run.specs.Arriving.{expected_of, expected_on}
 use Rattle.onfi_run.specs.Setup.{SetsUp}
 
--- the queues of a channel
+-- the queues of a channel, and its limit
 abbrev pub lane_queues : {P G : Type 0} → Lane (Gated P G) → ChannelQueues
-lane_queues lane = record { requests = lane.channel.sequencer.0.intake.queue; replies = poster_queues lane.channel.sequencer.0.posters }
+lane_queues lane = record { requests = lane.channel.sequencer.0.intake.queue; replies = poster_queues lane.channel.sequencer.0.posters; limit = lane.channel.sequencer.0.setup.limit }
 
 -- the channel of that number with that gate as it opens, over the chip that the rows describe
 pub record IsOpened {P G : Type 0} (setup : Setup) (rows : List Row) (number : ℕ) (gate : G) (lane : Lane (Gated P G)) : Type 0 where
@@ -28,6 +30,7 @@ pub record IsOpened {P G : Type 0} (setup : Setup) (rows : List Row) (number : �
   pub number_is : lane.channel.sequencer.0.intake.opened.channel ≡ number
   pub half_is : lane.channel.sequencer.0.half ≡ first_half setup
   pub gate_is : lane.channel.gate ≡ gate
+  pub unfinished : lane.ended ≡ Unfinished
   pub fresh : IsFresh setup (chip_in lane.channel.sequencer.1)
   pub faults : (chip_in lane.channel.sequencer.1).faults ≡ all_on (fault_on number) rows
   pub calls : failing_calls lane.channel.sequencer.1 ≡ all_on (failing_on number) rows
@@ -65,3 +68,7 @@ pub record AreNew (rows : List Row) (channels : ℕ) (stations : List Station) :
   pub numbers : map (λ (s : Station). s.number) stations ≡ host_numbers
   pub unsent : Each (Each IsUnsent) (ports_of stations)
   pub places : map (map port_places) (ports_of stations) ≡ map (expected_of rows channels) host_numbers
+
+-- where the channel's thread is over, a planning opened as many nodes as it may
+abbrev pub IsWithin : {P G : Type 0} → Lane (Gated P G) → Type 0
+IsWithin lane = IsOverAt (lane_queues lane).limit lane.ended

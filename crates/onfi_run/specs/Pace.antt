@@ -3,11 +3,13 @@ use Rattle.std.specs.Prelude.{◌≡◌, ℕ, ◌+◌, ◌-◌, ◌<◌, ◌≤�
 use Rattle.std.specs.List.{AllByRecursion as Each, Contains}
 use Rattle.std.specs.Option.{is_some, unwrap_or}
 use Rattle.onfi_run.specs.declared.bus_use.BusUse.{BusUse}
+use Rattle.onfi_run.specs.declared.channel_end.ChannelEnd.{ChannelEnd}
 use Rattle.onfi_run.specs.declared.lane.Lane.{Lane}
 use Rattle.onfi_run.specs.declared.pace.Pace.{Pace}
 use Rattle.onfi_run.specs.declared.progress.Progress.{Progress}
 use Rattle.onfi_run.specs.declared.progress.Progress.TheVariants as progress
-use Rattle.onfi_run.specs.Ending.{is_spent, no_clock, refusals_behind, thread_end}
+use Rattle.onfi_run.specs.Ending.{IsOverAt, is_spent, no_clock, refusals_behind, thread_end}
+use Rattle.onfi_run.specs.Keys.{ChannelQueues}
 
 -- a turn at `now`, after which the bus is free from `free` on: where that is later, a phase keeps it busy until then
 abbrev pub bus_behind : ℕ → ℕ → BusUse → BusUse
@@ -60,3 +62,15 @@ pub record IsTurned {X : Type 0} (now : ℕ) (p : Progress) (free : ℕ) (ready 
 -- a request came: it may make a turn as soon as its bus is free
 abbrev pub woken : {X : Type 0} → Lane X → Lane X
 woken lane = record lane { pace = record lane.pace { wakes = 0 } }
+
+-- where a channel's thread is over, a planning opened as many nodes as it may
+abbrev pub EndsWithin : {X : Type 0} → (X → ChannelQueues) → Lane X → Type 0
+EndsWithin queues lane = IsOverAt (queues lane.channel).limit lane.ended
+
+-- .. which is that limit
+abbrev pub IsLaneWithin : {X : Type 0} → (X → ChannelQueues) → ℕ → Lane X → Type 0
+IsLaneWithin queues limit lane = ((queues lane.channel).limit ≡ limit) × EndsWithin queues lane
+
+-- what hosts leave of a channel as it is
+abbrev pub lane_key : {X : Type 0} → (X → ChannelQueues) → Lane X → ChannelQueues × ChannelEnd
+lane_key queues lane = (queues lane.channel, lane.ended)

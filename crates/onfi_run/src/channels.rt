@@ -4,10 +4,11 @@ ghost use Rattle.std.specs.Prelude.{◌≡◌};
 /// All channels of a run as its hosts see them.
 pub(crate) trait Channels {
     ghost use Rattle.std.specs.Prelude.{Bool, List, ℕ};
+    ghost use Rattle.onfi_run.specs.declared.channel_end.ChannelEnd.{ChannelEnd};
     ghost use Rattle.onfi_run.specs.Keys.{ChannelQueues};
 
-    /// The queues whose ends they hold, where they hold any.
-    ghost queues: { Self → List ChannelQueues };
+    /// The queues whose ends they hold, where they hold any, and how their threads ended.
+    ghost queues: { Self → List (ChannelQueues × ChannelEnd) };
 
     /// Whether that channel makes no more turns, or that nothing is promised of it.
     ghost ended: { Self → ℕ → Bool → Type 0 };

@@ -69,7 +69,7 @@ impl<P: Planner + Drop, G: Gate + Drop> Channel for Gated<P, G> {
     ghost use Rattle.onfi_seq.specs.Sequencer.{seen_in};
     ghost use Rattle.onfi_run.specs.Ending.{DrainsTo, Proceeds};
 
-    ghost queues = { λ c. record { requests = c.sequencer.0.intake.queue; replies = poster_queues c.sequencer.0.posters } };
+    ghost queues = { λ c. record { requests = c.sequencer.0.intake.queue; replies = poster_queues c.sequencer.0.posters; limit = c.sequencer.0.setup.limit } };
 
     ghost short = { λ c. c.sequencer.0.short };
 

@@ -1,9 +1,9 @@
 //! A channel in its thread.
-ghost use Rattle.std.specs.Prelude.{◌≡◌, Bool, IsTrue, Some, false};
+ghost use Rattle.std.specs.Prelude.{◌≡◌, Bool, IfSome, IsTrue, Some, false};
 ghost use Rattle.onfi_run.specs.declared.progress.Progress.{Progress as AProgress};
 ghost use Rattle.onfi_run.specs.declared.channel_end.ChannelEnd.{ChannelEnd};
-ghost use Rattle.onfi_run.specs.Pace.{IsTurned, MayTurn, Waits, due_of};
-ghost use Rattle.onfi_run.specs.Ending.{is_spent, refusals_behind, thread_end};
+ghost use Rattle.onfi_run.specs.Pace.{EndsWithin, IsTurned, MayTurn, Waits, due_of};
+ghost use Rattle.onfi_run.specs.Ending.{IsOverAt, is_spent, refusals_behind, thread_end};
 
 use crate::board::Board;
 use crate::channel::{Channel, NO_CLOCK};
@@ -62,6 +62,7 @@ impl<C: Channel> Lane<C> {
     fn step<R: Wait>(&mut self, rt: &R, alloc: Global, board: &Board) -> Option<ChannelEnd>
         ensures ended { (p : AProgress) × (all_ended : Bool) × C.proceeds 18446744073709551615 self.old.channel p self.new.channel × (result ≡ thread_end (is_spent self.old.refusals) all_ended p) }
         ensures same { C.queues self.new.channel ≡ C.queues self.old.channel }
+        ensures over { IfSome result (IsOverAt (C.queues self.old.channel).limit) }
         ensures short { IsTrue (C.short self.old.channel) → IsTrue (C.short self.new.channel) }
     {
         let progress = self.channel.turn(rt, alloc, NO_CLOCK);
@@ -86,6 +87,7 @@ impl<C: Channel> Lane<C> {
             × IsTurned now p (C.free self.new.channel) (C.done_behind self.new.channel now) self.old self.new }
         ensures none { result ≡ false → self.new ≡ self.old }
         ensures same { C.queues self.new.channel ≡ C.queues self.old.channel }
+        ensures over { EndsWithin C.queues self.old → EndsWithin C.queues self.new }
         ensures short { IsTrue (C.short self.old.channel) → IsTrue (C.short self.new.channel) }
     {
         if self.pace.has_ended {
@@ -114,6 +116,7 @@ impl<C: Channel> Lane<C> {
     ) -> Lane<C>
         ensures ended { (before : C) × (p : AProgress) × (spent : Bool) × (all_ended : Bool) × C.proceeds 18446744073709551615 before p result.channel × (Some result.ended ≡ thread_end spent all_ended p) }
         ensures same { C.queues result.channel ≡ C.queues self.channel }
+        ensures over { EndsWithin C.queues result }
         ensures short { IsTrue (C.short self.channel) → IsTrue (C.short result.channel) }
     {
         for _ in rt.forever() {

@@ -41,7 +41,7 @@ pub use chip::chip_of;
 pub use clock_report::ClockReport;
 pub use completion::Completion;
 pub use latency::Latency;
-pub use no_gate::NoGate;
+pub use no_gate::{NoGate, no_gates};
 pub use onfi_plan::Limit;
 pub use onfi_seq::Gate;
 pub use preparing::{Prepared, prepare, prepare_for};

@@ -13,7 +13,10 @@ impl Gate for NoGate {
 }
 
 /// One for each of the four channels that a run may have.
-pub(crate) fn no_gates(alloc: Global) -> Result<Vec<NoGate>, AllocError>
+///
+/// # Errors
+/// Where memory was refused.
+pub fn no_gates(alloc: Global) -> Result<Vec<NoGate>, AllocError>
     ensures { IfOk result (λ gates. length gates.items ≡ 4) }
 {
     Vec::from_elem(alloc, NoGate, 4)

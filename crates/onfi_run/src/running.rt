@@ -1,8 +1,11 @@
 //! From the bytes of an input to the bytes of its answer.
-ghost use Rattle.std.specs.Prelude.{◌≡◌, ◌≤◌, length, map, IfOk, false};
+ghost use Rattle.std.specs.Prelude.{◌≡◌, ◌≤◌, ℕ, length, map, IfOk, false};
+ghost use Rattle.std.specs.List.{AllByRecursion as Each};
 ghost use Rattle.onfi_run.specs.declared.gated.Gated.{Gated as AGated};
 ghost use Rattle.onfi_run.specs.declared.simulation.Settled.{Settled as ASettled};
-ghost use Rattle.onfi_run.specs.Opening.{AreBehind, lane_queues};
+ghost use Rattle.onfi_run.specs.Ending.{IsOverAt};
+ghost use Rattle.onfi_run.specs.Opening.{AreBehind, IsWithin, lane_queues};
+ghost use Rattle.onfi_run.specs.Pace.{IsLaneWithin};
 ghost use Rattle.std.specs.Io.KnownBytes.{Keeps};
 ghost use Rattle.onfi_script.specs.AnswerOf.{answer_of};
 ghost use Rattle.onfi_run.specs.Prepares.{IsPrepared};
@@ -42,6 +45,7 @@ fn settle<R: Threads + Wait + Sync, P: Planner + Copy + Send + Drop, G: Gate + S
     stage: Stage<P, G>,
 ) -> Result<Settled<Gated<P, G>>, AllocError>
     ensures lanes { IfOk result (λ s. map lane_queues s.lanes.items ≡ map lane_queues stage.lanes.items) }
+    ensures over { Each (λ l. IsWithin l) stage.lanes.items → IfOk result (λ s. Each (λ l. IsWithin l) s.lanes.items) }
     ensures stations { IfOk result (λ s. HaveSamePorts stage.stations s.stations) }
     ensures no_clock { clocked ≡ false → IfOk result (λ s. s.now ≡ 0) }
 {
@@ -61,7 +65,8 @@ fn report_of<R: Wait, C: Channel + Drop>(
     settled: Settled<C>,
 ) -> Result<Report, AllocError>
     requires { AreLinked (map (λ l. C.queues l.channel) settled.lanes.items) settled.stations }
-    ensures { IfOk result (λ report. Tells clocked settled.now (ports_of settled.stations) (map (λ l. l.pace.bus) settled.lanes.items) report) }
+    ensures tells { IfOk result (λ report. Tells clocked settled.now (ports_of settled.stations) (map (λ l. l.pace.bus) settled.lanes.items) report) }
+    ensures over { IfOk result (λ report. (limit : ℕ) → Each (IsLaneWithin C.queues limit) settled.lanes.items → Each (IsOverAt limit) report.ends) }
 {
     let Settled {
         lanes,
@@ -87,7 +92,7 @@ fn run<R: Threads + Wait + Sync, P: Planner + Copy + Send + Drop, G: Gate + Send
     prepared: &Prepared,
 ) -> Result<Report, AllocError>
     requires gates { length gates.items ≡ 4 }
-    ensures report { IfOk result (λ report. IsReportOf clocked prepared.now.rows.items report) }
+    ensures report { IfOk result (λ report. IsReportOf clocked limit prepared.now.rows.items report) }
     ensures tells { IfOk result (λ report. (settled : ASettled (AGated P G)) × AreBehind prepared.now.rows.items prepared.now.device.chips limit gates.items settled.lanes.items
         × (clocked ≡ false → settled.now ≡ 0) × Tells clocked settled.now (ports_of settled.stations) (map (λ l. l.pace.bus) settled.lanes.items) report) }
 {
@@ -123,7 +128,7 @@ fn answer<R: Threads + Wait + Sync, P: Planner + Copy + Send + Drop, G: Gate + S
     input: &[u8],
 ) -> Result<Answer, AllocError>
     requires gates { length gates.items ≡ 4 }
-    ensures { IfOk result (λ a. IsAnswer clocked input.now (answer_of a)) }
+    ensures { IfOk result (λ a. IsAnswer clocked limit input.now (answer_of a)) }
 {
     match prepare_for(alloc, purpose_of(clocked), input) {
         Ok(prepared) => {
@@ -157,9 +162,9 @@ pub fn run_script<R: Threads + Wait + Sync, G: Gate + Send + Drop, I: Read, O: W
     requires some { 1 ≤ limit }
     requires few { limit ≤ 1048576 }
     requires gates { length gates.items ≡ 4 }
-    ensures answer { IfOk result (λ status. Answers false (I.remaining reader.old) (O.contents writer.old) (O.contents writer.new) status) }
+    ensures answer { IfOk result (λ status. Answers false limit (I.remaining reader.old) (O.contents writer.old) (O.contents writer.new) status) }
     ensures unread { result ≡ Err EngineFault.Read → Keeps (O.contents writer.old) (O.contents writer.new) }
-    ensures unwritten { result ≡ Err EngineFault.Write → BeginsAnswer false (I.remaining reader.old) (O.contents writer.old) (O.contents writer.new) }
+    ensures unwritten { result ≡ Err EngineFault.Write → BeginsAnswer false limit (I.remaining reader.old) (O.contents writer.old) (O.contents writer.new) }
 {
     let limit = Limit::of(limit).unwrap();
     run_script_by(rt, alloc, PlainPlanner, limit, false, gates, reader, writer)
@@ -191,9 +196,9 @@ pub fn run_script_by<
     writer: &mut O,
 ) -> Result<u8, EngineFault>
     requires gates { length gates.items ≡ 4 }
-    ensures answer { IfOk result (λ status. Answers clocked (I.remaining reader.old) (O.contents writer.old) (O.contents writer.new) status) }
+    ensures answer { IfOk result (λ status. Answers clocked limit (I.remaining reader.old) (O.contents writer.old) (O.contents writer.new) status) }
     ensures unread { result ≡ Err EngineFault.Read → Keeps (O.contents writer.old) (O.contents writer.new) }
-    ensures unwritten { result ≡ Err EngineFault.Write → BeginsAnswer clocked (I.remaining reader.old) (O.contents writer.old) (O.contents writer.new) }
+    ensures unwritten { result ≡ Err EngineFault.Write → BeginsAnswer clocked limit (I.remaining reader.old) (O.contents writer.old) (O.contents writer.new) }
 {
     let input = match read_all(alloc, reader) {
         Ok(input) => input,
@@ -218,7 +223,7 @@ pub fn run_freely<R: Threads + Wait + Sync, P: Planner + Copy + Send + Drop>(
     clocked: bool,
     input: &[u8],
 ) -> Result<Answer, AllocError>
-    ensures answer { IfOk result (λ a. IsAnswer clocked input.now (answer_of a)) }
+    ensures answer { IfOk result (λ a. IsAnswer clocked limit input.now (answer_of a)) }
 {
     let gates = no_gates(alloc)?;
     answer(rt, alloc, planner, limit, clocked, gates, input)

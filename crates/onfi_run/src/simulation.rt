@@ -5,7 +5,7 @@ ghost use Rattle.onfi_run.specs.Arriving.{comes_at as spec_comes_at};
 ghost use Rattle.onfi_run.specs.Ending.{no_clock};
 ghost use Rattle.onfi_run.specs.Keys.{HaveSamePorts};
 ghost use Rattle.onfi_run.specs.Moments.{AllAtMoment};
-ghost use Rattle.onfi_run.specs.Pace.{IsNext, Waits, due_of};
+ghost use Rattle.onfi_run.specs.Pace.{EndsWithin, IsNext, Waits, due_of, lane_key};
 ghost use Rattle.onfi_run.specs.Resting.{Rests, ends_by};
 
 use crate::acts::{Course, act};
@@ -32,10 +32,10 @@ pub(crate) struct Settled<C: Channel> {
 impl<C: Channel> Channels for Vec<Lane<C>> {
     ghost use Rattle.std.specs.Prelude.{◌≡◌, map};
     ghost use Rattle.onfi_run.specs.Answers.{changed};
-    ghost use Rattle.onfi_run.specs.Pace.{woken as spec_woken};
+    ghost use Rattle.onfi_run.specs.Pace.{lane_key, woken as spec_woken};
     ghost use Rattle.onfi_run.specs.Resting.{ends_by};
 
-    ghost queues = { λ lanes. map (λ l. C.queues l.channel) lanes.items };
+    ghost queues = { λ lanes. map (lane_key C.queues) lanes.items };
 
     ghost ended = { λ lanes. ends_by (map (λ l. l.pace) lanes.items) };
 
@@ -61,7 +61,7 @@ fn act_all<R: Wait, C: Channel>(
     lanes: &mut Vec<Lane<C>>,
     stations: &mut [Station; 4],
 ) -> bool
-    ensures lanes { map (λ l. C.queues l.channel) lanes.new.items ≡ map (λ l. C.queues l.channel) lanes.old.items }
+    ensures lanes { map (lane_key C.queues) lanes.new.items ≡ map (lane_key C.queues) lanes.old.items }
     ensures stations { HaveSamePorts stations.old stations.new }
     ensures rest { result ≡ false → (lanes.new ≡ lanes.old) × Each (Rests now course.now.rows.now (ends_by (map (λ l. l.pace) lanes.new.items))) stations.new }
     ensures moments { AllAtMoment now stations.old stations.new }
@@ -77,6 +77,7 @@ fn act_all<R: Wait, C: Channel>(
 /// Each channel in the order of its number makes a turn at that moment, if it may make one; whether one did.
 fn turn_all<R: Wait, C: Channel>(rt: &R, alloc: Global, now: u64, lanes: &mut Vec<Lane<C>>) -> bool
     ensures same { map (λ l. C.queues l.channel) lanes.new.items ≡ map (λ l. C.queues l.channel) lanes.old.items }
+    ensures over { Each (EndsWithin C.queues) lanes.old.items → Each (EndsWithin C.queues) lanes.new.items }
     ensures wait { result ≡ false → (lanes.new.items ≡ lanes.old.items) × Each (λ l. Waits now l.pace (C.free l.channel)) lanes.new.items }
 {
     let mut any = false;
@@ -96,6 +97,7 @@ fn round<R: Wait, C: Channel>(
     stations: &mut [Station; 4],
 ) -> bool
     ensures lanes { map (λ l. C.queues l.channel) lanes.new.items ≡ map (λ l. C.queues l.channel) lanes.old.items }
+    ensures over { Each (EndsWithin C.queues) lanes.old.items → Each (EndsWithin C.queues) lanes.new.items }
     ensures stations { HaveSamePorts stations.old stations.new }
     ensures rest { result ≡ false → Each (Rests now course.now.rows.now (ends_by (map (λ l. l.pace) lanes.new.items))) stations.new }
     ensures wait { result ≡ false → Each (λ l. Waits now l.pace (C.free l.channel)) lanes.new.items }
@@ -115,6 +117,7 @@ fn settle<R: Wait, C: Channel>(
     stations: &mut [Station; 4],
 )
     ensures lanes { map (λ l. C.queues l.channel) lanes.new.items ≡ map (λ l. C.queues l.channel) lanes.old.items }
+    ensures over { Each (EndsWithin C.queues) lanes.old.items → Each (EndsWithin C.queues) lanes.new.items }
     ensures stations { HaveSamePorts stations.old stations.new }
     ensures rest { Each (Rests now course.now.rows.now (ends_by (map (λ l. l.pace) lanes.new.items))) stations.new }
     ensures wait { Each (λ l. Waits now l.pace (C.free l.channel)) lanes.new.items }
@@ -177,6 +180,7 @@ pub(crate) fn simulate<R: Wait, C: Channel + Drop>(
     mut stations: [Station; 4],
 ) -> Settled<C>
     ensures lanes { map (λ l. C.queues l.channel) result.lanes.items ≡ map (λ l. C.queues l.channel) lanes.items }
+    ensures over { Each (EndsWithin C.queues) lanes.items → Each (EndsWithin C.queues) result.lanes.items }
     ensures stations { HaveSamePorts stations result.stations }
     ensures rest { (now : ℕ) → result.now ≤ now → now < no_clock → Each (Rests now course.now.rows.now (ends_by (map (λ l. l.pace) result.lanes.items))) result.stations }
     ensures wait { (now : ℕ) → result.now ≤ now → now < no_clock → Each (λ l. Waits now l.pace (C.free l.channel)) result.lanes.items }

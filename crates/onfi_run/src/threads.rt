@@ -1,10 +1,12 @@
 //! A thread for each channel, and one for each host that is used.
 ghost use Rattle.std.specs.Prelude.{◌≡◌, ℕ, List, IfOk, map};
+ghost use Rattle.std.specs.List.{AllByRecursion as Each};
 ghost use Rattle.std.specs.Option.{is_some};
 ghost use Rattle.onfi_script.specs.declared.row.Row.{Row as ARow};
 ghost use Rattle.onfi_run.specs.declared.port.Port.{Port};
 ghost use Rattle.onfi_run.specs.Keys.{HasSamePorts, HaveSamePorts};
 ghost use Rattle.onfi_run.specs.Operations.{operation_of};
+ghost use Rattle.onfi_run.specs.Pace.{EndsWithin};
 ghost use Rattle.onfi_run.specs.Threads.{IsWorkerOf, is_used as spec_is_used};
 
 use crate::acts::Course;
@@ -30,7 +32,7 @@ struct Shared<'s> {
     rows: &'s [Row],
 }
 
-/// It gives back the ends of the channel that it was given.
+/// It gives back the ends of the channel that it was given, which is over only at its limit.
 #[derive(Drop)]
 struct GivesLane<C: Channel> {
     was: Snapshot<Lane<C>>,
@@ -38,8 +40,9 @@ struct GivesLane<C: Channel> {
 
 impl<C: Channel> Promise<Lane<C>> for GivesLane<C> {
     ghost use Rattle.std.specs.Prelude.{◌≡◌};
+    ghost use Rattle.onfi_run.specs.Pace.{EndsWithin};
 
-    ghost kept_by = { λ p r. C.queues r.channel ≡ C.queues p.was.value.channel };
+    ghost kept_by = { λ p r. (C.queues r.channel ≡ C.queues p.was.value.channel) × EndsWithin C.queues r };
 }
 
 /// It gives back the ends of the host that it was given.
@@ -183,6 +186,7 @@ fn serve_all<'s, E, R: Threads + Wait + Sync, C: Channel + Send + Drop + 's>(
     stations: [Station; 4],
 ) -> Result<(Vec<Lane<C>>, [Station; 4]), AllocError>
     ensures lanes { IfOk result (λ r. map (λ l. C.queues l.channel) r.0.items ≡ map (λ l. C.queues l.channel) lanes.items) }
+    ensures over { IfOk result (λ r. Each (EndsWithin C.queues) r.0.items) }
     ensures stations { IfOk result (λ r. HaveSamePorts stations r.1) }
 {
     let mut left = lanes;
@@ -209,6 +213,7 @@ pub(crate) fn run_threads<R: Threads + Wait + Sync, C: Channel + Send + Drop>(
     stations: [Station; 4],
 ) -> Result<Settled<C>, AllocError>
     ensures lanes { IfOk result (λ s. map (λ l. C.queues l.channel) s.lanes.items ≡ map (λ l. C.queues l.channel) lanes.items) }
+    ensures over { IfOk result (λ s. Each (EndsWithin C.queues) s.lanes.items) }
     ensures stations { IfOk result (λ s. HaveSamePorts stations s.stations) }
     ensures no_clock { IfOk result (λ s. s.now ≡ 0) }
 {
@@ -224,6 +229,7 @@ pub(crate) fn run_threads<R: Threads + Wait + Sync, C: Channel + Send + Drop>(
         rt,
         move |scope| -> Result<(Vec<Lane<C>>, [Station; 4]), AllocError>
             ensures lanes { IfOk result (λ r. map (λ l. C.queues l.channel) r.0.items ≡ map (λ l. C.queues l.channel) lanes.items) }
+            ensures over { IfOk result (λ r. Each (EndsWithin C.queues) r.0.items) }
             ensures stations { IfOk result (λ r. HaveSamePorts stations r.1) }
         { serve_all(scope, rt, shared, lanes, stations) },
     )?;

@@ -4,12 +4,15 @@ use Rattle.std.specs.List.{AllByRecursion as Each}
 use Rattle.std.proofs.lemmas.List.{length-map, length_push}
 use Rattle.std.proofs.lemmas.Result.{IfOk-weaker}
 use Rattle.onfi_run.specs.ByHost.{host_numbers}
+use Rattle.onfi_run.specs.Ending.{IsOverAt}
 use Rattle.onfi_run.specs.Finishing.{IsGathered, report_with}
 use Rattle.onfi_run.specs.Keys.{ports_of}
+use Rattle.onfi_run.specs.Pace.{IsLaneWithin}
 use Rattle.onfi_run.specs.Report.{ReportView}
 use Rattle.onfi_run.specs.declared.lane.Lane.{Lane}
 use Rattle.onfi_run.proofs.ByHost.{each_longer}
 use Rattle.onfi_run.proofs.Collecting.{gathered_more, gathered_none, or_first, or_second}
+use Rattle.onfi_run.proofs.Limits.{each_shorter}
 use Rattle.onfi_run.proofs.Resting.{each_of_none, each_weaker}
 use Rattle.onfi_run.proofs.Links.{linked_less, ports_there}
 use Rattle.onfi_run.proofs.finishing.+gather.Goals as goal
@@ -89,3 +92,21 @@ returns-clause-refused g t c =
     let lanes = subst (Each (λ l. IsTrue (short l) → IsTrue more.short_of_memory)) (sym c.in-Some.ensures.items) all in
     IfOk-weaker c.with_channel.result (λ m. m ≡ more) (λ m. Each (λ l. IsTrue (short l) → IsTrue m.short_of_memory) c.args.lanes.items)
     (λ m is. subst (λ (r : ReportView). Each (λ l. IsTrue (short l) → IsTrue r.short_of_memory) c.args.lanes.items) (sym is) lanes) c.with_channel.ensures
+
+pub returns-in_default-clause-over : goal.returns-in_default-clause-over
+returns-in_default-clause-over g t c limit all = subst (λ (r : ReportView). Each (IsOverAt limit) r.ends) (sym c.new.ensures) tt
+
+pub returns-clause-over : goal.returns-clause-over
+returns-clause-over g t c =
+    let report = c.in_ok-report.report in
+    let finished = c.close_channel-finished in
+    let left = c.pop.new.self.items in
+    let lane = c.in-Some.lane in
+    let queues = g.C.Channel.queues in
+    IfOk-weaker c.with_channel.result (λ m. m ≡ report_with report finished.result) _
+    (λ m is limit all.
+    let both = each_shorter (IsLaneWithin queues limit) left lane (subst (Each (IsLaneWithin queues limit)) c.in-Some.ensures.items all) in
+    let before = c.in_ok-report.ensures.over limit both.0 in
+    let last = subst (λ n. IsOverAt n finished.result.end) both.1.0 (finished.ensures.over both.1.1) in
+    subst (λ (r : ReportView). Each (IsOverAt limit) r.ends) (sym is) (each_longer (IsOverAt limit) report.ends finished.result.end before last))
+    c.with_channel.ensures

@@ -45,3 +45,6 @@ returns-clause-concludes g c =
       end_is = done.ensures.end ∙ ap (λ g. channel_end drained.result.end c.args.lane.ended (are_complete g) done.result.short_of_memory) (sym done.ensures.got);
       short_is = done.ensures.short;
     }
+
+pub returns-clause-over : goal.returns-clause-over
+returns-clause-over g c within = c.conclude.ensures.over (g.C.Channel.queues c.args.lane.channel).limit c.drain-drained.ensures.over within

@@ -23,3 +23,6 @@ returns-in-None-next_moment-clause-rest g c at later before =
     let comes : Station → ℕ = λ s. comes_at rows s.passed in
     let none = each_apart (NeedsNone c.loop.now) (map due c.as_slice.result.now) (map comes c.settle.new.stations) c.in-None-next_moment.ensures in
     all_rest c.loop.now at rows (ends_by (map (λ l. l.pace) c.settle.new.lanes.items)) c.settle.new.stations later before c.settle.ensures.rest none.1
+
+pub returns-in-None-next_moment-clause-over : goal.returns-in-None-next_moment-clause-over
+returns-in-None-next_moment-clause-over g c all = c.settle.ensures.over (c.loop.invariant.2 all)

@@ -5,7 +5,8 @@ use Rattle.std.proofs.Math.Seq.{map-set_same}
 use Rattle.std.proofs.lemmas.Bool.{or_parts}
 use Rattle.std.proofs.lemmas.List.{take_all}
 use Rattle.onfi_run.specs.declared.lane.Lane.{Lane}
-use Rattle.onfi_run.specs.Pace.{Waits}
+use Rattle.onfi_run.specs.Pace.{EndsWithin, Waits}
+use Rattle.onfi_run.proofs.Limits.{set_within}
 use Rattle.onfi_run.proofs.Resting.{each_more, set_back, some_there}
 use Rattle.onfi_run.proofs.simulation.turn_all.Goals as goal
 
@@ -19,9 +20,10 @@ loop-channel-preserved g c =
     let value = c.index_mut.ensures.value in (
       map-set_same (λ x. g.C.Channel.queues x.channel) lanes at new old (c.turn_at-turned.ensures.same ∙ ap (λ x. g.C.Channel.queues x.channel) value) ∙ c.loop-channel.invariant.0,
       length-set lanes at new ∙ c.loop-channel.invariant.1,
+      λ all. set_within g.C.Channel.queues lanes at _ new (λ was. c.turn_at-turned.ensures.over (subst (EndsWithin g.C.Channel.queues) (sym value) was)) (c.loop-channel.invariant.2 all),
       λ none.
           let both = or_parts c.loop-channel.any c.turn_at-turned.result (sym c.either-any.ensures ∙ none) in
-          let had = c.loop-channel.invariant.2 both.0 in
+          let had = c.loop-channel.invariant.3 both.0 in
           let same = set_back lanes at old new (c.turn_at-turned.ensures.none both.1 ∙ value) in
           let within : at < length lanes = omega (arith, c.loop-channel-test.true, c.len-channel-end.ensures, c.loop-channel.invariant.1) in
           let waits = λ (x : Lane g.row.C.Denot). Waits c.args.now x.pace (g.C.Channel.free x.channel) in
@@ -34,7 +36,7 @@ loop-channel-preserved g c =
 pub returns-clause-wait : goal.returns-clause-wait
 returns-clause-wait g c none =
     let all = c.args.lanes.now.items in
-    let had = c.loop-channel.invariant.2 none in
+    let had = c.loop-channel.invariant.3 none in
     let waits = λ (x : Lane g.row.C.Denot). Waits c.args.now x.pace (g.C.Channel.free x.channel) in
     let each = subst (Each waits) (take_all c.loop-channel.channel all (omega (arith, c.loop-channel-test.false, c.len-channel-end.ensures))) had.1 in
     (had.0, subst (Each waits) (sym had.0) each)

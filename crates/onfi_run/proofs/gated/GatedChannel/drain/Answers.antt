@@ -1,5 +1,7 @@
 use Rattle.onfi_chip.specs.SimChip.{chip_in}
 use Rattle.onfi_seq.specs.Sequencer.{seen_in}
+use Rattle.onfi_run.specs.Ending.{no_clock}
+use Rattle.onfi_run.proofs.Limits.{drained_over}
 use Rattle.onfi_run.proofs.Same.{grown_queues, same_queues}
 use Rattle.onfi_run.proofs.gated.GatedChannel.drain.Goals as goal
 
@@ -8,3 +10,8 @@ returns-clause-same g c = same_queues (seen_in chip_in c.args.self.now.sequencer
 
 pub returns-clause-inboxes : goal.returns-clause-inboxes
 returns-clause-inboxes g c = grown_queues c.args.inboxes.now c.drain-end.new.inboxes c.drain-end.ensures.inboxes.count c.drain-end.ensures.inboxes.each
+
+pub returns-clause-over : goal.returns-clause-over
+returns-clause-over g c =
+    drained_over no_clock (seen_in chip_in c.args.self.now.sequencer) c.args.hosts.now c.args.inboxes.now c.drain-end.new.inboxes 1000000 c.drain-end.result (seen_in chip_in c.drain-end.new.self)
+    c.end_of.result c.drain-end.ensures.drains c.end_of.ensures

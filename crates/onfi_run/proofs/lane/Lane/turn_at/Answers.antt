@@ -1,4 +1,7 @@
-use Rattle.std.proofs.Common.{sym, subst, arith}
+use Rattle.std.proofs.Common.{sym, subst, arith, ap, ◌∙◌}
+use Rattle.std.specs.Prelude.{IfSome}
+use Rattle.onfi_run.specs.Ending.{IsOverAt}
+use Rattle.onfi_run.proofs.Limits.{ends_over, thread_over}
 use Rattle.onfi_run.proofs.Resting.{due_by, ended_waits, not_due}
 use Rattle.onfi_run.proofs.lane.Lane.turn_at.Goals as goal
 
@@ -26,3 +29,14 @@ returns-clause-turned g c turned =
     let paced = c.turn.ensures in
     let proceeds = g.C.Channel.proceeds c.args.now c.args.self.now.channel c.turn-progress.result in
     (c.turn-progress.result, subst proceeds (sym channel) c.turn-progress.ensures.turned, record { ended = cc; refusals = c.end_after-end.ensures.refusals; pace = cc })
+
+pub returns-clause-over : goal.returns-clause-over
+returns-clause-over g c was =
+    let limit = (g.C.Channel.queues c.args.self.now.channel).limit in
+    let told = c.end_after-end.ensures in
+    let turn = c.turn-progress.ensures in
+    let ends = subst (λ e. IfSome e (IsOverAt limit)) (sym told.end) (thread_over limit _ _ c.turn-progress.result turn.over) in
+    let before = subst (IsOverAt limit) (sym told.ended) was in
+    let over = ends_over limit c.end_after-end.result _ c.unwrap_or-self.result ends before c.unwrap_or-self.ensures in
+    let same = ap (g.C.Channel.queues) told.channel ∙ turn.same in
+    subst (λ q. IsOverAt q.limit c.unwrap_or-self.result) (sym same) over

@@ -1,13 +1,13 @@
 use Rattle.std.proofs.Common.{ap, arith, ◌∙◌}
 use Rattle.std.specs.Prelude.{set}
 use Rattle.std.proofs.Math.Seq.{map-set_same}
-use Rattle.onfi_run.specs.Pace.{woken}
+use Rattle.onfi_run.specs.Pace.{lane_key, woken}
 use Rattle.onfi_run.proofs.Suited.{changed_past, changed_there}
 use Rattle.onfi_run.proofs.simulation.VecLaneChannels.wake.Goals as goal
 
 pub returns-then-channel-len-clause-same : goal.returns-then-channel-len-clause-same
 returns-then-channel-len-clause-same g c =
-    map-set_same (λ l. g.C.Channel.queues l.channel) c.args.self.now.items c.args.channel _ c.index_mut.result.now (ap (λ l. g.C.Channel.queues l.channel) c.index_mut.ensures.value)
+    map-set_same (lane_key g.C.Channel.queues) c.args.self.now.items c.args.channel _ c.index_mut.result.now (ap (lane_key g.C.Channel.queues) c.index_mut.ensures.value)
 
 pub returns-then-channel-len-clause-woken : goal.returns-then-channel-len-clause-woken
 returns-then-channel-len-clause-woken g c =
