@@ -1,7 +1,7 @@
 //! What the program reads.
 use onfi_console::Parsed;
 use onfi_script::{InputFault, read_all};
-use std::alloc::Global;
+use std::alloc::{AllocError, Global};
 use std::fs;
 use std::fs::{Files, OpenFile};
 use std::io::{Error, Input};
@@ -28,17 +28,47 @@ impl<'a> From<InputFault> for Unread<'a> {
     }
 }
 
-/// All that a command line names: the script, and where a plan text of its own file begins after it.
+/// All that a command line names: the script, and the plan text or log of a file of its own.
+#[derive(Drop)]
+pub struct Inputs {
+    pub script: Vec<u8>,
+    pub text: Option<Vec<u8>>,
+}
+
+impl Inputs {
+    /// The script and what comes after it in one text, and where that begins.
+    ///
+    /// # Errors
+    /// Where memory was refused.
+    pub fn join(self) -> Result<(Vec<u8>, usize), AllocError> {
+        let Inputs { mut script, text } = self;
+        let Some(text) = text else {
+            return Ok((script, 0));
+        };
+        if !script.is_empty() && !script.ends_with(b"\n") {
+            script.extend_from_slice(b"\n")?;
+        }
+        let at = script.len();
+        script.extend_from_slice(text.as_slice())?;
+        Ok((script, at))
+    }
+}
+
+/// Reads all that a command line names.
+///
+/// # Errors
+/// Where a file can't be opened or is a directory, a read failed, or memory was refused.
 pub fn read<'a, R: Files + Input>(
     rt: &R,
     alloc: Global,
     parsed: &Parsed<'a>,
-) -> Result<(Vec<u8>, usize), Unread<'a>> {
+) -> Result<Inputs, Unread<'a>> {
     let script = read_file(rt, alloc, parsed.script)?;
-    match parsed.plan {
-        None => Ok((script, 0)),
-        Some(plan) => join_plan(script, read_file(rt, alloc, Some(plan))?.as_slice()),
-    }
+    let text = match parsed.plan {
+        None => None,
+        Some(plan) => Some(read_file(rt, alloc, Some(plan))?),
+    };
+    Ok(Inputs { script, text })
 }
 
 /// All bytes of a file, or of standard input where it is `-` or none is named.
@@ -62,23 +92,5 @@ fn is_directory(file: &impl OpenFile) -> bool {
     match file.metadata() {
         Ok(metadata) => metadata.is_dir(),
         Err(_) => false,
-    }
-}
-
-/// A script, and a plan text after it, in a line of its own; and where that begins.
-fn join_plan<'a>(mut script: Vec<u8>, plan: &[u8]) -> Result<(Vec<u8>, usize), Unread<'a>> {
-    if !script.is_empty() && !script.ends_with(b"\n") {
-        push(&mut script, b"\n")?;
-    }
-    let at = script.len();
-    push(&mut script, plan)?;
-    Ok((script, at))
-}
-
-/// Appends bytes to others.
-fn push<'a>(text: &mut Vec<u8>, more: &[u8]) -> Result<(), Unread<'a>> {
-    match text.extend_from_slice(more) {
-        Ok(()) => Ok(()),
-        Err(_) => Err(Unread::Memory),
     }
 }

@@ -6,20 +6,20 @@ ghost use Rattle.std.specs.Prelude.{IfOk};
 ghost use Rattle.onfi_console.specs.Words.{IsInRange};
 
 mod input;
+mod keeping;
+mod why;
 
-use input::{Unread, read};
+use input::{Inputs, Unread, read};
+use keeping::Keeping;
 use onfi_console::{
-    Input, Named, Parsed, Untaken, describe, escape_bytes, escape_text, is_quiet, message,
-    read_words,
+    Input, Parsed, Untaken, escape_bytes, escape_text, is_quiet, message, read_words,
 };
-use onfi_run::{Limit, run_freely};
-use onfi_script::{Answer, Why, answer_by, audit_by, audit_gaps, write_text};
-use std::alloc::AllocError;
+use onfi_sim::carry_out;
 use std::fmt::Display;
 use std::io::{Eprint, ErrorKind, Print};
 use std::process::ExitCode;
-use std::sync::Wait;
 use std::thread::Threads;
+use why::find_why;
 
 /// The words of the command line, or the status of one that can't be read.
 fn collect_words(
@@ -125,28 +125,29 @@ fn report_unread_file(rt: &(impl AllocGlobal + Eprint), name: &str, why: impl Di
     }
 }
 
-/// The answer to what is asked of an input.
-fn answer_to<R: Threads + Wait + Sync + AllocGlobal>(
-    rt: &R,
+/// Says, for a person, why an answer with that status refuses its inputs, and what it leaves unsaid; nothing where memory is refused
+/// to that.
+fn report_answer(
+    rt: &(impl Threads + Sync + AllocGlobal + Eprint),
     parsed: &Parsed<'_>,
-    text: &[u8],
-) -> Result<Answer, AllocError>
+    status: u8,
+    written: &[u8],
+    inputs: Inputs,
+)
     requires { IsInRange parsed.now.named }
 {
     let alloc = rt.alloc();
-    match parsed.named {
-        Named::Run {
-            planner,
-            limit,
-            clocked,
-        } => {
-            let limit = Limit::of(limit).unwrap();
-            run_freely(rt, alloc, planner, limit, clocked, text)
-        }
-        Named::Problem { command, workers } => answer_by(rt, alloc, command, workers, text),
-        Named::Device => describe(alloc, text),
-        Named::Audit { options } => audit_by(alloc, options, text),
-        Named::Gaps { options } => audit_gaps(alloc, options, text),
+    let Ok((text, at)) = inputs.join() else {
+        return;
+    };
+    let input = Input {
+        text: text.as_slice(),
+        script: parsed.script,
+        plan: parsed.plan.map(|name| (name, at)),
+    };
+    let why = find_why(rt, alloc, parsed.named, status, written, input.text);
+    if let Ok(Some(text)) = message(alloc, parsed, &input, written, why) {
+        let _ = rt.eprint(text.as_str());
     }
 }
 
@@ -159,25 +160,18 @@ fn main(rt: HostRuntime) -> ExitCode {
         Ok(parsed) => parsed,
         Err(status) => return ExitCode::from(status),
     };
-    let (text, at) = match read(&rt, rt.alloc(), &parsed) {
-        Ok(read) => read,
+    let inputs = match read(&rt, rt.alloc(), &parsed) {
+        Ok(inputs) => inputs,
         Err(fault) => return ExitCode::from(report_unread(&rt, &parsed, &fault)),
     };
-    let input = Input {
-        text: text.as_slice(),
-        script: parsed.script,
-        plan: parsed.plan.map(|name| (name, at)),
-    };
-    let answered = answer_to(&rt, &parsed, input.text);
-    let (text, status, why) = match &answered {
-        Ok(answer) => (answer.text.as_slice(), answer.status, answer.why),
-        Err(_) => (b"memory\n".as_slice(), 4, Some(Why::Memory)),
-    };
-    if write_text(&mut std::io::writer(&rt), text).is_err() {
+    let mut output = Keeping::new(std::io::writer(&rt), rt.alloc(), parsed.quiet);
+    let script = inputs.script.as_slice();
+    let text = inputs.text.as_ref().map(|text| text.as_slice());
+    let Ok(status) = carry_out(&rt, rt.alloc(), parsed.named, script, text, &mut output) else {
         return ExitCode::from(7);
-    }
-    if let Ok(Some(text)) = message(rt.alloc(), &parsed, &input, text, why) {
-        let _ = rt.eprint(text.as_str());
+    };
+    if !parsed.quiet {
+        report_answer(&rt, &parsed, status, output.kept(), inputs);
     }
     ExitCode::from(status)
 }

@@ -1,8 +1,11 @@
 //! What the program does, as calls: a script's problem is planned or a plan of it checked ([`engine`], by several workers
-//! [`engine_split`]), its operations are run ([`run_script`]), and a command line is read ([`words`]). Alone, it gives all that a
-//! program over readers and writers of its own needs.
+//! [`engine_split`]), its operations are run ([`run_script`]), and a command line is read ([`words`]) and carried out
+//! ([`carry_out`]). Alone, it gives all that a program over readers and writers of its own needs.
 #![tactic(auto)]
 
+mod carrying_out;
+
+pub use carrying_out::carry_out;
 pub use onfi_console::{
     ChosenPlanner, Command, CommandName, EngineFault, GapOptions, Named, Output, Parsed,
     PlanOptions, SlackPlanner, Weighing, WordsFault, audit, audit_gaps, describe, engine,
