@@ -8,7 +8,7 @@ use Rattle.onfi_core.specs.declared.outcome.Cause.TheVariants.{Clock}
 use Rattle.onfi_core.specs.declared.outcome.Outcome.{Outcome}
 use Rattle.onfi_core.specs.declared.outcome.Outcome.TheVariants as outcome
 use Rattle.onfi_core.specs.declared.setup.Setup.{Setup}
-use Rattle.onfi_core.specs.State.{ChannelState}
+use Rattle.onfi_core.specs.State.{ChannelState, Planning}
 use Rattle.onfi_core.specs.Steps.{StepBy, if_stopped, is_late, none_left, nothing_to_plan, or_else, plan_refusal, refused_where}
 use Rattle.onfi_script.specs.declared.device.PageDevice.{PageDevice}
 use Rattle.onfi_script.specs.declared.row.Row.{Row}
@@ -81,24 +81,24 @@ pub over_kept : (now : ℕ) (q q' : Seen) (none : Bool) (t : TurnAt) (p : Progre
 over_kept now q q' none t p turned told = subst (IsTurnOverAt q.0.setup.limit) (sym told) (progress_over now q q' none t turned)
 
 -- ---- drainings
-made_keeps : (now : ℕ) (q : Seen) (answers : List TurnAt) (q' : Seen) → MakesBy (Turned now) q answers q' → q'.0.setup ≡ q.0.setup
-made_keeps now q [] q' is = ap (λ (x : Seen). x.0.setup) is
-made_keeps now q (answer ∷ answers) q' (mid, made, goes, turned) = (same_by_turn now mid answer q' turned).setup ∙ made_keeps now q answers mid made
+made_keeps : (Such : Planning → Type 0) (now : ℕ) (q : Seen) (answers : List TurnAt) (q' : Seen) → MakesBy Such (Turned now) q answers q' → q'.0.setup ≡ q.0.setup
+made_keeps Such now q [] q' is = ap (λ (x : Seen). x.0.setup) is
+made_keeps Such now q (answer ∷ answers) q' (mid, made, goes, turned, planned) = (same_by_turn now mid answer q' turned).setup ∙ made_keeps Such now q answers mid made
 
-last_over : (now : ℕ) (q : Seen) (answers : List TurnAt) (q' : Seen) (opened : ℕ) → MakesBy (Turned now) q answers q' → IsLast (turn.Over opened) answers → opened ≡ q.0.setup.limit
-last_over now q [] q' opened made last = absurd last
-last_over now q (answer ∷ answers) q' opened (mid, made, goes, turned) last =
-    turned_over now mid q' opened (subst (λ t. Turned now mid t q') last turned) ∙ ap (λ (s : Setup). s.limit) (made_keeps now q answers mid made)
+last_over : (Such : Planning → Type 0) (now : ℕ) (q : Seen) (answers : List TurnAt) (q' : Seen) (opened : ℕ) → MakesBy Such (Turned now) q answers q' → IsLast (turn.Over opened) answers → opened ≡ q.0.setup.limit
+last_over Such now q [] q' opened made last = absurd last
+last_over Such now q (answer ∷ answers) q' opened (mid, made, goes, turned, planned) last =
+    turned_over now mid q' opened (subst (λ t. Turned now mid t q') last turned) ∙ ap (λ (s : Setup). s.limit) (made_keeps Such now q answers mid made)
 
 -- .. and so of a draining
-pub drained_over : (now : ℕ) (q : Seen) (hosts : List HostView) (inboxes inboxes' : List InboxView) (turns : ℕ) (e : Drained) (q' : Seen) (told : ChannelEnd) → Drains now q hosts inboxes turns (timed_end e) q' inboxes'
+pub drained_over : (Such : Planning → Type 0) (now : ℕ) (q : Seen) (hosts : List HostView) (inboxes inboxes' : List InboxView) (turns : ℕ) (e : Drained) (q' : Seen) (told : ChannelEnd) → Drains Such now q hosts inboxes turns (timed_end e) q' inboxes'
     → told ≡ end_of e → IsOverAt q.0.setup.limit told
-drained_over now q hosts inboxes inboxes' turns drained.Empty q' told d is = subst (IsOverAt q.0.setup.limit) (sym is) tt
-drained_over now q hosts inboxes inboxes' turns drained.Memory q' told d is = subst (IsOverAt q.0.setup.limit) (sym is) tt
-drained_over now q hosts inboxes inboxes' turns drained.TurnsSpent q' told d is = subst (IsOverAt q.0.setup.limit) (sym is) tt
-drained_over now q hosts inboxes inboxes' turns (drained.Stopped cause) q' told d is = subst (IsOverAt q.0.setup.limit) (sym is) tt
-drained_over now q hosts inboxes inboxes' turns (drained.Over opened) q' told d is =
-    subst (IsOverAt q.0.setup.limit) (sym is) (last_over now q d.answers d.last opened d.ran d.ends.0)
+drained_over Such now q hosts inboxes inboxes' turns drained.Empty q' told d is = subst (IsOverAt q.0.setup.limit) (sym is) tt
+drained_over Such now q hosts inboxes inboxes' turns drained.Memory q' told d is = subst (IsOverAt q.0.setup.limit) (sym is) tt
+drained_over Such now q hosts inboxes inboxes' turns drained.TurnsSpent q' told d is = subst (IsOverAt q.0.setup.limit) (sym is) tt
+drained_over Such now q hosts inboxes inboxes' turns (drained.Stopped cause) q' told d is = subst (IsOverAt q.0.setup.limit) (sym is) tt
+drained_over Such now q hosts inboxes inboxes' turns (drained.Over opened) q' told d is =
+    subst (IsOverAt q.0.setup.limit) (sym is) (last_over Such now q d.answers d.last opened d.ran d.ends.0)
 
 -- ---- threads
 pub thread_over : (limit : ℕ) (spent all_ended : Bool) (p : Progress) → IsTurnOverAt limit p → IfSome (thread_end spent all_ended p) (IsOverAt limit)

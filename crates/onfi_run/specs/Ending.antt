@@ -1,11 +1,12 @@
 -- How the threads of channels go on and end, and what is reported of a channel.
 use Rattle.std.specs.Prelude.{◌≡◌, ℕ, ◌+◌, ◌-◌, ◌^◌, ◌||◌, nat_le, Bool, true, false, if◌then◌else◌, List, Option, Some, None}
+use Rattle.onfi_core.specs.State.{Planning}
 use Rattle.onfi_core.specs.Steps.{none_left}
 use Rattle.onfi_queue.specs.Ends.{HostView}
 use Rattle.onfi_reply.specs.Ends.{InboxView}
 use Rattle.onfi_seq.specs.declared.drained.Drained.{Drained}
 use Rattle.onfi_seq.specs.declared.drained.Drained.TheVariants as drained
-use Rattle.onfi_seq.specs.Drained.{Drains}
+use Rattle.onfi_seq.specs.Drained.{Drains, TurnPlans}
 use Rattle.onfi_seq.specs.NoClock.{timed_end}
 use Rattle.onfi_seq.specs.declared.turn.TurnAt.{TurnAt}
 use Rattle.onfi_seq.specs.declared.turn.TurnAt.TheVariants as turn
@@ -37,10 +38,11 @@ progress_of none turn.Idle = progress.Quiet
 abbrev pub no_clock : ℕ
 no_clock = 2 ^ 64 - 1
 
--- a turn of a sequencer at that moment came to that
-pub record Proceeds (now : ℕ) (q : Seen) (p : Progress) (q' : Seen) : Type 0 where
+-- a turn of a sequencer at that moment came to that; what it planned is such
+pub record Proceeds (Such : Planning → Type 0) (now : ℕ) (q : Seen) (p : Progress) (q' : Seen) : Type 0 where
   pub answer : TurnAt
   pub turned : Turned now q answer q'
+  pub planned : TurnPlans Such answer q'
   pub told : p ≡ progress_of (none_left q'.0.half) answer
 
 -- memory was refused
@@ -84,10 +86,10 @@ abbrev pub is_memory : Drained → Bool
 is_memory drained.Memory = true
 is_memory _ = false
 
--- a draining of a sequencer came to that: at most 1,000,000 turns; memory was refused to a turn of the sequencer, ever, or to the draining
-pub record DrainsTo (q : Seen) (hosts : List HostView) (inboxes : List InboxView) (d : DrainedAs) (q' : Seen) (inboxes' : List InboxView) : Type 0 where
+-- a draining of a sequencer came to that: at most 1,000,000 turns, of which each plan is such; memory was refused to a turn of the sequencer, ever, or to the draining
+pub record DrainsTo (Such : Planning → Type 0) (q : Seen) (hosts : List HostView) (inboxes : List InboxView) (d : DrainedAs) (q' : Seen) (inboxes' : List InboxView) : Type 0 where
   pub end : Drained
-  pub drained : Drains no_clock q hosts inboxes 1000000 (timed_end end) q' inboxes'
+  pub drained : Drains Such no_clock q hosts inboxes 1000000 (timed_end end) q' inboxes'
   pub told : d.end ≡ end_of end
   pub short : d.short_of_memory ≡ (is_memory end || q'.0.short)
 

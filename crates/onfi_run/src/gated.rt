@@ -65,6 +65,7 @@ fn is_short(end: End, short: bool) -> bool
 
 impl<P: Planner + Drop, G: Gate + Drop> Channel for Gated<P, G> {
     ghost use Rattle.onfi_chip.specs.SimChip.{chip_in, next_ready};
+    ghost use Rattle.onfi_core.specs.Steps.{IsPromised};
     ghost use Rattle.onfi_seq.specs.Drained.{poster_queues};
     ghost use Rattle.onfi_seq.specs.Sequencer.{seen_in};
     ghost use Rattle.onfi_run.specs.Ending.{DrainsTo, Proceeds};
@@ -77,9 +78,9 @@ impl<P: Planner + Drop, G: Gate + Drop> Channel for Gated<P, G> {
 
     ghost done_behind = { λ c now. next_ready c.sequencer.1 now };
 
-    ghost proceeds = { λ now c p c'. Proceeds now (seen_in chip_in c.sequencer) p (seen_in chip_in c'.sequencer) };
+    ghost proceeds = { λ now c p c'. Proceeds (IsPromised P.exact P.certifies) now (seen_in chip_in c.sequencer) p (seen_in chip_in c'.sequencer) };
 
-    ghost drains = { λ c hosts inboxes d c' inboxes'. DrainsTo (seen_in chip_in c.sequencer) hosts inboxes d (seen_in chip_in c'.sequencer) inboxes' };
+    ghost drains = { λ c hosts inboxes d c' inboxes'. DrainsTo (IsPromised P.exact P.certifies) (seen_in chip_in c.sequencer) hosts inboxes d (seen_in chip_in c'.sequencer) inboxes' };
 
     fn turn<R: Wait>(&mut self, rt: &R, alloc: Global, now: u64) -> Progress {
         let turn = self.sequencer.turn_at(rt, alloc, &mut self.gate, now);

@@ -13,5 +13,5 @@ returns-clause-inboxes g c = grown_queues c.args.inboxes.now c.drain-end.new.inb
 
 pub returns-clause-over : goal.returns-clause-over
 returns-clause-over g c =
-    drained_over no_clock (seen_in chip_in c.args.self.now.sequencer) c.args.hosts.now c.args.inboxes.now c.drain-end.new.inboxes 1000000 c.drain-end.result (seen_in chip_in c.drain-end.new.self)
+    drained_over _ no_clock (seen_in chip_in c.args.self.now.sequencer) c.args.hosts.now c.args.inboxes.now c.drain-end.new.inboxes 1000000 c.drain-end.result (seen_in chip_in c.drain-end.new.self)
     c.end_of.result c.drain-end.ensures.drains c.end_of.ensures

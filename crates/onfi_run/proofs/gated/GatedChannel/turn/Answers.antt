@@ -7,7 +7,7 @@ use Rattle.onfi_run.proofs.Same.{same_queues}
 use Rattle.onfi_run.proofs.gated.GatedChannel.turn.Goals as goal
 
 pub returns-clause-turned : goal.returns-clause-turned
-returns-clause-turned g c = record { answer = c.turn_at-turn.result; turned = c.turn_at-turn.ensures.turned; told = c.progress.ensures }
+returns-clause-turned g c = record { answer = c.turn_at-turn.result; turned = c.turn_at-turn.ensures.turned; planned = c.turn_at-turn.ensures.planned; told = c.progress.ensures }
 
 pub returns-clause-same : goal.returns-clause-same
 returns-clause-same g c = same_queues (seen_in chip_in c.args.self.now.sequencer) (seen_in chip_in c.turn_at-turn.new.self) c.turn_at-turn.ensures.same
