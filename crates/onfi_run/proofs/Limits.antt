@@ -1,5 +1,5 @@
 -- Channels are over where a planning opened as many nodes as it may.
-use Rattle.std.proofs.Common.{◌≡◌, ◌≢◌, ℕ, ◌+◌, ◌<◌, ◌++◌, Bool, true, false, List, [], ◌∷◌, length, map, Some, None, inl, inr, refl, sym, ap, ◌∙◌, subst, get_or, suc, take}
+use Rattle.std.proofs.Common.{◌≡◌, ◌≢◌, ℕ, ◌+◌, ◌<◌, ◌++◌, Bool, true, false, List, [], ◌∷◌, length, map, Some, None, inl, inr, refl, sym, ap, ◌∙◌, subst, get_or, suc, zero, take}
 use Rattle.std.specs.Prelude.{Option, Result, Ok, Err, IfOk, IfSome, set, unwrap_or}
 use Rattle.std.specs.List.{AllByRecursion as Each}
 use Rattle.onfi_core.specs.declared.event.Event.TheVariants as event
@@ -47,9 +47,9 @@ never_over None false false opened e = cc
 step_over : (refused : Option Outcome) (s : Setup) (c c' : ChannelState) (opened : ℕ) → refused ≢ Some (outcome.Over opened)
     → StepBy refused s c (event.Plan 0) (outcome.Over opened) c' → opened ≡ s.limit
 step_over (Some o) s c c' opened not (e, after) = absurd (not (ap Some (sym e)))
-step_over None s c c' opened not (inl (taken, plan, e, rest)) = absurd (cc)
-step_over None s c c' opened not (inr (inl (e, rest))) = cc
-step_over None s c c' opened not (inr (inr (inl (e, rest)))) = absurd (cc)
+step_over None s c c' opened not (inl (taken, plan, e, plans, after)) = absurd (cc)
+step_over None s c c' opened not (inr (inl (e, over, after))) = cc
+step_over None s c c' opened not (inr (inr (inl (e, late, after)))) = absurd (cc)
 step_over None s c c' opened not (inr (inr (inr (e, same)))) = absurd (cc)
 
 passing_keeps : (now : ℕ) (q mid : Seen) → LetsPass now q mid → mid.0.setup ≡ q.0.setup
@@ -160,7 +160,7 @@ keys_within queues (k ∷ new) (l ∷ old) e (here, all) =
 pub set_within : {X : Type 0} (queues : X → ChannelQueues) (lanes : List (Lane X)) (at : ℕ) (d new : Lane X) → (EndsWithin queues (get_or lanes at d) → EndsWithin queues new)
     → Each (EndsWithin queues) lanes → Each (EndsWithin queues) (set lanes at new)
 set_within queues [] at d new one all = tt
-set_within queues (l ∷ lanes) 0 d new one (here, all) = (one here, all)
+set_within queues (l ∷ lanes) zero d new one (here, all) = (one here, all)
 set_within queues (l ∷ lanes) (suc at) d new one (here, all) = (here, set_within queues lanes at d new one all)
 
 -- as they open none is over, and each has the limit of the run

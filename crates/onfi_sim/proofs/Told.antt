@@ -1,5 +1,5 @@
 -- From what was written to what is carried out.
-use Rattle.std.proofs.Common.{◌≡◌, ◌≤◌, ℕ, List, Ok, Err, Some, None, true, false, refl, sym, inl, inr, take, subst, suc, arith}
+use Rattle.std.proofs.Common.{◌≡◌, ◌≤◌, ℕ, List, Ok, Err, Some, None, true, false, refl, sym, inl, inr, take, subst, suc, zero, arith}
 use Rattle.std.specs.Prelude.{◌⊎◌, Option, Result, IfOk, IfErr, IfSome, nat_le}
 use Rattle.std.specs.Io.KnownBytes.{Appends}
 use Rattle.std.specs.declared.alloc.AllocError.{AllocError}
@@ -60,11 +60,11 @@ begun named None old new answer is w = tt
 begun named (Some xs) old new answer is w = (answer, w.0, is, w.1)
 
 pub one_worker : (workers : ℕ) → workers ≤ 1 → nat_le workers 1 ≡ true
-one_worker 0 few = refl
-one_worker 1 few = refl
+one_worker zero few = refl
+one_worker (suc zero) few = refl
 one_worker (suc (suc n)) few = absurd (omega (arith, few))
 
 pub several_workers : (workers : ℕ) → 2 ≤ workers → nat_le workers 1 ≡ false
-several_workers 0 some = absurd (omega (arith, some))
-several_workers 1 some = absurd (omega (arith, some))
+several_workers zero some = absurd (omega (arith, some))
+several_workers (suc zero) some = absurd (omega (arith, some))
 several_workers (suc (suc n)) some = refl

@@ -1,6 +1,6 @@
-use Rattle.std.proofs.Common.{sym, subst, arith, ap, ◌∙◌}
+use Rattle.std.proofs.Common.{sym, subst, arith, ap, ◌∙◌, false}
 use Rattle.std.specs.Prelude.{IfSome}
-use Rattle.onfi_run.specs.Ending.{IsOverAt}
+use Rattle.onfi_run.specs.Ending.{IsOverAt, is_spent}
 use Rattle.onfi_run.proofs.Limits.{ends_over, thread_over}
 use Rattle.onfi_run.proofs.Resting.{due_by, ended_waits, not_due}
 use Rattle.onfi_run.proofs.lane.Lane.turn_at.Goals as goal
@@ -35,7 +35,7 @@ returns-clause-over g c was =
     let limit = (g.C.Channel.queues c.args.self.now.channel).limit in
     let told = c.end_after-end.ensures in
     let turn = c.turn-progress.ensures in
-    let ends = subst (λ e. IfSome e (IsOverAt limit)) (sym told.end) (thread_over limit _ _ c.turn-progress.result turn.over) in
+    let ends = subst (λ e. IfSome e (IsOverAt limit)) (sym told.end) (thread_over limit (is_spent c.args.self.now.refusals) false c.turn-progress.result turn.over) in
     let before = subst (IsOverAt limit) (sym told.ended) was in
     let over = ends_over limit c.end_after-end.result _ c.unwrap_or-self.result ends before c.unwrap_or-self.ensures in
     let same = ap (g.C.Channel.queues) told.channel ∙ turn.same in
