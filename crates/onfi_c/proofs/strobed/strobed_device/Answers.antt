@@ -31,11 +31,11 @@ returns-in-Ok-of_strobes-clause-device c = record {
   strobes = c.in-Ok-read-2.strobes;
   are_strobes = c.in-Ok-read-2.ensures;
   timing = c.in-Ok-of_strobes.timing;
-  is_timing = c.in-Ok-of_strobes.ensures;
+  is_timing = c.in-Ok-of_strobes.ensures.table;
   written = c.plain_device.ensures;
 }
 
 pub returns-in-Err-of_strobes-clause-none : goal.returns-in-Err-of_strobes-clause-none
 returns-in-Err-of_strobes-clause-none c =
     no_timing c.in-Ok.page c.in-Ok-read.sheet c.in-Ok-read-2.strobes c.in-Err-of_strobes.fault c.in-Ok.ensures.page c.in-Ok-of.ensures.taken.0
-    c.in-Ok-read.ensures c.in-Ok-read-2.ensures c.in-Err-of_strobes.ensures c.strobe_refusal-in-Err-of_strobes.ensures
+    c.in-Ok-read.ensures c.in-Ok-read-2.ensures c.in-Err-of_strobes.ensures.table c.strobe_refusal-in-Err-of_strobes.ensures

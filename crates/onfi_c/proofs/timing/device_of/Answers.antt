@@ -24,10 +24,10 @@ returns-in-Ok-of-2-clause-device c = record {
   sheet = c.in-Ok-read.sheet;
   is_sheet = c.in-Ok-read.ensures;
   timing = c.in-Ok-of-2.timing;
-  is_timing = c.in-Ok-of-2.ensures;
+  is_timing = c.in-Ok-of-2.ensures.table;
   written = c.plain_device.ensures;
 }
 
 pub returns-in-Err-of-2-clause-none : goal.returns-in-Err-of-2-clause-none
 returns-in-Err-of-2-clause-none c =
-    is_timing c.in-Ok.page c.in-Ok-read.sheet c.in-Err-of-2.fault c.in-Ok.ensures.page c.in-Ok-of.ensures.taken.0 c.in-Ok-read.ensures c.in-Err-of-2.ensures c.sheet_refusal-in-Err-of-2.ensures
+    is_timing c.in-Ok.page c.in-Ok-read.sheet c.in-Err-of-2.fault c.in-Ok.ensures.page c.in-Ok-of.ensures.taken.0 c.in-Ok-read.ensures c.in-Err-of-2.ensures.table c.sheet_refusal-in-Err-of-2.ensures
