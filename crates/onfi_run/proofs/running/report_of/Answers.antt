@@ -38,5 +38,5 @@ returns-clause-tells g c =
 pub returns-clause-over : goal.returns-clause-over
 returns-clause-over g c =
     IfOk-weaker c.with_clock.result _ _
-    (λ r told limit all. subst (λ (x : ReportView). Each (IsOverAt limit) x.ends) (sym told.1.0) (c.in_ok-report.ensures.over limit all))
+    (λ r told limit all. subst (λ (x : ReportView). Each (IsOverAt limit) x.ends) (sym told.1) (c.in_ok-report.ensures.over limit all))
     c.with_clock.ensures.clock
