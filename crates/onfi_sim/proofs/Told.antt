@@ -1,6 +1,7 @@
 -- From what was written to what is carried out.
 use Rattle.std.proofs.Common.{◌≡◌, ◌≤◌, ℕ, List, Ok, Err, Some, None, true, false, refl, sym, inl, inr, take, subst, suc, zero, arith}
-use Rattle.std.specs.Prelude.{◌⊎◌, Option, Result, IfOk, IfErr, IfSome, nat_le}
+use Rattle.std.proofs.lemmas.Bool.Decides.{nat_tests}
+use Rattle.std.specs.Prelude.{Bool, Option, Result, IfOk, IfErr, IfSome, nat_le}
 use Rattle.std.specs.Io.KnownBytes.{Appends}
 use Rattle.std.specs.declared.alloc.AllocError.{AllocError}
 use Rattle.onfi_script.specs.AnswerOf.{answer_of, told_of}
@@ -10,8 +11,16 @@ use Rattle.onfi_script.specs.declared.transfer.EngineFault.{EngineFault}
 use Rattle.onfi_script.specs.declared.transfer.EngineFault.TheVariants.{Write}
 use Rattle.onfi_console.specs.declared.parsed.Named.{Named}
 use Rattle.onfi_console.specs.declared.parsed.Named.TheVariants.{Problem, Run, Device, Audit, Gaps}
-use Rattle.onfi_run.specs.Running.{is_memory}
-use Rattle.onfi_sim.specs.Carrying.{AnswersNamed, BeginsToCarryOut, CarriesOut}
+use Rattle.onfi_console.specs.Words.{RunPlanner}
+use Rattle.onfi_run.specs.Running.{is_memory, Answers as RunAnswers, BeginsAnswer as BeginsRun}
+use Rattle.onfi_script.specs.Answer.{Answers, AnswersBy, BeginsAnswer, BeginsAnswerBy, IsAnswerBy, PartsTell}
+use Rattle.onfi_script.specs.Auditing.{AnswersAuditBy}
+use Rattle.onfi_script.specs.Gaps.{AnswersGaps}
+use Rattle.onfi_script.specs.declared.auditing.AuditOptions.{AuditOptions}
+use Rattle.onfi_script.specs.declared.auditing.GapOptions.{GapOptions}
+use Rattle.onfi_script.specs.declared.command.Command.{Command}
+use Rattle.onfi_console.specs.Described.{IsDescription}
+use Rattle.onfi_sim.specs.Carrying.{AnswersNamed, BeginsToCarryOut, CarriesOut, TellsBy}
 
 -- that memory ran out may be the answer to all that is named
 pub memory_answers : (named : Named) (xs : List ℕ) → AnswersNamed named xs memory
@@ -65,6 +74,64 @@ one_worker (suc zero) few = refl
 one_worker (suc (suc n)) few = absurd (omega (arith, few))
 
 pub several_workers : (workers : ℕ) → 2 ≤ workers → nat_le workers 1 ≡ false
-several_workers zero some = absurd (omega (arith, some))
-several_workers (suc zero) some = absurd (omega (arith, some))
-several_workers (suc (suc n)) some = refl
+several_workers workers some = grind (arith, nat_tests)
+
+-- one search answers what one worker does
+pub by_one : (command : Command) (workers : ℕ) (input old new : Option (List ℕ)) (r : Result ℕ EngineFault) → workers ≤ 1
+    → IfOk r (λ s. Answers command input old new s) → IfOk r (λ s. CarriesOut (Problem command workers) input old new s)
+by_one command workers input old new r few is =
+    let P : Bool → Type 0 = λ b. IfOk r (λ s. IfSome input (λ xs. (answer : Answer) × IsAnswerBy (TellsBy b) command xs answer × (answer.status ≡ s) × Appends old new answer.text)) in
+    subst P (sym (one_worker workers few)) is
+
+pub one_begun : (command : Command) (workers : ℕ) (input old new : Option (List ℕ)) → workers ≤ 1
+    → BeginsAnswer command input old new → BeginsToCarryOut (Problem command workers) input old new
+one_begun command workers input old new few is =
+    let P : Bool → Type 0 = λ b. IfSome input (λ xs. (answer : Answer) × (n : ℕ) × IsAnswerBy (TellsBy b) command xs answer × Appends old new (take n answer.text)) in
+    subst P (sym (one_worker workers few)) is
+
+-- parts answer what several do
+pub by_several : (command : Command) (workers : ℕ) (input old new : Option (List ℕ)) (r : Result ℕ EngineFault) → 2 ≤ workers
+    → IfOk r (λ s. AnswersBy PartsTell command input old new s) → IfOk r (λ s. CarriesOut (Problem command workers) input old new s)
+by_several command workers input old new r some is =
+    let P : Bool → Type 0 = λ b. IfOk r (λ s. IfSome input (λ xs. (answer : Answer) × IsAnswerBy (TellsBy b) command xs answer × (answer.status ≡ s) × Appends old new answer.text)) in
+    subst P (sym (several_workers workers some)) is
+
+pub several_begun : (command : Command) (workers : ℕ) (input old new : Option (List ℕ)) → 2 ≤ workers
+    → BeginsAnswerBy PartsTell command input old new → BeginsToCarryOut (Problem command workers) input old new
+several_begun command workers input old new some is =
+    let P : Bool → Type 0 = λ b. IfSome input (λ xs. (answer : Answer) × (n : ℕ) × IsAnswerBy (TellsBy b) command xs answer × Appends old new (take n answer.text)) in
+    subst P (sym (several_workers workers some)) is
+
+-- a description, a verdict on a log, and one with what it measures, or that memory ran out
+pub described : (xs : List ℕ) (r : Result Made AllocError) → IfOk r (λ a. IsDescription xs (answer_of a)) → IfOk r (λ a. AnswersNamed Device xs (answer_of a))
+described xs (Ok a) is = inr is
+described xs (Err refused) is = tt
+
+pub audited : (options : AuditOptions) (xs : List ℕ) (r : Result Made AllocError) → IfOk r (λ a. AnswersAuditBy options xs (answer_of a)) → IfOk r (λ a. AnswersNamed (Audit options) xs (answer_of a))
+audited options xs (Ok a) is = inr is
+audited options xs (Err refused) is = tt
+
+pub measured : (options : GapOptions) (xs : List ℕ) (r : Result Made AllocError) → IfOk r (λ a. AnswersGaps options xs (answer_of a)) → IfOk r (λ a. AnswersNamed (Gaps options) xs (answer_of a))
+measured options xs (Ok a) is = inr is
+measured options xs (Err refused) is = tt
+
+-- a run without a clock, and one within a limit of that number
+pub run_plainly : (planner : RunPlanner) (limit : ℕ) (clocked : Bool) (input old new : Option (List ℕ)) (r : Result ℕ EngineFault) → clocked ≡ false
+    → IfOk r (λ s. RunAnswers false limit input old new s) → IfOk r (λ s. CarriesOut (Run planner limit clocked) input old new s)
+run_plainly planner limit clocked input old new r e is =
+    subst (λ b. IfOk r (λ s. CarriesOut (Run planner limit b) input old new s)) (sym e) is
+
+pub run_plainly_begun : (planner : RunPlanner) (limit : ℕ) (clocked : Bool) (input old new : Option (List ℕ)) → clocked ≡ false
+    → BeginsRun false limit input old new → BeginsToCarryOut (Run planner limit clocked) input old new
+run_plainly_begun planner limit clocked input old new e is =
+    subst (λ b. BeginsToCarryOut (Run planner limit b) input old new) (sym e) is
+
+pub run_within : (planner : RunPlanner) (limit within : ℕ) (clocked : Bool) (input old new : Option (List ℕ)) (r : Result ℕ EngineFault) → within ≡ limit
+    → IfOk r (λ s. RunAnswers clocked within input old new s) → IfOk r (λ s. CarriesOut (Run planner limit clocked) input old new s)
+run_within planner limit within clocked input old new r e is =
+    subst (λ n. IfOk r (λ s. CarriesOut (Run planner n clocked) input old new s)) e is
+
+pub run_within_begun : (planner : RunPlanner) (limit within : ℕ) (clocked : Bool) (input old new : Option (List ℕ)) → within ≡ limit
+    → BeginsRun clocked within input old new → BeginsToCarryOut (Run planner limit clocked) input old new
+run_within_begun planner limit within clocked input old new e is =
+    subst (λ n. BeginsToCarryOut (Run planner n clocked) input old new) e is

@@ -84,8 +84,8 @@ fn carry_out_problem<T: Threads + Sync, I: Read, W: Write>(
 }
 
 /// Whether plans are left as the plain planner makes them, where nothing shows when they end.
-fn is_plain(planner: SlackPlanner<ChosenPlanner>) -> bool {
-    planner.planner == ChosenPlanner::Plain && planner.per_mille == 0
+fn is_plain(planner: ChosenPlanner, per_mille: u16) -> bool {
+    planner == ChosenPlanner::Plain && per_mille == 0
 }
 
 /// Runs the operations of a script.
@@ -107,7 +107,8 @@ fn carry_out_run<R: Threads + Wait + Sync, I: Read, W: Write>(
     let Ok(gates) = no_gates(alloc) else {
         return write_answer(writer, Err(AllocError));
     };
-    if !clocked && is_plain(planner) {
+    let plain = is_plain(planner.planner, planner.per_mille);
+    if !clocked && plain {
         return run_script(rt, alloc, limit, gates, reader, writer);
     }
     let limit = Limit::of(limit).unwrap();
@@ -236,9 +237,9 @@ pub fn carry_out<R: Threads + Wait + Sync, W: Write>(
     writer: &mut W,
 ) -> Result<u8, EngineFault>
     requires { IsInRange named }
-    ensures answer { IfOk result (λ status. CarriesOut named (Some (spec.joined script.now (option_map (λ t. t.now) text))) (W.contents writer.old) (W.contents writer.new) status) }
+    ensures answer { IfOk result (λ status. CarriesOut named (Some (spec.joined script.now (option_map (λ t. t.now) text.entry))) (W.contents writer.old) (W.contents writer.new) status) }
     ensures unread { result ≡ Err EngineFault.Read → Keeps (W.contents writer.old) (W.contents writer.new) }
-    ensures unwritten { result ≡ Err EngineFault.Write → BeginsToCarryOut named (Some (spec.joined script.now (option_map (λ t. t.now) text))) (W.contents writer.old) (W.contents writer.new) }
+    ensures unwritten { result ≡ Err EngineFault.Write → BeginsToCarryOut named (Some (spec.joined script.now (option_map (λ t. t.now) text.entry))) (W.contents writer.old) (W.contents writer.new) }
 {
     match text {
         None => {
