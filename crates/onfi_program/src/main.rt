@@ -143,7 +143,7 @@ fn report_answer(
     let input = Input {
         text: text.as_slice(),
         script: parsed.script,
-        plan: parsed.plan.map(|name| (name, at)),
+        plan: parsed.plan.zip(Some(at)),
     };
     let why = find_why(rt, alloc, parsed.named, status, written, input.text);
     if let Ok(Some(text)) = message(alloc, parsed, &input, written, why) {
