@@ -11,7 +11,7 @@
 # make install-library  the libraries with their header alone
 # make uninstall        removes from PREFIX what these put there
 # make object TARGET=P  the library for riscv64, riscv32, armv7 or thumbv7em as lib/P/libonfi.a: tried, and not proved for
-# make test             the whole gate: every proof, test and case, and the wrong bodies that are due
+# make test             the whole gate: every proof, test, case and wrong body
 # make wrong-bodies     those of all crates; tools/wrong-bodies CRATE tries those of one
 # make clean            removes what was built, and keeps what was proved; make clean-proofs removes that too
 # make help             prints this

@@ -6,7 +6,7 @@ from typing import Callable, Dict, Iterable, Iterator, List, NamedTuple, Set, Tu
 
 import support
 
-from onfi_tools.changes import imports_in
+from onfi_tools.imports import imports_in
 
 WORD = re.compile(r"[A-Za-z_][A-Za-z0-9_]*")
 START = re.compile(r"(?:(?:abbrev |unfoldable )?pub (?!use |mod )|(?:abbrev )?mutual\b)")

@@ -84,10 +84,8 @@ class Crates(unittest.TestCase):
 
 class Examples(unittest.TestCase):
     def test_code_of_contributing_is_in_its_files(self) -> None:
-        planner = ROOT / "crates/onfi_planner"
         shown = [(ROOT / "CONTRIBUTING.md", "pub fn unrow", ROOT / "crates/onfi_addr/src/geometry.rt"),
-                 (ROOT / "CONTRIBUTING.md", "opened: limit", planner / "wrong-bodies/over_always.edit"),
-                 (ROOT / "CONTRIBUTING.md", "u32::MAX", planner / "wrong-bodies/over_always.twin"),
+                 (ROOT / "CONTRIBUTING.md", "opened: limit", ROOT / "crates/onfi_planner/wrong-bodies.txt"),
                  (ROOT / "docs/LIBRARIES.md", "Problem::new", ROOT / "examples/rattle/README.md")]
         for page, word, source in shown:
             blocks = [block for block in re.findall(r"(?:^    .*\n)+", page.read_text(), re.MULTILINE) if word in block]

@@ -1,8 +1,7 @@
-"""The tool of wrong bodies: how it reads edits, puts them into rounds, asks the prover and takes its answer. Nothing is proved here."""
+"""The tool of wrong bodies: how it reads them, what stands in the copy that is checked, and what it makes of the answer. Nothing is proved here."""
 
 import contextlib
 import io
-import subprocess
 import sys
 import unittest
 import unittest.mock
@@ -10,7 +9,7 @@ from pathlib import Path
 from typing import Any, Dict, List, Tuple
 
 import support
-from onfi_tools.edits import change_of
+from onfi_tools.edits import BadEdit, Pair, change_of, read_entries
 from onfi_tools.functions import functions_of
 
 TOOL: Any = support.load("wrong-bodies")
@@ -23,6 +22,7 @@ pub struct Half {
 
 impl Half {
     /// Half of it.
+    #[tactic(auto)]
     pub fn of(n: u8) -> u8
         ensures { result ≡ n / 2 }
     {
@@ -36,64 +36,12 @@ impl Half {
 
 impl fmt::Display for Half {
     fn fmt(&self) -> u8 {
-        third(1)
-    }
-}
-
-fn third(n: u8) -> u8 {
-    n / 3
-}
-"""
-OTHER = """\
-impl Other {
-    pub fn next(&self) -> u8 {
-        1
-    }
-}
-
-impl Half {
-    fn next(&self) -> u8 {
-        2
+        LEAST
     }
 }
 """
-
-
-def put(file: Path, text: str) -> None:
-    file.parent.mkdir(parents=True, exist_ok=True)
-    file.write_text(text, encoding="utf-8")
-
-
-def edit(old: str, new: str, file: str = "half.rt") -> str:
-    return f"file: src/{file}\nold: {old}\nnew: {new}\n"
-
-
-# The same source without a text that stands twice; an edit of a statement in it.
-PLAIN = HALF.replace("≡ n / 2", "≡ half n")
-STEP = edit("third(1)", "let _n = 1; third(1)")
-
-
-def crate_of(test: unittest.TestCase, files: Dict[str, str]) -> Any:
-    """A crate 'demo' of these files; what stands in no folder is an edit of wrong-bodies/."""
-    room = support.room_of(test)
-    for path, text in {"src/half.rt": PLAIN, **files}.items():
-        put(room / "crates" / "demo" / (path if "/" in path else f"wrong-bodies/{path}"), text)
-    with unittest.mock.patch.object(TOOL, "ROOT", room):
-        return TOOL.Crate("demo")
-
-
-def told(lines: List[str], status: int = 1) -> Any:
-    return TOOL.Told("demo", status, "\n".join(lines), {"src/half.rt": HALF})
-
-
-OF = ("src/half.rt", "Half", "of")
-# A function that calls itself, and two that call each other, in a cycle that has the name of one of them.
-CYCLES = """\
-impl Half {
-    fn down(n: u8) -> u8 {
-        Half::down(n - 1)
-    }
-}
+ODD = """\
+const LEAST: u8 = 3;
 
 #[cycle(odd)]
 fn even(n: u8) -> u8 {
@@ -104,307 +52,87 @@ fn even(n: u8) -> u8 {
 fn odd(n: u8) -> u8 {
     even(n - 1)
 }
+
+impl Half {
+    fn last(&self) -> u8 {
+        even(9) + LEAST
+    }
+}
 """
-DOWN, EVEN, ODD = ("src/half.rt", "Half", "down"), ("src/half.rt", "", "even"), ("src/half.rt", "", "odd")
+STEPS = """\
+use Rattle.demo.proofs.odd.+odd.Goals.{even-odd-requires}
+even-odd-requires t c = (odd (c.odd.result) c.oddly Rattle.demo.proofs.odd.x)
+"""
+ANSWERS = "use Rattle.demo.proofs.half.Half.of.Goals as goal\nuse Rattle.demo.proofs.half.Half.offset\n"
 
 
-# What is said of crates with these files.
-NO_TWIN = "NEEDS A TWIN: it adds or removes a statement, and doesn't say why it stands alone"
-BAD: List[Tuple[Dict[str, str], List[str]]] = [
-    ({"src/half.rt": HALF, "a.edit": edit("n / 2", "n / 4")}, ["BAD EDIT: an old text stands in src/half.rt 2 times"]),
-    ({"a.edit": STEP, "a.twin": edit("third(1)", "let _n = 0; third(1)")}, []),
-    ({"a.edit": STEP}, [NO_TWIN]),
-    ({"a.edit": "alone: no step changes nothing here\n" + STEP}, []),
-    ({"a.edit": edit("third(1)", "third(2)")}, []),
-]
+def entry(name: str, item: str, old: str, new: str, more: str = "", path: str = "src/half.rt") -> str:
+    return f"edit: {name}\nin: {path} {item}\nold: {old}\nnew: {new}\n{more}\n"
 
 
-class Edits(unittest.TestCase):
-    def test_each_edit_of_the_tree_applies_beside_the_others_of_its_round(self) -> None:
-        for name in TOOL.PROVE.CRATES:
-            crate = TOOL.Crate(name)
-            self.assertEqual([(it.edit.name, it.text) for it in crate.bad], [])
-            for edits in TOOL.in_rounds([*crate.edits, *crate.twins]):
-                texts = dict(crate.sources)
-                for it in edits:
-                    it.apply(texts)
-                changed = {path for path, text in crate.sources.items() if texts[path] != text}
-                self.assertLessEqual({path for it in edits for path, _, _ in it.pairs}, changed)
+# An edit of each kind; that of a constant disturbs that of a method which names it, and which is made in place too.
+FOURTH = entry("fourth", "Half::of", "n / 2", "n / 4", "twin:\nold: n / 2\nnew: n / 2 + 0\n")
+WHOLE = FOURTH + "".join([
+    entry("at_0", "Half::next", "self.at", "0"),
+    entry("least_2", "LEAST", "3", "2", path="src/odd.rt"),
+    entry("odd_0", "odd", "even(n - 1)", "0", path="src/odd.rt"),
+    entry("even_0", "even", "odd(n - 1)", "0", path="src/odd.rt"),
+    entry("fmt_0", "HalfDisplay::fmt", "LEAST", "0"),
+    entry("last_0", "Half::last", "even(9)", "0", path="src/odd.rt"),
+])
 
-    def test_edits_of_one_function_share_no_round(self) -> None:
-        crate = crate_of(self, {"a.edit": edit("n / 2", "n / 4"), "b.edit": edit("    n / 2", "    n"), "c.edit": edit("n / 3", "n / 6")})
-        self.assertEqual([[it.name for it in edits] for edits in TOOL.in_rounds(crate.edits)], [["a.edit", "c.edit"], ["b.edit"]])
+
+def put(file: Path, text: str) -> None:
+    file.parent.mkdir(parents=True, exist_ok=True)
+    file.write_text(text, encoding="utf-8")
+
+
+def crate_of(test: unittest.TestCase, edits: str, **how: Any) -> Any:
+    """A crate 'demo' with these wrong bodies."""
+    room = support.room_of(test)
+    files = {"src/half.rt": HALF, "src/odd.rt": ODD, "proofs/half/Half/of/Answers.antt": ANSWERS, "proofs/odd/+odd/Answers.antt": STEPS, "wrong-bodies.txt": edits}
+    for path, text in files.items():
+        put(room / "crates" / "demo" / path, text)
+    with unittest.mock.patch.object(TOOL, "ROOT", room):
+        return TOOL.Crate("demo", **how)
+
+
+class Entries(unittest.TestCase):
+    def test_an_entry_is_read(self) -> None:
+        one, two = read_entries("# demo\n\n" + FOURTH + entry("b", "f", "x", "", "old: y\nnew:  z\nmistake: b is bad\nalone: it says why\n"))
+        self.assertEqual((one.wrong, one.twin), ([Pair("src/half.rt", "Half::of", "n / 2", "n / 4")], [Pair("src/half.rt", "Half::of", "n / 2", "n / 2 + 0")]))
+        self.assertEqual([(it.old, it.new) for it in two.wrong], [("x", ""), ("y", " z")])
+        self.assertEqual((two.mistake, two.reason), ("b is bad", "it says why"))
+
+    def test_a_file_that_is_none_is_refused(self) -> None:
+        for text in ("old: x\n", "edit: a\nwhat: b\n", FOURTH + FOURTH):
+            with self.assertRaises(BadEdit):
+                read_entries(text)
 
     def test_what_is_wrong(self) -> None:
-        for files, said in BAD:
-            self.assertEqual([it.text for it in crate_of(self, files).bad], said, files)
-
-
-class Asked(unittest.TestCase):
-    def test_the_prover_is_asked_for_what_the_edits_change(self) -> None:
-        edits = {"a.edit": edit("self.at", "0"), "b.edit": edit("third(1)", "third(2)"), "c.edit": edit("n / 3", "n"), "d.edit": edit("1", "2", "other.rt")}
-        crate = crate_of(self, {"src/other.rt": OTHER.split("impl Half")[0], **edits})
-        self.assertEqual(crate.paths_of(crate.edits), ["Half::next", "HalfDisplay::fmt", "Other::next", "half::third"])
-
-    def test_where_two_impls_have_the_name_the_whole_path_is_asked_for(self) -> None:
-        crate = crate_of(self, {"src/other.rt": OTHER, "a.edit": edit("self.at", "0")})
-        self.assertEqual(crate.paths_of(crate.edits), ["half::Half::next"])
-
-    def test_an_impl_is_named_as_the_prover_does(self) -> None:
-        heads = {
-            "impl Half<'_>": "Half",
-            "impl Half<'_, Whole>": "Half+Whole",
-            "impl<'a> Half<'a>": "Half",
-            "impl From<Third> for Half": "HalfFromThird",
-            "impl Gate for Half<'_>": "HalfGate",
-            "impl Half<Whole>": "Half+Whole",
+        step = ("Half::next", "self.at", "{ let at = self.at; at + 1 }")
+        said = {
+            entry("a", "Half::of", "n / 3", "n"): ["BAD EDIT: an old text stands 0 times in Half::of: n / 3"],
+            entry("a", "Half::gone", "n", "m"): ["BAD EDIT: src/half.rt has 0 functions, constants and types Half::gone"],
+            entry("a", *step): [TOOL.NEEDS_TWIN],
+            entry("a", *step, "alone: no step changes nothing\n"): [],
+            entry("a", *step, "twin:\nold: self.at\nnew: { let at = self.at; at }\n"): [],
+            "edit: a\n": ["BAD EDIT: it has no pair"],
         }
-        for head, owner in heads.items():
-            found = functions_of("src/half.rt", f"{head} {{\n    fn next(&self) -> u8 {{\n        1\n    }}\n}}\n")
-            self.assertEqual([it.owner for it in found], [owner])
+        for text, words in said.items():
+            self.assertEqual([it.text for it in crate_of(self, text).tried], words, text)
 
+    def test_each_edit_of_the_tree_applies(self) -> None:
+        """And each crate that has functions of its own has some, but those of tests."""
+        for name in TOOL.PROVE.CRATES:
+            crate = TOOL.Crate(name)
+            self.assertEqual([(name, it) for it in crate.tried], [])
+            self.assertTrue(crate.trials or name.endswith("_tests") or name == "onfi_trials", name)
 
-FN, ANSWERS = "fn demo::half::Half::of: ", "./proofs/half/Half/of/Answers.antt:4:2: error: "
-NOTE = "note: src/half.rt:8:5: it is not proved that what the function ensures holds when it returns (`returns`)"
-CALLS = "no proof: it calls `demo::half::third`, which is not proved"
-UNMADE = "no proof: the borrow checker's part in its proof is not made yet: a call of `demo::half::third`, which has no proof: help: prove it first"
-# What a check says of a function, whether an edit of it is refused and in which words, and whether a twin is proved.
-SAID: Dict[str, Tuple[List[str], bool, str, bool]] = {
-    "a goal of its own": ([NOTE, FN + "no proof: `search` did not prove `returns`"], True, f"refused, as it must be: {NOTE}", False),
-    "still proved": ([FN + "proved"], False, "NOT REFUSED: it is still proved", True),
-    "a callee that isn't proved": ([FN + CALLS], False, "NOT REFUSED by a goal of its own: it calls ", True),
-    "nothing that was looked at": ([FN + UNMADE], False, "NOT REFUSED by a goal of its own: ", False),
-    "a proof file that names what is gone": (
-        [ANSWERS + "module `Goals` has no `then-a` that can be named from here", FN + "not proved"], False, "WEAK: ", False),
-    "a proof file that names a step that is gone, where others are near": (
-        [ANSWERS + "`returns`: record `demo.half.Half.of.Lts.Past-then` (nearest: .len, .then-b)", "  has no field `then-a`", FN + "not proved"],
-        False, "WEAK: ", False),
-    "no such function": ([], False, "WEAK: ", False),
-}
-
-
-class Verdicts(unittest.TestCase):
-    def test_edits_and_twins(self) -> None:
-        for name, (lines, is_refused, words, is_proved) in SAID.items():
-            with self.subTest(name):
-                failures = told([*lines, "only=1 proved=0"]).failures_of(OF)
-                found, text = TOOL.judge_edit(failures)
-                self.assertEqual((found, text[: len(words)]), (is_refused, words))
-                self.assertEqual(TOOL.judge_twin(failures)[0], is_proved)
-
-    def test_what_was_not_looked_at_is_tried_without_the_others_of_its_round(self) -> None:
-        failures = told([FN + UNMADE, "only=1 proved=0"]).failures_of(OF)
-        for name in ("a.edit", "a.twin"):
-            self.assertTrue(TOOL.waits_for_others(TOOL.Edit(Path(name), [], frozenset([OF])), failures))
-
-    def test_a_text_that_is_not_read_is_no_verdict(self) -> None:
-        self.assertTrue(told([FN + "proved", "only=1 proved=1"], 0).is_read)
-        self.assertFalse(told(["src/half.rt:9:9: error: expected `;`", "only=1 proved=0"]).is_read)
-        self.assertFalse(told(["rattle: no verdict: memory"], 3).is_read)
-
-
-DOWN_FILE, ODD_FILE = "./proofs/half/Half/+down/Answers.antt:5:26: error: ", "./proofs/half/+odd/Answers.antt:5:26: error: "
-ODD_SAID = "no proof: expected answers in ./proofs/half/+odd/Answers.antt; `search` did not prove `even-returns`"
-# The same of functions that call themselves or each other, where a goal is that of the function in front of it.
-IN_CYCLES: List[Tuple[Tuple[str, str, str], List[str], str]] = [
-    (DOWN, [DOWN_FILE + "`returns-clause-small`: type mismatch", "fn demo::half::Half::down: not proved"], "refused, "),
-    (DOWN, ["fn demo::half::Half::down: no proof: expected answers in ./proofs/half/Half/+down/Answers.antt; `search` did not prove `returns-then-n-eq0`"],
-     "refused, "),
-    (DOWN, [DOWN_FILE + "`returns`: `gone` is not in scope", "fn demo::half::Half::down: not proved"], "WEAK: "),
-    *((key, [ODD_FILE + "`even-returns`: type mismatch", "fn demo::half::even: not proved", "fn demo::half::odd: not proved"], said)
-      for key, said in ((EVEN, "refused, "), (ODD, "NOT REFUSED "))),
-    *((key, [f"fn demo::half::{name}: {ODD_SAID}" for name in ("even", "odd")], said) for key, said in ((EVEN, "refused, "), (ODD, "NOT REFUSED "))),
-]
-
-
-class Cycles(unittest.TestCase):
-    def test_edits(self) -> None:
-        for key, lines, said in IN_CYCLES:
-            failures = TOOL.Told("demo", 1, "\n".join([*lines, "only=1 proved=0"]), {"src/half.rt": CYCLES}).failures_of(key)
-            is_refused, text = TOOL.judge_edit(failures)
-            self.assertEqual((is_refused, text[: len(said)]), (said == "refused, ", said), (key, lines))
-
-
-def ran(*command: str) -> Tuple[int, int, List[str]]:
-    with contextlib.redirect_stdout(io.StringIO()):
-        passed, failed, said, _ = GATE.run([*command])
-        return passed, failed, said
-
-
-def git(folder: Path, *words: str) -> str:
-    named = ["-c", "user.name=a", "-c", "user.email=a@b"]
-    return subprocess.run(["git", *named, *words], cwd=folder, check=True, stdout=subprocess.PIPE, text=True).stdout.strip()
-
-
-class Due(unittest.TestCase):
-    """What is due in a repository of two commits and six crates of two functions; the second one changes crates. There is room for two crates."""
-
-    NAMES = ["a", "b", "c", "d", "e", "f"]
-    SOURCE = "pub fn one() -> u8 {\n    1\n}\n\npub fn two() -> u8 {\n    2\n}\n"
-    EDITS = {"one": "1", "two": "2"}
-
-    def setUp(self) -> None:
-        self.folder = support.room_of(self)
-        git(self.folder, "init", "-q")
-        for name in self.NAMES:
-            self.write(name, "src/lib.rt", self.SOURCE)
-            for function, text in self.EDITS.items():
-                for ending, new in ((".edit", "0"), (".twin", text + " - 0")):
-                    self.write(name, f"wrong-bodies/{function}{ending}", f"file: src/lib.rt\nold:     {text}\nnew:     {new}\n")
-        self.commit()
-        self.first = git(self.folder, "rev-parse", "HEAD")
-        here: Dict[str, Any] = {"ROOT": self.folder, **{it: self.folder / it.lower() for it in ("LANDINGS", "COSTS", "MISTAKES")}}
-        self.enterContext(unittest.mock.patch.multiple(TOOL, **here))
-        self.enterContext(unittest.mock.patch.dict(TOOL.PROVE.CRATES, dict.fromkeys(self.NAMES), clear=True))
-        TOOL.COSTS.write_text("# minutes\nroom: 8\n" + "".join(f"{name}: 4\n" for name in self.NAMES), encoding="utf-8")
-        TOOL.MISTAKES.write_text("# none\n", encoding="utf-8")
-
-    def write(self, crate: str, path: str, text: str) -> None:
-        put(self.folder / "crates" / crate / path, text)
-
-    def commit(self) -> None:
-        git(self.folder, "add", "-A")
-        git(self.folder, "commit", "-q", "-m", "more")
-
-    def land(self, *whole: str) -> None:
-        """The first commit landed as often as there are these, each time with these crates tried whole."""
-        TOOL.LANDINGS.write_text("".join(f"{self.first} {it}\n" for it in whole), encoding="utf-8")
-
-    def give_room(self, minutes: int) -> None:
-        TOOL.COSTS.write_text(TOOL.COSTS.read_text(encoding="utf-8").replace("room: 8", f"room: {minutes}"), encoding="utf-8")
-
-    def due(self) -> Tuple[Dict[str, List[str]], str]:
-        """By crate the edits and twins that are due, and what is said of it."""
-        crates = [TOOL.Crate(name) for name in self.NAMES]
-        said = io.StringIO()
-        with contextlib.redirect_stdout(said):
-            TOOL.leave_what_is_due(crates)
-        left = {crate.name: sorted(it.name for it in [*crate.edits, *crate.twins]) for crate in crates}
-        return {name: edits for name, edits in left.items() if edits}, said.getvalue()
-
-    ALL = ["one.edit", "one.twin", "two.edit", "two.twin"]
-
-    def test_of_a_crate_that_changed_what_changed_and_others_whole_by_turns(self) -> None:
-        self.write("b", "src/lib.rt", self.SOURCE.replace("    2", "    4 - 2"))
-        self.write("b", "wrong-bodies/two.edit", "file: src/lib.rt\nold:     4 - 2\nnew:     0\n")
-        self.write("b", "wrong-bodies/two.twin", "file: src/lib.rt\nold:     4 - 2\nnew:     2\n")
-        self.commit()
-        self.land("a b c d e f", "a", "d f")
-        due, said = self.due()
-        self.assertEqual(due, {"b": self.ALL, "c": self.ALL})
-        self.assertIn("due: a: 0 of 4, since nothing that they rest on changed\n", said)
-        self.assertIn("due: c: all 4, in its turn\n", said)
-        self.assertIn("left, as there is no room: e, 4 minutes; it was tried whole 3 landings ago", said)
-        self.assertIn("due: 3 minutes of what changed, 5 of crates in their turn; 8 is the room\nwhole: b c\n", said)
-        self.land("a b c d e f", "a b", "d f")
-        due, said = self.due()
-        self.assertEqual(due, {"b": ["two.edit", "two.twin"], "c": self.ALL})
-        self.assertIn("due: b: 2 of 4\ndue: b/two.edit: its text changed\n", said)
-
-    def test_a_change_makes_the_edits_due_that_it_is_of(self) -> None:
-        """A comment none, a function its own, a twin its edit, and what isn't in git yet itself."""
-        self.write("a", "src/lib.rt", self.SOURCE.replace("    2", "    // two\n    2"))
-        self.write("b", "src/lib.rt", self.SOURCE.replace("pub fn two() -> u8 {", "pub fn two() -> u8\n    ensures { result ≡ 2 }\n{"))
-        self.write("d", "wrong-bodies/one.twin", "file: src/lib.rt\nold:     1\nnew:     1 + 0\n")
-        self.write("e", "wrong-bodies/three.edit", "file: src/lib.rt\nold:     1\nnew:     3\n")
-        self.give_room(40)
-        self.land("c", "a b d e f")
-        due, said = self.due()
-        self.assertEqual(due, {"b": ["two.edit", "two.twin"], "c": self.ALL, "d": ["one.edit", "one.twin"], "e": ["three.edit"]})
-        self.assertIn("due: b/two.twin: two changed\n", said)
-
-    def test_what_waits_for_room_comes_first_in_the_next_landing(self) -> None:
-        for name in "abc":
-            self.write(name, "src/lib.rt", self.SOURCE.replace("-> u8 {", "-> u8\n    ensures { result ≡ 2 }\n{"))
-        self.land("a b c d", "e f")
-        due, said = self.due()
-        self.assertEqual(due, dict.fromkeys("ab", self.ALL))
-        self.assertIn("due: c: it waits, as there is no room\n", said)
-        self.assertIn("due: 8 minutes of what changed, 0 of crates in their turn; 8 is the room\nwhole: a b\nwaiting: c\n", said)
-        self.commit()
-        landed = git(self.folder, "rev-parse", "HEAD")
-        TOOL.LANDINGS.write_text(TOOL.LANDINGS.read_text(encoding="utf-8") + f"{landed} a b -c\n", encoding="utf-8")
-        self.write("a", "src/lib.rt", self.SOURCE.replace("-> u8 {", "-> u8\n    ensures { result ≡ 3 }\n{"))
-        self.give_room(4)
-        due, said = self.due()
-        self.assertEqual(due, {"c": self.ALL})
-        self.assertIn("\nwhole: c\nwaiting: a\n", said)
-
-    def test_a_mistake_is_tried_whatever_changed_beside_the_room(self) -> None:
-        """In a crate of which nothing changed, in one that waits, and in one in its turn."""
-        for name in "ab":
-            self.write(name, "src/lib.rt", self.SOURCE.replace("-> u8 {", "-> u8\n    ensures { result ≡ 2 }\n{"))
-        TOOL.MISTAKES.write_text("# always\nb two: a two is a nought\nc one: a one is a nought\n", encoding="utf-8")
-        self.give_room(1)
-        self.land("a b c d e f")
-        due, said = self.due()
-        self.assertEqual(due, {"a": self.ALL, "b": ["two.edit", "two.twin"], "c": ["one.edit", "one.twin"]})
-        self.assertIn("due: 4 edits and twins of the mistakes, whatever changed\n", said)
-        self.write("b", "src/lib.rt", self.SOURCE)
-        self.write("a", "src/lib.rt", self.SOURCE)
-        self.assertEqual(self.due()[0], {"a": self.ALL, "b": ["two.edit", "two.twin"], "c": ["one.edit", "one.twin"]})
-
-    def test_a_wrong_line_of_the_mistakes_is_refused(self) -> None:
-        for line in ("b three: no such edit", "g one: no such crate", "b one:", "b one", "b one.edit: as a file", ""):
-            TOOL.MISTAKES.write_text(f"# always\nb two: a two is a nought\n{line}\n", encoding="utf-8")
-            with self.assertRaisesRegex(TOOL.BadMistake, f"^mistakes:3: .*: {line}$"):
-                self.due()
-
-    def test_a_crate_is_tried_where_there_is_no_room(self) -> None:
-        for name in "ab":
-            self.write(name, "src/lib.rt", self.SOURCE.replace("-> u8 {", "-> u8\n    ensures { result ≡ 2 }\n{"))
-        self.give_room(1)
-        self.land("")
-        due, said = self.due()
-        self.assertEqual(due, {"a": self.ALL})
-        self.assertIn("\nwhole: a\nwaiting: b\n", said)
-
-    def test_a_landing_is_added_with_the_crates_that_its_own_tool_names(self) -> None:
-        told = "print('waiting: d\\nwhole: a c' if sys.argv[1:] == ['--due', '--list'] else 'no')"
-        tool = f"#!/usr/bin/env python3\nimport sys\nprint('due: a: all 4, in its turn')\n{told}\n"
-        put(self.folder / "tools" / "wrong-bodies", tool)
-        self.commit()
-        second = git(self.folder, "rev-parse", "HEAD")
-        self.assertEqual([self.added(it) for it in ("HEAD", "HEAD", self.first, "gone")], [0, 1, 0, 1])
-        self.assertEqual(TOOL.LANDINGS.read_text(encoding="utf-8"), f"{second} a c -d\n{self.first}\n")
-        self.assertEqual(git(self.folder, "worktree", "list").count("\n"), 0)
-
-    def added(self, commit: str) -> int:
-        with contextlib.redirect_stdout(io.StringIO()):
-            status: int = TOOL.add_landing(commit)
-            return status
-
-    def test_all_where_git_cannot_tell(self) -> None:
-        whole = dict.fromkeys(self.NAMES, self.ALL)
-        due, said = self.due()
-        self.assertEqual(due, whole)
-        self.assertIn("due: a: all 4, since git can not tell what changed\n", said)
-        TOOL.LANDINGS.write_text("0123456789012345678901234567890123456789\n", encoding="utf-8")
-        self.assertEqual(self.due()[0], whole)
-        self.write("a", "src/lib.rt", self.SOURCE)
-        git(self.folder, "commit", "-q", "--allow-empty", "-m", "more")
-        clone = self.folder / "clone"
-        git(self.folder, "clone", "-q", "--depth", "1", f"file://{self.folder}", str(clone))
-        TOOL.ROOT, TOOL.LANDINGS = clone, clone / "landings"
-        self.land("")
-        self.assertEqual(self.due()[0], whole)
-
-
-class Mistakes(unittest.TestCase):
-    def test_each_mistake_of_the_tree_is_tried_where_nothing_changed(self) -> None:
-        """And no crate is in its turn; so each line of the list names an edit that applies."""
-        listed = [tuple(line.partition(":")[0].split()) for line in TOOL.MISTAKES.read_text(encoding="utf-8").splitlines() if line[0] != "#"]
-        self.assertEqual(len(listed), len({*listed}))
-        crates = [TOOL.Crate(name) for name in TOOL.PROVE.CRATES]
-        changed: Dict[str, Dict[Path, str]] = {it.name: {} for it in crates}
-        with unittest.mock.patch.multiple(TOOL, all_reasons=lambda *_: changed, in_turn=lambda *_: ([], [])), contextlib.redirect_stdout(io.StringIO()):
-            TOOL.leave_what_is_due(crates)
-        self.assertEqual(sorted(listed), sorted((crate.name, it.file.stem) for crate in crates for it in crate.edits))
-        self.assertEqual([it.file for crate in crates for it in crate.twins if not any(it.file.stem == edit.file.stem for edit in crate.edits)], [])
-
-
-class Twins(unittest.TestCase):
-    """Whether an edit needs a twin, by what it changes."""
+    def test_a_mistake_has_its_words(self) -> None:
+        mistakes = [it.mistake for name in TOOL.PROVE.CRATES for it in TOOL.Crate(name).entries if it.mistake]
+        self.assertEqual(len(mistakes), 42)
+        self.assertTrue(all(" " in it for it in mistakes))
 
     CHANGES: Dict[str, List[List[Tuple[str, str]]]] = {
         "changes a value": [
@@ -424,10 +152,162 @@ class Twins(unittest.TestCase):
     def test_what_is_changed(self) -> None:
         for change, edits in self.CHANGES.items():
             for pairs in edits:
-                self.assertEqual(change_of([("src/half.rt", old, new) for old, new in pairs]), change, pairs)
+                self.assertEqual(change_of([Pair("", "", old, new) for old, new in pairs]), change, pairs)
 
-    def test_what_is_said_of_one_that_needs_a_twin(self) -> None:
-        self.assertEqual(TOOL.about_twin(crate_of(self, {"a.edit": STEP}).edits[0], []), "it needs a twin, since it adds or removes a statement")
+
+class Copies(unittest.TestCase):
+    def write(self, crate: Any, number: int) -> Tuple[Dict[str, str], Path]:
+        copy = support.room_of(self) / "copy"
+        return crate.sources.write(copy, crate.sources.in_rounds(crate.trials)[number]), copy
+
+    def test_what_shares_a_check(self) -> None:
+        crate = crate_of(self, WHOLE)
+        rounds = [[it.name for it in trials] for trials in crate.sources.in_rounds(crate.trials)]
+        self.assertEqual(rounds, [["fourth", "fourth, its twin", "at_0", "odd_0", "even_0", "last_0", "fmt_0"], ["least_2"]])
+
+    def test_an_edited_body_stands_after_its_own_with_the_contract_and_the_proofs(self) -> None:
+        texts, copy = self.write(crate_of(self, WHOLE), 0)
+        head = "    #[tactic(auto)]\n    pub fn of_edit_1(n: u8) -> u8\n        ensures { result ≡ n / 2 }\n    {\n        n / 4\n    }\n"
+        self.assertIn(head, texts["src/half.rt"])
+        self.assertLess(texts["src/half.rt"].index("pub fn of(n"), texts["src/half.rt"].index(head))
+        self.assertIn("        even(9) + LEAST\n    }\n\n    fn last_edit_8(&self) -> u8 {\n        0 + LEAST\n", texts["src/odd.rt"])
+        self.assertEqual((copy / "proofs/half/Half/of_edit_1/Answers.antt").read_text(), ANSWERS.replace("of.Goals", "of_edit_1.Goals"))
+        self.assertEqual((copy / "src/half.rt").read_text(), texts["src/half.rt"])
+
+    def test_a_cycle_of_calls_has_siblings_that_call_each_other(self) -> None:
+        texts, copy = self.write(crate_of(self, WHOLE), 0)
+        for head in ("#[cycle(odd_edit_5)]\nfn even_edit_5(n: u8) -> u8 {\n    odd_edit_5(n - 1)\n", "#[cycle(odd_edit_5)]\nfn odd_edit_5(n: u8) -> u8 {\n    0\n"):
+            self.assertIn(head, texts["src/odd.rt"])
+        self.assertEqual((copy / "proofs/odd/+odd_edit_5/Answers.antt").read_text(), """\
+use Rattle.demo.proofs.odd.+odd_edit_5.Goals.{even_edit_5-odd_edit_5-requires}
+even_edit_5-odd_edit_5-requires t c = (odd (c.odd_edit_5.result) c.oddly Rattle.demo.proofs.odd.x)
+""")
+
+    def test_the_others_are_taken_by_their_contracts(self) -> None:
+        _, copy = self.write(crate_of(self, WHOLE), 1)
+        self.assertIn("use Rattle.demo.proofs.half.Half.next.Statement as stated\n\npub next_spec : ", (copy / "proofs/half/Half/next/Proof.antt").read_text())
+        self.assertIn("use Rattle.demo.proofs.odd.+odd as stated\n\npub +odd_spec : ", (copy / "proofs/odd/+odd/Proof.antt").read_text())
+        self.assertEqual([it.name for it in (copy / "proofs/half/Half/of").iterdir()], ["Proof.antt"])
+        # (what is edited in place keeps its proofs)
+        self.assertFalse((copy / "proofs/odd/Half/last").exists())
+
+    def test_the_prover_is_asked_for_what_is_edited(self) -> None:
+        crate = crate_of(self, WHOLE)
+        asked = [crate.paths_of(trials) for trials in crate.sources.in_rounds(crate.trials)]
+        self.assertEqual(asked[0], ["even_edit_6", "half::HalfDisplay::fmt", "last_edit_8", "next_edit_3", "odd_edit_5", "of_edit_1", "of_edit_2"])
+        self.assertEqual(asked[1], ["half::Half::last", "half::HalfDisplay::fmt"])
+
+    def test_unedited_functions_are_tried_once_as_twins(self) -> None:
+        crate = crate_of(self, FOURTH + entry("eighth", "Half::of", "n / 2", "n / 8"), is_unedited=True)
+        self.assertEqual([(it.name, it.is_twin, it.pairs[0].new) for it in crate.trials], [("Half::of", True, "n / 2")])
+
+    def test_an_impl_is_named_as_the_prover_does(self) -> None:
+        heads = {
+            "impl Half<'_>": "Half",
+            "impl Half<'_, Whole>": "Half+Whole",
+            "impl<'a> Half<'a>": "Half",
+            "impl From<Third> for Half": "HalfFromThird",
+            "impl Gate for Half<'_>": "HalfGate",
+            "impl Half<Whole>": "Half+Whole",
+        }
+        for head, owner in heads.items():
+            found = functions_of("src/half.rt", f"{head} {{\n    fn next(&self) -> u8 {{\n        1\n    }}\n}}\n")
+            self.assertEqual([it.owner for it in found], [owner])
+
+
+FN, FILE = "fn demo::half::Half::of: ", "./proofs/half/Half/of/Answers.antt:4:2: error: "
+OF = ("src/half.rt", "Half", "of")
+NOTE = "note: src/half.rt:9:5: it is not proved that what the function ensures holds when it returns (`returns`)"
+CALLS = "no proof: it calls `demo::half::third`, which is not proved"
+UNMADE = "no proof: the borrow checker's part in its proof is not made yet: a call of `demo::half::third`, which has no proof: help: prove it first"
+# What a check says of a function, whether an edit of it is refused and in which words, and whether a twin is proved.
+SAID: Dict[str, Tuple[List[str], bool, str, bool]] = {
+    "a goal of its own": ([NOTE, FN + "no proof: `search` did not prove `returns`"], True, f"refused, as it must be: {NOTE}", False),
+    "still proved": ([FN + "no holes"], False, "NOT REFUSED: it is still proved", True),
+    "still proved, by a callee's contract": (
+        [FN + "depends on a hole in `Rattle.demo.proofs.half.third.Proof.third_spec`"], False, "NOT REFUSED: it is still proved", True),
+    "a callee that isn't proved": ([FN + CALLS], False, "NOT REFUSED by a goal of its own: no proof: it calls ", False),
+    "nothing that was looked at": ([FN + UNMADE], False, "NOT REFUSED by a goal of its own: ", False),
+    "a proof file that names what is gone": (
+        [FILE + "module `Goals` has no `then-a` that can be named from here", FN + "not proved"], False, "WEAK: ", False),
+    "a proof file that names a step that is gone, where others are near": (
+        [FILE + "`returns`: record `demo.half.Half.of.Lts.Past-then` (nearest: .len, .then-b)", "  has no field `then-a`", FN + "not proved"],
+        False, "WEAK: ", False),
+    "no such function": ([], False, "NOT REFUSED by a goal of its own: the prover names no such function", False),
+}
+EVEN, IS_ODD = ("src/odd.rt", "", "even"), ("src/odd.rt", "", "odd")
+ODD_FILE = "./proofs/odd/+odd/Answers.antt:5:26: error: "
+ODD_SAID = "no proof: expected answers in ./proofs/odd/+odd/Answers.antt; `search` did not prove `even-returns`"
+# The same of functions that call each other, where a goal is that of the function before it.
+IN_CYCLES: List[Tuple[List[str], Dict[Tuple[str, str, str], bool]]] = [
+    ([ODD_FILE + "`even-returns`: type mismatch", "fn demo::odd::even: not proved", "fn demo::odd::odd: not proved"], {EVEN: True, IS_ODD: False}),
+    ([f"fn demo::odd::{name}: {ODD_SAID}" for name in ("even", "odd")], {EVEN: True, IS_ODD: False}),
+]
+
+
+def told(lines: List[str], status: int = 1) -> Any:
+    return TOOL.Told("demo", status, "\n".join(lines), {"src/half.rt": HALF, "src/odd.rt": ODD})
+
+
+class Verdicts(unittest.TestCase):
+    def test_edits_and_twins(self) -> None:
+        for name, (lines, is_refused, words, is_proved) in SAID.items():
+            with self.subTest(name):
+                failures = [told([*lines, "only=1 holes=0"]).failure_of(OF)]
+                found, text = TOOL.judge_edit(failures)
+                self.assertEqual((found, text[: len(words)]), (is_refused, words))
+                self.assertEqual(TOOL.judge_twin(failures)[0], is_proved)
+
+    def test_in_a_cycle_a_goal_is_of_one_function(self) -> None:
+        for lines, refused in IN_CYCLES:
+            for key, is_refused in refused.items():
+                self.assertEqual(TOOL.judge_edit([told([*lines, "only=1 holes=0"]).failure_of(key)])[0], is_refused, (key, lines))
+
+    def test_a_text_that_is_not_read_is_no_verdict(self) -> None:
+        self.assertTrue(told([FN + "no holes", "only=1 holes=0"], 0).is_read)
+        self.assertFalse(told(["src/half.rt:9:9: error: expected `;`", "only=1 holes=0"]).is_read)
+        self.assertFalse(told(["rattle: no verdict: memory"], 3).is_read)
+
+
+class Runs(unittest.TestCase):
+    """A crate of which the prover's answers are given."""
+
+    def run_crate(self, answers: List[Tuple[int, str, float]], edits: str) -> Tuple[List[str], List[List[str]]]:
+        crate, asked = crate_of(self, edits), []
+
+        def answer(words: List[str], _: Path) -> Tuple[int, str, float]:
+            asked.append([word for before, word in zip(words, words[1:]) if before == "--only"])
+            return answers[len(asked) - 1]
+
+        with unittest.mock.patch.object(TOOL, "run_timed", answer), unittest.mock.patch.dict(TOOL.PROVE.CRATES, demo=["std"]), contextlib.redirect_stdout(io.StringIO()):
+            return [f"{it.name}: {it.text}"[:40] for it in crate.run()], asked
+
+    EDITS = FOURTH + entry("at_0", "Half::next", "self.at", "0")
+    PROVED = "fn demo::half::Half::of_edit_2: no holes\nfn demo::half::Half::next_edit_3: no proof: `search` did not prove `returns`\nonly=3 holes=0\n"
+
+    def test_one_check_tries_all(self) -> None:
+        refused = "fn demo::half::Half::of_edit_1: no proof: `search` did not prove `returns`\n"
+        said, asked = self.run_crate([(1, refused + self.PROVED, 1.0)], self.EDITS)
+        self.assertEqual([it.split(",")[0] for it in said], ["fourth: refused", "fourth", "at_0: refused"])
+        self.assertEqual(asked, [["next_edit_3", "of_edit_1", "of_edit_2"]])
+
+    def test_what_can_not_be_read_is_left_out(self) -> None:
+        fault = "src/half.rt:17:9: error[unknown-name]: no `m` is in scope\n"
+        said, asked = self.run_crate([(1, fault, 1.0), (1, self.PROVED, 1.0)], self.EDITS)
+        self.assertEqual(said[0], "fourth: BAD EDIT: the prover can't read "[:40])
+        self.assertEqual(asked[1], ["next_edit_3", "of_edit_2"])
+
+    def test_halves_are_tried_where_nothing_is_known_of_a_check(self) -> None:
+        unknown = (3, "rattle: no verdict: memory\n", 1.0)
+        said, asked = self.run_crate([unknown, unknown, (1, self.PROVED, 1.0)], self.EDITS)
+        self.assertEqual([len(it) for it in asked], [3, 1, 2])
+        self.assertEqual(said[0][:20], "fourth: BAD EDIT: th")
+
+
+def ran(*command: str) -> Tuple[int, int, List[str]]:
+    with contextlib.redirect_stdout(io.StringIO()):
+        passed, failed, said, _ = GATE.run([*command])
+        return passed, failed, said
 
 
 class Gate(unittest.TestCase):

@@ -4,7 +4,7 @@ import re
 from pathlib import Path
 from typing import Dict, List, NamedTuple
 
-from onfi_tools.changes import leaves_of
+from onfi_tools.imports import leaves_of
 
 USE = re.compile(r"^pub use ([^;]+);", re.MULTILINE)
 ITEM = r"^pub (?:const )?(?P<what>fn|struct|enum|trait|const|type) {name}\b"
