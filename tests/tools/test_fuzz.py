@@ -46,7 +46,7 @@ def fuzzed(body: str, inputs: int = 40) -> "tuple[int, str]":
     """Status and output of the tool on a program with this body."""
     with tempfile.TemporaryDirectory() as folder:
         program = support.executable(folder, PROGRAM.format(python=sys.executable, body=body))
-        said = support.run_tool("fuzz", "600", program, "--inputs", str(inputs))
+        said = support.run_tool("fuzz", "36000", program, "--inputs", str(inputs))
     return said.returncode, said.stdout
 
 
