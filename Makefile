@@ -1,6 +1,9 @@
 # make plan             proves and builds bin/onfi_sim, and plans one read with it
-# make try              builds bin/onfi_sim-unproved in two to three minutes, and runs it: SCRIPT=FILE is its input, WORDS=".." its command
+# make try              builds bin/onfi_sim-unproved in two minutes, and runs it: SCRIPT=FILE is its input, WORDS=".." its command
 #                       line; else it plans the same
+# make try-library      builds lib/unproved/libonfi.a and libonfi.so in two minutes, which those of make library replace without a change
+# make try-test         builds these and the tests unproved, and plays all cases, worked rows, tests, examples and messages, in ten
+#                       minutes on four processors; make test proves
 # make library          proves and builds lib/libonfi.a and lib/libonfi.so, for C and for Python
 #                       TARGET=aarch64: those for 64-bit Arm in lib/aarch64, libonfi.so where Debian's gcc-aarch64-linux-gnu is installed;
 #                       the same of make wheel, make install and the next three, below /usr/local/aarch64-linux-gnu where no PREFIX is named
@@ -46,7 +49,7 @@ JOBS ?= $(shell n=$$(nproc); echo $$((n < 4 ? n : 4)))
 # Stands in the recipes that call the kit, so that make ends by this line as it comes to one of them, before anything of it is run.
 kit = $(if $(shell command -v rt),,$(error no Rattle kit in PATH, see README))
 
-.PHONY: plan try test library wheel install install-program install-library uninstall wrong-bodies clean clean-proofs help
+.PHONY: plan try try-library try-test test library wheel install install-program install-library uninstall wrong-bodies clean clean-proofs help
 
 plan:
 	@$(if $(wildcard bin/onfi_sim),,$(kit))$(MAKE) --no-print-directory -j3 TARGET= bin/onfi_sim
@@ -120,13 +123,27 @@ uninstall:
 WORDS ?= plan
 SCRIPT ?= examples/one-read.onfi
 
-bin/onfi_sim-unproved: crates.txt $(shell find $(patsubst %,crates/%/src,$(PROGRAM) onfi_program) -type f)
+sources = $(shell find $(patsubst %,crates/%/src,$(1)) -type f)
+bin/onfi_sim-unproved: crates.txt $(call sources,$(PROGRAM) onfi_program)
 	@$(kit)echo "building onfi_sim unproved"
 	@tools/try-program $@
+
+bin/onfi_trials-unproved bin/onfi_row_tests-unproved: bin/%-unproved: crates.txt $(call sources,*)
+	@$(kit)echo "building $* unproved"
+	@tools/try-program $@ $*
+
+lib/unproved/libonfi.a: crates.txt include/onfi.h $(call sources,$(LIBRARIES) onfi_c)
+	@$(kit)echo "building the library unproved"
+	@tools/try-library $(@D)
 
 try: bin/onfi_sim-unproved
 	@echo "unproved: this run says nothing of the proofs"
 	bin/onfi_sim-unproved $(WORDS) < "$(SCRIPT)"
+
+try-library: lib/unproved/libonfi.a
+
+try-test:
+	@$(kit)tools/try-test
 
 # For processors that the kit doesn't compile for: of the module that it compiles for x86-64.
 .PHONY: object

@@ -81,7 +81,7 @@ class Bare(unittest.TestCase):
 
     def run_on_arm(self, program: str, words: str) -> "subprocess.CompletedProcess[str]":
         command = [*MACHINE, "-kernel", program, "-append", words]
-        return subprocess.run(command, stdin=subprocess.DEVNULL, capture_output=True, text=True, timeout=600)
+        return subprocess.run(command, stdin=subprocess.DEVNULL, capture_output=True, text=True, timeout=3600)
 
     def test_its_page_says_how(self) -> None:
         page = (BARE / "README.md").read_text()

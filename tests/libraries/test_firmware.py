@@ -94,7 +94,7 @@ def tearDownModule() -> None:
 
 
 def run(*words: str, **how: str) -> "subprocess.CompletedProcess[str]":
-    return subprocess.run(list(words), capture_output=True, text=True, env={**os.environ, **how}, timeout=600)
+    return subprocess.run(list(words), capture_output=True, text=True, env={**os.environ, **how}, timeout=3600)
 
 
 def compiled(name: str, compiler: Sequence[str], options: Sequence[str], sources: Sequence[Path], pool: int = 0) -> str:

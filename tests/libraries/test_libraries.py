@@ -31,7 +31,7 @@ SCRIPTS = 300
 
 
 def run(*words: str, given: bytes = b"", **how: str) -> "subprocess.CompletedProcess[bytes]":
-    return subprocess.run(list(words), input=given, capture_output=True, env={**os.environ, **how}, timeout=600)
+    return subprocess.run(list(words), input=given, capture_output=True, env={**os.environ, **how}, timeout=3600)
 
 
 BUILT = tempfile.TemporaryDirectory(prefix="onfi-c-")

@@ -13,6 +13,7 @@ from typing import Dict, Iterator, List, Optional
 ROOT = Path(__file__).resolve().parent.parent.parent
 sys.path.insert(0, str(ROOT / "tools"))
 
+from onfi_tools.environment import be_plain  # noqa: E402
 from onfi_tools.kit import KIT  # noqa: E402
 from onfi_tools.loading import load_tool  # noqa: E402
 from onfi_tools.script import lengths_of  # noqa: E402
@@ -21,12 +22,12 @@ from onfi_tools.device import Spans  # noqa: E402
 
 load = load_tool
 
-# What a make that runs these tests hands on to its commands, and what would name another place or processor.
-HANDED_ON = ("MAKEFLAGS", "MAKELEVEL", "MFLAGS", "PREFIX", "DESTDIR", "TARGET")
+be_plain()
 
 
 def plain_environment() -> Dict[str, str]:
-    return {name: value for name, value in os.environ.items() if name not in HANDED_ON}
+    """That of the tests, for one that adds to it."""
+    return dict(os.environ)
 
 
 def cells_of(text: str) -> Iterator[List[str]]:
@@ -64,6 +65,12 @@ def run_tool(name: str, *words: str, given: str = "") -> "subprocess.CompletedPr
 def program() -> Optional[str]:
     """The built program: that of the environment's ONFI_SIM, else bin/onfi_sim; None where there is none."""
     path = os.environ.get("ONFI_SIM", str(ROOT / "bin/onfi_sim"))
+    return path if os.access(path, os.X_OK) else None
+
+
+def trials() -> Optional[str]:
+    """The built onfi_trials: that of the environment's ONFI_TRIALS, else the crate's; None where there is none."""
+    path = os.environ.get("ONFI_TRIALS", str(ROOT / "crates/onfi_trials/out/onfi_trials"))
     return path if os.access(path, os.X_OK) else None
 
 

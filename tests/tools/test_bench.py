@@ -68,7 +68,7 @@ SAID = "plans: 26142.634 requests a second, bus busy 99.290 %, 7 plans\n  1 read
 
 
 class Instructions(unittest.TestCase):
-    @unittest.skipUnless(shutil.which("valgrind"), "no valgrind")
+    @unittest.skipUnless(shutil.which("valgrind"), "Debian's valgrind is not installed")
     def test_twice_the_work_counts_twice(self) -> None:
         with tempfile.TemporaryDirectory() as folder:
             searches = [support.compiled(folder, SEARCH, "-O1", f"-DWORK={work}", name=f"bnb-{work}") for work in (100, 200)]
@@ -108,7 +108,7 @@ class Instructions(unittest.TestCase):
         self.assertEqual(turns, driver_costs.Turns((1370 - 240) / 2, {"onfi_choose": 300, "onfi_due": 100}, 3.5))
         self.assertEqual(driver_costs.cells_of(turns, ["onfi_choose", "onfi_next", "onfi_due"]), ["565", "165", "300", "", "100", "3.50"])
 
-    @unittest.skipUnless(shutil.which("valgrind"), "no valgrind")
+    @unittest.skipUnless(shutil.which("valgrind"), "Debian's valgrind is not installed")
     def test_turns_of_the_greedy_way(self) -> None:
         with tempfile.TemporaryDirectory() as folder:
             built = support.library(Path(folder))

@@ -8,7 +8,6 @@ from typing import Dict, Iterator, List, NamedTuple, Optional, Tuple
 
 import support
 
-TRIALS = support.ROOT / "crates/onfi_trials/out/onfi_trials"
 HOSTS, LUNS, BLOCKS, BATCH, ROOM, WINDOW = 3, 2, 4, 3, 4, 64
 SECTORS, SECTOR_BYTES = 4, 132
 # Of each kind how long its command and its post take, in ns; of the post of a read of sectors what comes before the first.
@@ -198,14 +197,14 @@ def row_of(act: Act) -> str:
 
 
 class Cores(unittest.TestCase):
-    @unittest.skipUnless(TRIALS.is_file(), "onfi_trials isn't built")
+    @unittest.skipUnless(support.trials(), "onfi_trials isn't built")
     def test_random_events_are_those_of_a_plain_machine(self) -> None:
         posts, several, sectors = 0, 0, 0
         for seed in range(10):
             acts = list(drawn(seed, 1_000))
             has_sectors = seed % 2 == 0
             rows = "sectored\n" * has_sectors + f"open,1,{HOSTS},{BATCH},{ROOM},{ROOM},100000\n" + "".join(map(row_of, acts))
-            lines = subprocess.run([TRIALS, "core"], input=rows, stdout=subprocess.PIPE, text=True, check=True).stdout.splitlines()
+            lines = subprocess.run([str(support.trials()), "core"], input=rows, stdout=subprocess.PIPE, text=True, check=True).stdout.splitlines()
             plain = Plain(SECTORS * has_sectors)
             for number, act in enumerate(acts):
                 line = lines.pop(0)

@@ -87,7 +87,7 @@ class Texts(unittest.TestCase):
                                                         "3 of 4 functions, 13 of 30 instructions (43.3 %)"])
 
 
-@unittest.skipUnless(all(map(shutil.which, ("valgrind", "objdump", "cc"))), "no valgrind, objdump or cc")
+@unittest.skipUnless(all(map(shutil.which, ("valgrind", "objdump", "cc"))), "Debian's valgrind, binutils or gcc is not installed")
 class Programs(unittest.TestCase):
     def measured(self, *cases: Case) -> Tuple[Dict[str, Tuple[int, int]], List[str]]:
         with tempfile.TemporaryDirectory() as folder:

@@ -2,13 +2,13 @@
 
 import os
 import re
-import subprocess
 import unittest
 from concurrent.futures import ThreadPoolExecutor
 from typing import Callable, List, Tuple, Union
 
 import support
 from onfi_tools.cases import Case, read_cases
+from onfi_tools.limits import run_within
 
 Answer = Tuple[bytes, int]
 TOKEN = re.compile(rb"(B[1-9][0-9]?|[ULTX]|[DY][0-7]|R(0|[1-9]\d*)|W(0|[1-9]\d*),(0|[1-9]\d*))\Z")
@@ -20,7 +20,7 @@ def case_named(name: str) -> Case:
 
 
 def answer(case: Case, given: bytes) -> Answer:
-    ran = subprocess.run([str(support.program()), *case.arguments], input=given, capture_output=True, timeout=20)
+    ran = run_within(20, [str(support.program()), *case.arguments], given)
     return ran.stdout, ran.returncode
 
 

@@ -10,6 +10,7 @@ from typing import Any, Dict, List, NamedTuple, Optional, Sequence, Tuple, Union
 
 import support
 from onfi_tools.cases import read_cases
+from onfi_tools.limits import run_within
 
 Word = Union[str, bytes]
 EXAMPLES = support.ROOT / "examples"
@@ -32,8 +33,7 @@ class Ran(NamedTuple):
 
 def ran(*words: Word, given: Optional[bytes] = b"", **streams: Any) -> Ran:
     """What the program answers and says, each through a pipe, or nothing of what goes to another of these streams."""
-    how: Dict[str, Any] = {"input": given, "stdout": subprocess.PIPE, "stderr": subprocess.PIPE, **streams}
-    done = subprocess.run([str(support.program()), *words], timeout=SECONDS, **how)
+    done = run_within(SECONDS, [str(support.program()), *words], given, **streams)
     return Ran((done.stdout or b"").decode(), (done.stderr or b"").decode(), done.returncode)
 
 

@@ -45,7 +45,7 @@ def soaked(spoilt: str, *words: str, changed: str = "") -> Tuple[int, str]:
     """Status and output of the tool on a program that does this with its lines before it prints them, and that with its script."""
     with tempfile.TemporaryDirectory() as folder:
         text = PROGRAM.format(python=sys.executable, program=support.program(), spoilt=spoilt, changed=changed)
-        said = support.run_tool("soak", "1", support.executable(folder, text), "--scripts", "30", "--only", "mixed", *words)
+        said = support.run_tool("soak", "600", support.executable(folder, text), "--scripts", "30", "--only", "mixed", *words)
     return said.returncode, said.stdout + said.stderr
 
 
