@@ -61,8 +61,10 @@ def check_example(test: unittest.TestCase, program: str) -> None:
     test.assertEqual((told.returncode, told.stdout), (1, "refused 83 the value of a row of the sheet is no number, place 2\n"))
     told = run_example(program, PAGE, BESIDE.encode(), b"tDQ,5\n")
     test.assertEqual((told.returncode, told.stdout[:11]), (1, "refused 88 "))
-    for texts, fault in (([PAGE], "sheet: No such file or directory"), ([], "page: No such file or directory"), ([PAGE, b"x" * 8192], "sheet: it has 8192 bytes or more")):
-        told = run_example(program, *texts, count=2)
+    faults: Dict[str, List[bytes]] = {"sheet: No such file or directory": [PAGE], "page: No such file or directory": [],
+                                      "sheet: it has 8192 bytes or more": [PAGE, b"x" * 8192]}
+    for fault, given in faults.items():
+        told = run_example(program, *given, count=2)
         test.assertEqual((told.returncode, told.stdout), (1, ""))
         test.assertRegex(told.stderr, rf"^device: \S+/{fault}\n$")
 
