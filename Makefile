@@ -8,11 +8,12 @@
 #                       TARGET=aarch64: those for 64-bit Arm in lib/aarch64, libonfi.so where Debian's gcc-aarch64-linux-gnu is installed;
 #                       the same of make wheel, make install and the next three, below /usr/local/aarch64-linux-gnu where no PREFIX is named
 # make wheel            the same library in a wheel for pip, dist/onfi-VERSION-py3-none-PLATFORM.whl
-# make install          puts the program with its manual page, and the libraries with their header and a pkg-config file, below
-#                       PREFIX, /usr/local where none is named; DESTDIR=DIR puts a package together in DIR
+# make install          puts the program with its manual page, the libraries with their header and a pkg-config file, and the pages,
+#                       below PREFIX, /usr/local where none is named; LIBDIR, PREFIX/lib where none is named, is where libraries go;
+#                       DESTDIR=DIR puts a package together in DIR
 # make install-program  the program with its manual page alone
 # make install-library  the libraries with their header alone
-# make uninstall        removes from PREFIX what these put there
+# make uninstall        removes from PREFIX and LIBDIR what these put there, and shared libraries of other versions
 # make object TARGET=P  the library for riscv64, riscv32, armv7 or thumbv7em as lib/P/libonfi.a: tried, and not proved for
 # make test             the whole gate: every proof, test, case and wrong body
 # make wrong-bodies     those of all crates; tools/wrong-bodies CRATE tries those of one
@@ -100,11 +101,11 @@ wheel: library
 	@tools/make-wheel $(lib)/libonfi.so $(dist)
 
 PREFIX ?= /usr/local$(TARGET:%=/%-linux-gnu)
-export PREFIX DESTDIR
+export PREFIX LIBDIR DESTDIR TARGET
 
-# A PREFIX that tools/install wouldn't take is refused before anything is built for it.
+# A PREFIX or LIBDIR that tools/install wouldn't take is refused before anything is built for it.
 ifneq ($(filter install install-program install-library uninstall,$(MAKECMDGOALS)),)
-wrong_prefix := $(shell PREFIX='$(subst ','\'',$(PREFIX))' tools/install check 2>&1)
+wrong_prefix := $(shell PREFIX='$(subst ','\'',$(PREFIX))' LIBDIR='$(subst ','\'',$(LIBDIR))' tools/install check 2>&1)
 $(if $(wrong_prefix),$(error $(wrong_prefix)))
 endif
 

@@ -1,22 +1,31 @@
 /* device PAGE SHEET [STROBES]: what the bytes of a parameter page, a timing sheet and strobes say of a device. */
 #include <onfi.h>
 
+#include <errno.h>
 #include <inttypes.h>
 #include <stdio.h>
 #include <stdlib.h>
+#include <string.h>
 
+/* What a file has, of a length that fits the room; the program ends where it can't be read. */
 static size_t contents(const char *name, uint8_t *room, size_t size)
 {
     FILE *file = fopen(name, "rb");
-    if (!file)
-        return 0;
-    size_t bytes = fread(room, 1, size, file);
+    size_t bytes = file ? fread(room, 1, size, file) : 0;
+    if (!file || ferror(file)) {
+        fprintf(stderr, "device: %s: %s\n", name, strerror(errno));
+        exit(EXIT_FAILURE);
+    }
+    if (bytes == size) {
+        fprintf(stderr, "device: %s: it has %zu bytes or more\n", name, size);
+        exit(EXIT_FAILURE);
+    }
     fclose(file);
     return bytes;
 }
 
 /* The device of these files; data and status bytes go by strobes where there is a third. */
-static uint32_t told(const char *page_name, const char *sheet_name, const char *strobes_name, onfi_device *device, uint64_t *place)
+static uint32_t read_device(const char *page_name, const char *sheet_name, const char *strobes_name, onfi_device *device, uint64_t *place)
 {
     static uint8_t page[8192], sheet[8192], strobes[8192];
     size_t page_bytes = contents(page_name, page, sizeof page), sheet_bytes = contents(sheet_name, sheet, sizeof sheet);
@@ -39,7 +48,7 @@ int main(int count, char **words)
         fprintf(stderr, "usage: device PAGE SHEET [STROBES]\n");
         return EXIT_FAILURE;
     }
-    uint32_t status = told(words[1], words[2], count == 4 ? words[3] : NULL, &device, &place);
+    uint32_t status = read_device(words[1], words[2], count == 4 ? words[3] : NULL, &device, &place);
     if (status != ONFI_DONE) {
         char text[80];
         size_t bytes;

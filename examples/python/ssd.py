@@ -1,6 +1,6 @@
 """A drive of two channels of eight LUNs in SimPy: each channel plans in rolling use, and asks which phase is due.
 
-    ONFI_LIBRARY=lib/libonfi.so PYTHONPATH=python python3 examples/python/ssd.py [--requests N] [--seed N] [--load SHARE] [--sectors N] [--ends] ..
+    PYTHONPATH=python python3 examples/python/ssd.py [--requests N] [--seed N] [--load SHARE] [--sectors N] [--ends] ..
 
 A channel has 64 requests outstanding: a new one comes with each answer, or with --load by itself. It does what the driver of
 examples/c/firmware_plans.c does: channel 0 answers each request when `firmware way plans` with the same seed does, channel 1 when it

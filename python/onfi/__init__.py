@@ -1,5 +1,25 @@
 """Optimal bus schedules of ONFI channels, and the check of any schedule, by the proved library libonfi.so.
 
+What plans a channel's LUNs and wants:
+    plan              the schedule that no legal schedule beats, with a certificate that shows it
+    plan_known        the same by a search that remembers states
+    plan_within       always a plan, with a time before which nothing ends
+    plan_early        the same, made better: requests end early by weights
+    plan_rule         a plan in one pass, without a search
+What judges a schedule or a log, whoever made it:
+    check, check_known, check_within    when a schedule ends that a certificate shows to be the best, or no sooner than a time
+    find_breach       the first condition that a schedule breaks
+    audit, audit_phases                 what a log breaks, as a whole or as it comes; `Audit` judges phase by phase
+What drives a channel:
+    choose, choose_whole                which of the requests that wait a batch takes
+    due, ran          the phase that is due, and what stands after it; `Driver` keeps all that stands, for a loop
+    row, output_of    the row address of a page, and the column and bytes of a data output
+What a device is by its parameter page, and kinds of reads of some sectors:
+    timing_of_page, lengths_of_page, kind_by
+What `onfi_sim` writes for a script:
+    text_plan, text_check, text_legal, text_audit
+    library_version   the version of the library
+
     from onfi import Channel, Kind, Lun, Rules, Spans, Timing, Want, check, plan
 
     timing = Timing(read=Spans(140, 600, 25_100, 11_000), program=Spans(10_800, 600, 200_100, 280), erase=Spans(100, 600, 1_500_100, 280))
@@ -8,10 +28,13 @@
     wants = [Want(0, Kind.READ, lun=0, block=0, page=5), Want(1, Kind.READ, lun=1, block=0, page=0)]
     made = plan(channel, luns, wants)
     assert check(channel, luns, wants, made.schedule, made.certificate) == made.finish
+    for start, end, lun, want, kind, is_post in made.phases():
+        print(f"LUN {lun} from {start} to {end} ns: {kind.name.lower()} {want}, {'post' if is_post else 'command'}")
 
 Times are ns of the channel's clock, below 2^62; lengths and waits are below 2^50. What is refused raises the exception that is
-named like the refusal, a class of `Refused`. The library is that of the environment's ONFI_LIBRARY, else one beside this file, as
-a wheel has it, else the system's; where there is none, the first call raises `OSError` and says what was tried.
+named like the refusal, a class of `Refused`; it names the LUN or the want that it is of by its place. The library is that of the
+environment's ONFI_LIBRARY, else one beside this file, as a wheel has it, else lib/libonfi.so of the checkout that this file stands in,
+else the system's; where there is none, the first call raises `OSError` and says what was tried.
 """
 
 from onfi.breach import Breach, Condition, Difference, NamedPhase, Part
@@ -39,9 +62,11 @@ from onfi.calls import (
     text_plan,
     timing_of_page,
 )
+from onfi.driver import Driver
 from onfi.logs import Audit, LogBreach, LogCondition, Logged, audit, audit_phases
 from onfi.model import (
     Answer,
+    BusPhase,
     Channel,
     Choice,
     Device,
@@ -54,6 +79,7 @@ from onfi.model import (
     Phase,
     Plan,
     PlanWithin,
+    Problem,
     Rules,
     Schedule,
     Spans,
@@ -149,6 +175,7 @@ __all__ = [
     "BadToken",
     "BoundLow",
     "Breach",
+    "BusPhase",
     "Channel",
     "Choice",
     "Clock",
@@ -156,6 +183,7 @@ __all__ = [
     "Condition",
     "Device",
     "Difference",
+    "Driver",
     "EndsBefore",
     "Geometry",
     "Group",
@@ -189,6 +217,7 @@ __all__ = [
     "Plan",
     "PlanWithin",
     "PlaneBits",
+    "Problem",
     "REFUSALS",
     "Refused",
     "RowTooWide",

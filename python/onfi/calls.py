@@ -3,14 +3,14 @@
 from __future__ import annotations
 
 import ctypes
-from typing import Callable, List, Optional, Sequence, Tuple, Union
+from typing import Callable, Iterable, List, Optional, Tuple, Union
 
 from onfi.breach import Breach
 from onfi.library import library
-from onfi.model import Answer, Channel, Choice, Device, Geometry, Lengths, Lun, Output, Phase, Plan, PlanWithin, Schedule, Stand, Want
-from onfi.refused import REFUSALS, Illegal, Memory, Refused
+from onfi.model import Answer, Channel, Choice, Device, Geometry, Lengths, Lun, Output, Phase, Plan, PlanWithin, Problem, Schedule, Stand, Want
+from onfi.refused import REFUSALS, BadKind, BadLimit, BadLun, BadMembers, BadOrder, BadPlace, Clock, Illegal, Memory, NoLengths, Refused
 from onfi.structs import WANTS, CBroken, CChannel, CDevice, CGeometry, CLengths, CLun, COutput, CPhase, CPlan, CSchedule, CVerdict, CWant, CWeights, CWithin
-from onfi.structs import number, octets, text
+from onfi.structs import each_of, number, octets, text
 
 DONE, NO_ROOM, MEMORY = 0, 3, 4
 MOST_NODES = 1_048_576
@@ -18,6 +18,10 @@ USUAL_NODES = 65_536
 FIRST_ROOM = 4096
 Octets = Union[bytes, bytearray, memoryview]
 Text = Union[str, Octets]
+# What is asked of a channel with these LUNs and so many of its wants, and answered by a number.
+Ask = Callable[["ctypes.Array[CLun]", int], int]
+# Refusals that are of a LUN or of a want.
+OF_ONE = {it.status for it in (BadKind, BadMembers, BadLun, Clock, BadPlace, BadOrder, NoLengths)}
 
 
 def status_text(status: int) -> str:
@@ -28,9 +32,9 @@ def status_text(status: int) -> str:
     return room.raw[: size.value].decode("ascii")
 
 
-def refusal(status: int, place: int = 0, breach: Optional[Breach] = None) -> Refused:
+def refusal(status: int, place: int = 0, breach: Optional[Breach] = None, lun: Optional[int] = None, want: Optional[int] = None) -> Refused:
     """The exception of a number that a call answers."""
-    return REFUSALS.get(status, Refused)(status_text(status), place, breach)
+    return REFUSALS.get(status, Refused)(status_text(status), place, breach, lun, want)
 
 
 def with_room(call: Callable[..., int]) -> Tuple[int, bytes]:
@@ -44,25 +48,67 @@ def with_room(call: Callable[..., int]) -> Tuple[int, bytes]:
     return status, room.raw[: size.value]
 
 
-class Problem:
-    """What a caller says of a channel, as the library takes it; with lengths of reads of some sectors, or without."""
+class CProblem:
+    """A problem as the library takes it, with places for eight wants at least, so that a call may change it in place."""
 
-    def __init__(self, channel: Channel, luns: Sequence[Lun], wants: Sequence[Want], lengths: Optional[Lengths] = None) -> None:
+    def __init__(self, channel: Channel, luns: Iterable[Lun], wants: Iterable[Want], lengths: Optional[Lengths] = None) -> None:
+        self.problem = Problem(channel, tuple(luns), tuple(wants), lengths)
+        given = self.problem
         self.channel = CChannel.of(channel)
-        self.luns = (CLun * max(len(luns), 1))(*(CLun.of(lun) for lun in luns))
-        self.wants = (CWant * max(len(wants), 1))(*(CWant.of(want) for want in wants))
+        self.luns = (CLun * max(len(given.luns), 1))(*each_of("luns", CLun.of, given.luns))
+        self.wants = (CWant * max(len(given.wants), WANTS))(*each_of("wants", CWant.of, given.wants))
+        self.count = ctypes.c_size_t(len(given.wants))
         self.lengths = None if lengths is None else CLengths.of(lengths)
         told = () if self.lengths is None else (ctypes.byref(self.lengths),)
-        self.stand = (*told, ctypes.byref(self.channel), self.luns, len(luns))
-        self.words = (*self.stand, self.wants, len(wants))
+        self.channel_words = (*told, ctypes.byref(self.channel))
+        self.stand = (*self.channel_words, self.luns, len(given.luns))
+        self.words = (*self.stand, self.wants, self.count)
 
     def call(self, name: str) -> Callable[..., int]:
-        """The call of that name; where lengths are told, the one that takes them."""
+        """The call of that name; where there are lengths, the one that takes them."""
         found: Callable[..., int] = getattr(library(), name if self.lengths is None else f"{name}_by")
         return found
 
+    def refused(self, status: int, place: int = 0, breach: Optional[Breach] = None, ask: Optional[Ask] = None) -> Refused:
+        """The exception of a number that a call of it answers, which names the LUN or the want that it is of."""
+        lun, want = self.faulty(status, ask or self.judged) if status in OF_ONE else (None, None)
+        return refusal(status, place, breach, lun, want)
 
-def plan(channel: Channel, luns: Sequence[Lun], wants: Sequence[Want], limit: int = MOST_NODES) -> Plan:
+    def judged(self, luns: "ctypes.Array[CLun]", wants: int) -> int:
+        """What is answered of the channel with these LUNs and so many wants, and of a schedule without a start."""
+        none, broken = CSchedule(len(luns)), CBroken()
+        count = len(self.problem.luns)
+        return self.call("onfi_breach")(*self.channel_words, luns, count, self.wants, wants, ctypes.byref(none), ctypes.byref(broken))
+
+    def placed_on(self, geometry: CGeometry) -> Ask:
+        """Asks whether the device has the pages of all that runs and waits."""
+
+        def ask(luns: "ctypes.Array[CLun]", wants: int) -> int:
+            running = [(at, want) for at, lun in enumerate(luns) for want in lun.member[: lun.members]]
+            pages = [*running, *((want.lun, want) for want in self.wants[:wants])]
+            rows = (library().onfi_row(ctypes.byref(geometry), lun, it.block, it.page, ctypes.byref(ctypes.c_uint32())) for lun, it in pages)
+            return next(filter(None, rows), DONE)
+
+        return ask
+
+    def faulty(self, status: int, ask: Ask) -> Tuple[Optional[int], Optional[int]]:
+        """The place of the LUN or of the want that this is refused for: without it, and without those after it, it isn't."""
+        luns = type(self.luns)()
+        if ask(luns, 0) == status:
+            return None, None
+        for at, lun in enumerate(self.luns):
+            luns[at] = lun
+            if ask(luns, 0) == status:
+                return at, None
+        return None, next((at for at in range(self.count.value) if ask(luns, at + 1) == status), None)
+
+    def told(self, schedule: CSchedule) -> Stand:
+        """What stands, with that schedule."""
+        luns = tuple(it.told() for it in self.luns[: len(self.problem.luns)])
+        return Stand(self.channel.told(), luns, tuple(it.told() for it in self.wants[: self.count.value]), schedule.told())
+
+
+def plan(channel: Channel, luns: Iterable[Lun], wants: Iterable[Want], limit: int = MOST_NODES) -> Plan:
     """The schedule of the wants that no legal schedule beats, with the certificate that shows it.
 
     Up to eight wants on one to eight LUNs; the place in the list of LUNs is a LUN's number. The search opens at most
@@ -71,10 +117,10 @@ def plan(channel: Channel, luns: Sequence[Lun], wants: Sequence[Want], limit: in
     Raises `BadLimit`; `ZeroSpan`, `LongSpan`; `BadPlaneBits`; `BadMembers`; `BadKind`; `TooMany`; `BadLun`; `Clock`;
     `Over`; `Memory`; the first of these. `ValueError` where a number doesn't fit its place in onfi.h.
     """
-    return planned(library().onfi_plan, Problem(channel, luns, wants), limit)
+    return planned(library().onfi_plan, CProblem(channel, luns, wants), limit)
 
 
-def plan_known(channel: Channel, luns: Sequence[Lun], wants: Sequence[Want], limit: int = MOST_NODES) -> Plan:
+def plan_known(channel: Channel, luns: Iterable[Lun], wants: Iterable[Want], limit: int = MOST_NODES) -> Plan:
     """The same by a search that remembers states, with a certificate for `check_known`.
 
     It answers in practice where `plan` raises `Over`; that isn't promised. The search that finds the plan and the one that
@@ -82,11 +128,11 @@ def plan_known(channel: Channel, luns: Sequence[Lun], wants: Sequence[Want], lim
 
     Raises what `plan` does.
     """
-    return planned(library().onfi_plan_known, Problem(channel, luns, wants), limit)
+    return planned(library().onfi_plan_known, CProblem(channel, luns, wants), limit)
 
 
 def plan_within(
-    channel: Channel, luns: Sequence[Lun], wants: Sequence[Want], limit: int = USUAL_NODES, lengths: Optional[Lengths] = None
+    channel: Channel, luns: Iterable[Lun], wants: Iterable[Want], limit: int = USUAL_NODES, lengths: Optional[Lengths] = None
 ) -> PlanWithin:
     """The same, and always a plan: where a search opened `limit` nodes and isn't over, the best that was found.
 
@@ -98,12 +144,12 @@ def plan_within(
     Raises what `plan` does but `Over`; with `lengths` `LongSpan` also of them, and after `BadLun` `NoLengths`, where a read puts out
     so many sectors that none is stated of them, or where a program or an erase has sectors.
     """
-    made, said = CWithin(), Problem(channel, luns, wants, lengths)
+    made, said = CWithin(), CProblem(channel, luns, wants, lengths)
     certificate = written(said.call("onfi_plan_within"), said, limit, made)
-    return PlanWithin(made.schedule.told(), made.finish, made.below, certificate)
+    return PlanWithin(made.schedule.told(), made.finish, made.below, certificate, said.problem)
 
 
-def plan_rule(channel: Channel, luns: Sequence[Lun], wants: Sequence[Want], lengths: Optional[Lengths] = None) -> PlanWithin:
+def plan_rule(channel: Channel, luns: Iterable[Lun], wants: Iterable[Want], lengths: Optional[Lengths] = None) -> PlanWithin:
     """A plan by a rule, in one pass and without a search.
 
     Again and again each LUN gives its next phase, or a group that may start, its oldest read, else program, else erase, with all
@@ -112,19 +158,19 @@ def plan_rule(channel: Channel, luns: Sequence[Lun], wants: Sequence[Want], leng
 
     `lengths` are as by `plan_within`. Raises what that does but `BadLimit`.
     """
-    made, said = CWithin(), Problem(channel, luns, wants, lengths)
+    made, said = CWithin(), CProblem(channel, luns, wants, lengths)
     certificate = given(said.call("onfi_plan_rule"), said, made)
-    return PlanWithin(made.schedule.told(), made.finish, made.below, certificate)
+    return PlanWithin(made.schedule.told(), made.finish, made.below, certificate, said.problem)
 
 
 def plan_early(
     channel: Channel,
-    luns: Sequence[Lun],
-    wants: Sequence[Want],
-    weights: Sequence[int] = (),
+    luns: Iterable[Lun],
+    wants: Iterable[Want],
+    weights: Iterable[int] = (),
     slack: int = 0,
     limit: int = USUAL_NODES,
-    running: Sequence[Sequence[int]] = (),
+    running: Iterable[Iterable[int]] = (),
     lengths: Optional[Lengths] = None,
 ) -> PlanWithin:
     """The same, made better: requests end early, each by its weight.
@@ -137,55 +183,60 @@ def plan_early(
 
     `lengths` are as by `plan_within`. Raises what that does; `ValueError` where a weight or the slack isn't below 65,536.
     """
-    made, said = CWithin(), Problem(channel, luns, wants, lengths)
+    made, said = CWithin(), CProblem(channel, luns, wants, lengths)
     told = (ctypes.byref(CWeights.of(weights, running)), number(slack, 1 << 16, "a slack"))
     certificate = written(said.call("onfi_plan_early"), said, limit, made, *told)
-    return PlanWithin(made.schedule.told(), made.finish, made.below, certificate)
+    return PlanWithin(made.schedule.told(), made.finish, made.below, certificate, said.problem)
 
 
-def planned(call: Callable[..., int], said: Problem, limit: int) -> Plan:
+def planned(call: Callable[..., int], said: CProblem, limit: int) -> Plan:
     made = CPlan()
     certificate = written(call, said, limit, made)
-    return Plan(made.schedule.told(), made.finish, made.opened, certificate)
+    return Plan(made.schedule.told(), made.finish, made.opened, certificate, said.problem)
 
 
-def written(call: Callable[..., int], said: Problem, limit: int, made: Union[CPlan, CWithin], *words: object) -> bytes:
+def written(call: Callable[..., int], said: CProblem, limit: int, made: Union[CPlan, CWithin], *words: object) -> bytes:
     """The text of the certificate that a call within a limit writes beside its plan."""
-    if not 0 <= limit < 1 << 32:
-        raise refusal(5)
-    return given(call, said, made, limit, *words)
+    return given(call, said, made, limit_of(limit), *words)
 
 
-def given(call: Callable[..., int], said: Problem, made: Union[CPlan, CWithin], *words: object) -> bytes:
+def limit_of(nodes: int) -> int:
+    """A limit, where it has place enough; `BadLimit` else."""
+    if not 0 <= nodes < 1 << 32:
+        raise refusal(BadLimit.status)
+    return nodes
+
+
+def given(call: Callable[..., int], said: CProblem, made: Union[CPlan, CWithin], *words: object) -> bytes:
     """The text of the certificate that a call writes beside its plan."""
     status, certificate = with_room(lambda *room: call(*said.words, *words, ctypes.byref(made), *room))
     if status != DONE:
-        raise refusal(status)
+        raise said.refused(status)
     return certificate
 
 
-def check(channel: Channel, luns: Sequence[Lun], wants: Sequence[Want], schedule: Schedule, certificate: Text) -> int:
+def check(channel: Channel, luns: Iterable[Lun], wants: Iterable[Want], schedule: Schedule, certificate: Text) -> int:
     """When the schedule ends, in ns, where the certificate shows that no legal schedule of the wants ends sooner.
 
     Whoever made the two need not be trusted. Raises what `plan` raises of the channel; `BadSchedule`; `BadHeader`,
     `BadToken`, `TooManyTokens`, `OtherOption`; `Illegal`, whose `breach` is what `find_breach` gives; `Short`, `Trailing`, `Width`,
     `BoundLow`, `YieldNoFit`, `YieldLoop`, `NotEnd`; `Memory`; those of a token have its place.
     """
-    return judged(library().onfi_check, Problem(channel, luns, wants), schedule, certificate)
+    return judged(library().onfi_check, CProblem(channel, luns, wants), schedule, certificate)
 
 
-def check_known(channel: Channel, luns: Sequence[Lun], wants: Sequence[Want], schedule: Schedule, certificate: Text) -> int:
+def check_known(channel: Channel, luns: Iterable[Lun], wants: Iterable[Want], schedule: Schedule, certificate: Text) -> int:
     """The same by a certificate that remembers states.
 
     Raises what `check` does but `TooManyTokens`; of the tokens `UnknownNode`, `OtherLeft`, `Sooner` and `TooManyNodes` too.
     """
-    return judged(library().onfi_check_known, Problem(channel, luns, wants), schedule, certificate)
+    return judged(library().onfi_check_known, CProblem(channel, luns, wants), schedule, certificate)
 
 
 def check_within(
     channel: Channel,
-    luns: Sequence[Lun],
-    wants: Sequence[Want],
+    luns: Iterable[Lun],
+    wants: Iterable[Want],
     schedule: Schedule,
     below: int,
     certificate: Text,
@@ -197,21 +248,21 @@ def check_within(
     what `plan_within` raises of them, and after `Illegal` `EndsBefore`, where the schedule ends before `below`.
     """
     number(below, 1 << 64, "a time")
-    said = Problem(channel, luns, wants, lengths)
+    said = CProblem(channel, luns, wants, lengths)
     return judged(said.call("onfi_check_within"), said, schedule, certificate, below)
 
 
-def judged(call: Callable[..., int], said: Problem, schedule: Schedule, certificate: Text, *below: int) -> int:
+def judged(call: Callable[..., int], said: CProblem, schedule: Schedule, certificate: Text, *below: int) -> int:
     verdict, shown = CVerdict(), text(certificate, "a certificate")
     status = call(*said.words, ctypes.byref(CSchedule.of(schedule)), *below, shown, len(shown), ctypes.byref(verdict))
     if status != DONE:
-        raise refusal(status, verdict.place, breach_of(said, schedule) if status == Illegal.status else None)
+        raise said.refused(status, verdict.place, breach_of(said, schedule) if status == Illegal.status else None)
     finish: int = verdict.finish
     return finish
 
 
 def find_breach(
-    channel: Channel, luns: Sequence[Lun], wants: Sequence[Want], schedule: Schedule, lengths: Optional[Lengths] = None
+    channel: Channel, luns: Iterable[Lun], wants: Iterable[Want], schedule: Schedule, lengths: Optional[Lengths] = None
 ) -> Optional[Breach]:
     """The first condition of a legal schedule that this one breaks, with whose phases or requests, when, and from when on it could; else None.
 
@@ -219,21 +270,21 @@ def find_breach(
     at before it is shown by tests. `lengths` are as by `plan_within`. Raises what `plan` raises of the channel, with `lengths` `plan_within`;
     `BadSchedule`; `Memory`. `ValueError` where a group has not two starts for each member.
     """
-    return breach_of(Problem(channel, luns, wants, lengths), schedule)
+    return breach_of(CProblem(channel, luns, wants, lengths), schedule)
 
 
-def breach_of(said: Problem, schedule: Schedule) -> Optional[Breach]:
+def breach_of(said: CProblem, schedule: Schedule) -> Optional[Breach]:
     broken = CBroken()
     status = said.call("onfi_breach")(*said.words, ctypes.byref(CSchedule.of(schedule)), ctypes.byref(broken))
     if status not in (DONE, Illegal.status):
-        raise refusal(status)
+        raise said.refused(status)
     return broken.told() if status == Illegal.status else None
 
 
 def choose(
     channel: Channel,
-    luns: Sequence[Lun],
-    wants: Sequence[Want],
+    luns: Iterable[Lun],
+    wants: Iterable[Want],
     accepted: int,
     choice: Choice = Choice.BY_LUN,
     batch: int = WANTS,
@@ -250,19 +301,15 @@ def choose(
 
     Raises what `plan` raises of lengths, plane bits, members and kinds; `BadChoice`, `BadBatch`, `BadOrder`; `Memory`.
     """
-    said, chosen, count = Problem(channel, luns, wants, lengths), (ctypes.c_size_t * WANTS)(), ctypes.c_size_t()
     words = (number(accepted, 1 << 64, "a count"), number(choice, 256, "a choice"), number(batch, 256, "a batch"))
-    status = said.call("onfi_choose")(*said.words, *words, ctypes.byref(chosen), ctypes.byref(count))
-    if status != DONE:
-        raise refusal(status)
-    return chosen[: count.value]
+    return chosen_by("onfi_choose", CProblem(channel, luns, wants, lengths), *words)
 
 
 def choose_whole(
     channel: Channel,
-    luns: Sequence[Lun],
-    wants: Sequence[Want],
-    passed: Sequence[int],
+    luns: Iterable[Lun],
+    wants: Iterable[Want],
+    passed: Iterable[int],
     newest: Optional[int],
     batch: int = WANTS,
 ) -> List[int]:
@@ -278,19 +325,28 @@ def choose_whole(
 
     Raises what `choose` raises but `BadChoice`.
     """
-    said, chosen, count = Problem(channel, luns, wants), (ctypes.c_size_t * WANTS)(), ctypes.c_size_t()
-    counts = (ctypes.c_uint16 * len(passed))(*(number(it, 65536, "a count") for it in passed))
+    told = [number(it, 65536, "a count") for it in passed]
     words = (newest is not None, number(newest or 0, 1 << 64, "an id"), number(batch, 256, "a batch"))
-    status = library().onfi_choose_whole(*said.words, counts, len(passed), *words, ctypes.byref(chosen), ctypes.byref(count))
+    return chosen_by("onfi_choose_whole", CProblem(channel, luns, wants), (ctypes.c_uint16 * len(told))(*told), len(told), *words)
+
+
+def chosen_by(name: str, said: CProblem, *words: object) -> List[int]:
+    """The places that a call chooses."""
+    chosen, count, call = (ctypes.c_size_t * WANTS)(), ctypes.c_size_t(), said.call(name)
+
+    def ask(luns: "ctypes.Array[CLun]", wants: int) -> int:
+        return call(*said.channel_words, luns, len(said.problem.luns), said.wants, wants, *words, ctypes.byref(chosen), ctypes.byref(count))
+
+    status = ask(said.luns, said.count.value)
     if status != DONE:
-        raise refusal(status)
+        raise said.refused(status, ask=ask)
     return chosen[: count.value]
 
 
 def due(
     channel: Channel,
-    luns: Sequence[Lun],
-    wants: Sequence[Want],
+    luns: Iterable[Lun],
+    wants: Iterable[Want],
     geometry: Geometry,
     schedule: Schedule,
     lengths: Optional[Lengths] = None,
@@ -302,17 +358,17 @@ def due(
     Raises what `plan` raises of the channel, with `lengths` `plan_within`, but for `Memory`; `BadSchedule`; `Illegal` where the phase of least start may not
     run, or none has a start and something waits or runs; `BadGeometry`, `NothingDue`, `BadPlace`.
     """
-    said, phase = Problem(channel, luns, wants, lengths), CPhase()
-    status = said.call("onfi_due")(*said.words, ctypes.byref(CGeometry.of(geometry)), ctypes.byref(CSchedule.of(schedule)), ctypes.byref(phase))
+    said, phase, device = CProblem(channel, luns, wants, lengths), CPhase(), CGeometry.of(geometry)
+    status = said.call("onfi_due")(*said.words, ctypes.byref(device), ctypes.byref(CSchedule.of(schedule)), ctypes.byref(phase))
     if status != DONE:
-        raise refusal(status)
+        raise said.refused(status, ask=said.placed_on(device) if status == BadPlace.status else None)
     return phase.told()
 
 
 def ran(
     channel: Channel,
-    luns: Sequence[Lun],
-    wants: Sequence[Want],
+    luns: Iterable[Lun],
+    wants: Iterable[Want],
     schedule: Schedule,
     lun: int,
     phase: int,
@@ -329,13 +385,12 @@ def ran(
     `Illegal` as by `due`, `NothingDue`, `NotDue`, `TooSoon`; `Clock` where a phase would start at 2^62 ns or later, or what is
     left could last until then, so that no later call raises it of what this one made.
     """
-    said, left, count = Problem(channel, luns, wants, lengths), CSchedule.of(schedule), ctypes.c_size_t(len(wants))
-    waiting = (CWant * WANTS)(*(CWant.of(want) for want in wants[:WANTS]))
+    said, left = CProblem(channel, luns, wants, lengths), CSchedule.of(schedule)
     words = (number(lun, 256, "a LUN"), number(phase, 256, "a phase"), number(started, 1 << 64, "a time"))
-    status = said.call("onfi_ran")(*said.stand, ctypes.byref(waiting), ctypes.byref(count), ctypes.byref(left), *words)
+    status = said.call("onfi_ran")(*said.stand, said.wants, ctypes.byref(said.count), ctypes.byref(left), *words)
     if status != DONE:
-        raise refusal(status)
-    return Stand(said.channel.told(), tuple(it.told() for it in said.luns[: len(luns)]), tuple(it.told() for it in waiting[: count.value]), left.told())
+        raise said.refused(status)
+    return said.told(left)
 
 
 def output_of(geometry: Geometry, sector_bytes: int, phase: Phase, first: int = 0) -> Output:
@@ -423,7 +478,7 @@ def text_plan(script: Text, limit: int = MOST_NODES, trace: bool = False, rememb
     """
     script = text(script, "a script")
     if not 1 <= limit <= MOST_NODES:
-        raise refusal(5)
+        raise refusal(BadLimit.status)
     if requests:
         return answered(with_room(lambda *room: library().onfi_text_trace(script, len(script), limit, remember, *room)))
     call = library().onfi_text_plan_known if remember else library().onfi_text_plan

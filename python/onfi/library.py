@@ -8,8 +8,8 @@ import os
 import pathlib
 from typing import List, Tuple
 
-from onfi.structs import WANTS, CAudit, CBroken, CChannel, CDevice, CGeometry, CLengths, CLogBroken, CLun, COutput, CPhase, CPlan, CSchedule, CVerdict, CWant, CWeights
-from onfi.structs import CWithin
+from onfi.structs import WANTS, CAudit, CBroken, CChannel, CDevice, CGeometry, CLengths, CLogBroken, CLun, COutput, CPhase, CPlan, CQueue, CSchedule, CVerdict, CWant
+from onfi.structs import CWeights, CWithin
 
 SONAME = "libonfi.so.1"
 BYTES, SIZE = ctypes.c_char_p, ctypes.c_size_t
@@ -39,7 +39,11 @@ CALLS = {
         ctypes.POINTER(SIZE),
     ),
     "onfi_due": (*PROBLEM, ctypes.POINTER(CGeometry), ctypes.POINTER(CSchedule), ctypes.POINTER(CPhase)),
-    "onfi_ran": (*PROBLEM[:3], ctypes.POINTER(CWant * WANTS), ctypes.POINTER(SIZE), ctypes.POINTER(CSchedule), ctypes.c_uint8, ctypes.c_uint8, ctypes.c_uint64),
+    "onfi_ran": (*PROBLEM[:4], ctypes.POINTER(SIZE), ctypes.POINTER(CSchedule), ctypes.c_uint8, ctypes.c_uint8, ctypes.c_uint64),
+    "onfi_queue_begin": (ctypes.POINTER(CQueue),),
+    "onfi_queue_accept": (ctypes.POINTER(CQueue), ctypes.POINTER(CWant)),
+    "onfi_next": (*PROBLEM[:3], ctypes.POINTER(CQueue), ctypes.POINTER(CGeometry), ctypes.c_uint64, ctypes.POINTER(CPhase)),
+    "onfi_queue_ran": (*PROBLEM[:3], ctypes.POINTER(CQueue), ctypes.c_uint64, ctypes.c_uint8, ctypes.c_uint8, ctypes.c_uint64),
     "onfi_audit_begin": (*PROBLEM[:3], ctypes.POINTER(CAudit)),
     "onfi_audit_phase": (ctypes.POINTER(CAudit), ctypes.POINTER(CPhase), ctypes.POINTER(CLogBroken)),
     "onfi_audit_ready": (ctypes.POINTER(CAudit), ctypes.c_uint8, ctypes.c_uint64),
@@ -63,12 +67,16 @@ CALLS.update({f"{name}_by": (LENGTHS, *CALLS[name]) for name in TOLD})
 
 
 def places() -> List[Tuple[str, str]]:
-    """Where the library may be, each with what says so: where ONFI_LIBRARY says, and nowhere else then; else beside this file, then where the system looks."""
+    """Where the library may be, each with what says so: where ONFI_LIBRARY says, and nowhere else then; else beside this file, then in lib
+    of the checkout that the package stands in, where it does, then where the system looks."""
     told = os.environ.get("ONFI_LIBRARY")
     if told:
         return [(told, "as ONFI_LIBRARY says")]
-    beside = pathlib.Path(__file__).with_name("libonfi.so")
-    return [(str(beside), "beside the package"), (SONAME, "where the system looks")]
+    here = pathlib.Path(__file__).resolve().parent
+    found = [(str(here / "libonfi.so"), "beside the package")]
+    if (here.parent.parent / "crates.txt").is_file():
+        found.append((str(here.parent.parent / "lib/libonfi.so"), "in lib of its checkout"))
+    return [*found, (SONAME, "where the system looks")]
 
 
 def opened(tried: List[Tuple[str, str]]) -> ctypes.CDLL:
@@ -80,7 +88,7 @@ def opened(tried: List[Tuple[str, str]]) -> ctypes.CDLL:
         except OSError as wrong:
             missing.append(f"  {path}, {why}: {wrong}")
     told = "" if os.environ.get("ONFI_LIBRARY") else "; ONFI_LIBRARY is not set"
-    what = "`make library` builds lib/libonfi.so: set ONFI_LIBRARY to its path, or install the wheel of `make wheel`"
+    what = "`make library` builds lib/libonfi.so: use the package of that checkout, set ONFI_LIBRARY to its path, or install the wheel of `make wheel`"
     raise OSError("\n".join([f"no library libonfi.so can be loaded{told}. Tried:", *missing, what]))
 
 

@@ -5,13 +5,13 @@ from __future__ import annotations
 import ctypes
 import enum
 from dataclasses import dataclass
-from typing import Any, Callable, Dict, Iterable, Iterator, List, Optional, Sequence, Tuple, Union
+from typing import Any, Callable, Dict, Iterable, Iterator, Optional, Sequence, Tuple, Union
 
-from onfi.calls import DONE, Problem, refusal, text_audit
+from onfi.calls import DONE, CProblem, refusal, text_audit
 from onfi.library import library
 from onfi.model import Channel, Kind, Lengths, Lun, Phase, Spans, Want
 from onfi.refused import REFUSALS, BadKind, BadLun, Illegal, Refused
-from onfi.structs import CAudit, CLogBroken, CPhase, number
+from onfi.structs import WANTS, CAudit, CLogBroken, CPhase, number
 
 
 class LogCondition(enum.Enum):
@@ -44,8 +44,8 @@ class Logged:
     start: int
     """When it started, in ns; below 2^62."""
     lun: int
-    kind: int
-    """A `Kind`."""
+    kind: Kind
+    """With lengths also one of `kind_by`."""
     is_post: bool
     """Whether it is a data output or a status byte; else it is a command."""
     block: int
@@ -83,7 +83,7 @@ def is_post_of(word: str) -> bool:
     return word == "post"
 
 
-# What the words behind a condition tell.
+# What the words after a condition say.
 TOLD: Dict[LogCondition, Tuple[Tuple[str, Callable[[str], Union[int, bool]]], ...]] = {
     LogCondition.NO_LUN: (("lun", number_of),),
     LogCondition.NOTHING_RUNS: (("lun", number_of),),
@@ -97,38 +97,64 @@ TOLD: Dict[LogCondition, Tuple[Tuple[str, Callable[[str], Union[int, bool]]], ..
 }
 
 
-def word_of(kind: int) -> str:
-    if kind not in list(Kind):
+def kind_of(of: Union[Phase, Logged, Want], lengths: Optional[Lengths]) -> Kind:
+    """Its kind; `BadKind` where it has none, or sectors, and there are no lengths."""
+    try:
+        kind = Kind(of.kind)
+    except ValueError:
+        raise refusal(BadKind.status) from None
+    if kind.sectors and lengths is None:
         raise refusal(BadKind.status)
-    return Kind(kind).name.lower()
+    return kind
+
+
+def word_of(kind: Kind) -> str:
+    return kind.operation.name.lower()
 
 
 def row_of_spans(word: str, spans: Spans) -> str:
     return f"spans,{word},{spans.cmd},{spans.gap},{spans.array},{spans.post}"
 
 
-def row_of_lun(number: int, lun: Lun) -> str:
+def rows_of_lun(number: int, lun: Lun, lengths: Optional[Lengths]) -> Iterator[str]:
     if not lun.members:
-        return f"free,{number},{lun.since}"
-    kinds, pages = {want.kind for want in lun.members}, {want.page for want in lun.members}
-    if len(kinds) > 1 or len(pages) > 1 or any(want.lun != number for want in lun.members):
-        raise refusal(BadLun.status)
+        yield f"free,{number},{lun.since}"
+        return
+    kinds, pages = [kind_of(want, lengths) for want in lun.members], {want.page for want in lun.members}
+    words = {word_of(kind) for kind in kinds}
+    if len(words) > 1 or len(pages) > 1 or any(want.lun != number for want in lun.members):
+        raise refusal(BadLun.status, lun=number)
     blocks = ",".join(str(want.block) for want in lun.members)
-    return f"running,{number},{lun.next},{lun.since},{word_of(kinds.pop())},{pages.pop()},{blocks}"
+    yield f"running,{number},{lun.next},{lun.since},{words.pop()},{pages.pop()},{blocks}"
+    if any(kind.sectors for kind in kinds):
+        yield f"runsectors,{number}," + ",".join(str(kind.sectors) for kind in kinds)
 
 
-def script_of(channel: Channel, luns: Sequence[Lun], wants: Sequence[Want]) -> str:
+def rows_of_want(at: int, want: Want, lengths: Optional[Lengths]) -> Iterator[str]:
+    kind = kind_of(want, lengths)
+    yield f"want,{word_of(kind)},{want.lun},{want.block},{want.page}"
+    if kind.sectors and at >= WANTS:
+        raise ValueError(f"wants[{at}]: a log takes sectors of its first {WANTS} wants alone")
+    if kind.sectors:
+        yield f"sectors,{at},{kind.sectors}"
+
+
+def script_of(channel: Channel, luns: Sequence[Lun], wants: Sequence[Want], lengths: Optional[Lengths]) -> str:
     """The rows that say a channel and its requests."""
     timing, rules = channel.timing, channel.rules
     rows = [f"shape,{len(luns)},{rules.plane_bits},{int(rules.read)},{int(rules.write)}", f"bus,{channel.bus_free}", *["strict,1"] * rules.strict]
     rows += [row_of_spans(word, spans) for word, spans in (("read", timing.read), ("program", timing.program), ("erase", timing.erase))]
-    rows += [row_of_lun(number, lun) for number, lun in enumerate(luns)]
-    rows += [f"want,{word_of(want.kind)},{want.lun},{want.block},{want.page}" for want in wants]
+    rows += [f"sectorpost,{count},{post}" for count, post in (lengths.sectors if lengths else {}).items()]
+    rows += [row for number, lun in enumerate(luns) for row in rows_of_lun(number, lun, lengths)]
+    rows += [row for at, want in enumerate(wants) for row in rows_of_want(at, want, lengths)]
     return "\n".join([*rows, "end\n"])
 
 
-def line_of(phase: Union[Phase, Logged]) -> str:
-    return f"{phase.start} {phase.lun} {word_of(phase.kind)} {'post' if phase.is_post else 'cmd'} {phase.block} {phase.page}\n"
+def line_of(phase: Union[Phase, Logged], lengths: Optional[Lengths]) -> str:
+    if not 0 <= phase.start < 1 << 62:
+        raise ValueError(f"the start of a phase is not from 0 to 2^62 - 1: {phase.start}")
+    word = word_of(kind_of(phase, lengths))
+    return f"{phase.start} {phase.lun} {word} {'post' if phase.is_post else 'cmd'} {phase.block} {phase.page}\n"
 
 
 def breach_in(line: str) -> LogBreach:
@@ -145,23 +171,29 @@ def refused_by(line: str) -> Union[Refused, ValueError]:
     return refusal(found[0]) if found else ValueError(f"the channel of a log: {line}")
 
 
-def audit(channel: Channel, luns: Sequence[Lun], phases: Iterable[Union[Phase, Logged]], wants: Sequence[Want] = ()) -> Iterator[LogBreach]:
+def audit(
+    channel: Channel,
+    luns: Iterable[Lun],
+    phases: Iterable[Union[Phase, Logged]],
+    wants: Iterable[Want] = (),
+    lengths: Optional[Lengths] = None,
+) -> Iterator[LogBreach]:
     """Judges a log of any length, which begins with the channel and its LUNs as they are said: gives each breach, in order; none where it is legal.
 
     A phase that only starts too soon counts as run, and any other that breaks a condition as not there, so that the next one can be
     judged. Commands of a LUN that follow each other without a post between are one group. With wants, of any number, each command is of
-    the one that waits first on its block; their ids aren't looked at. Without, each command brings its own request. Reads are of whole
-    pages.
+    the one that waits first on its block; their ids aren't looked at. Without, each command brings its own request.
 
-    It is what `text_audit` says, so that what is told is proved. Raises `BadKind`, `BadLun`, `Clock`, `Memory`; `ValueError` where another
-    number of the channel or a phase is out of its range.
+    With `lengths` reads may put out some sectors: of wants the first eight, as their kinds say, and without wants as a command's does.
+
+    It is what `text_audit` says, with lengths and without wants what `Audit` does, so that it is proved. Raises `BadKind`, `BadLun`,
+    `NoLengths`, `Clock`, `Memory`; `ValueError` where another number of the channel or a phase is out of its range.
     """
-    log: List[str] = []
-    for phase in phases:
-        if not 0 <= phase.start < 1 << 62:
-            raise ValueError(f"the start of a phase is not from 0 to 2^62 - 1: {phase.start}")
-        log.append(line_of(phase))
-    answer = text_audit(script_of(channel, luns, wants) + "".join(log), each=True)
+    luns, wants = tuple(luns), tuple(wants)
+    if lengths is not None and not wants:
+        return iter([*audit_phases(channel, luns, phases, lengths)])
+    log = [line_of(phase, lengths) for phase in phases]
+    answer = text_audit(script_of(channel, luns, wants, lengths) + "".join(log), each=True)
     lines = answer.text.decode("ascii").splitlines()
     if answer.status == 1:
         raise refused_by(lines[0])
@@ -197,13 +229,13 @@ class Audit:
     reads may put out some sectors, as by `plan_within`. Raises what `plan_within` raises of a channel.
     """
 
-    def __init__(self, channel: Channel, luns: Sequence[Lun], lengths: Optional[Lengths] = None) -> None:
-        said = Problem(channel, luns, (), lengths)
+    def __init__(self, channel: Channel, luns: Iterable[Lun], lengths: Optional[Lengths] = None) -> None:
+        said = CProblem(channel, luns, (), lengths)
         self._audit = CAudit()
         self._judged = 0
         status = said.call("onfi_audit_begin")(*said.stand, ctypes.byref(self._audit))
         if status != DONE:
-            raise refusal(status)
+            raise said.refused(status)
 
     @property
     def bus_free(self) -> int:
@@ -232,7 +264,7 @@ class Audit:
 
 
 def audit_phases(
-    channel: Channel, luns: Sequence[Lun], phases: Iterable[Union[Phase, Logged]], lengths: Optional[Lengths] = None
+    channel: Channel, luns: Iterable[Lun], phases: Iterable[Union[Phase, Logged]], lengths: Optional[Lengths] = None
 ) -> Iterator[LogBreach]:
     """The breaches of a log as it comes, as `Audit.judge` tells them: each phase is judged when it is taken from `phases`."""
     log = Audit(channel, luns, lengths)

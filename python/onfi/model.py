@@ -3,26 +3,58 @@
 from __future__ import annotations
 
 import enum
-from dataclasses import dataclass
-from typing import Mapping, Sequence
+from dataclasses import dataclass, field
+from typing import List, Mapping, NamedTuple, Optional, Sequence
+
+# Where a kind has its count of sectors: above the number of its operation.
+SECTORS_AT = 5
 
 
 class Kind(enum.IntEnum):
-    """What a request does to a page or a block."""
+    """What a request does to a page or a block. Those of reads of some sectors, by `kind_by`, are named beside these: `READ_BY_3`."""
 
     READ = 0
     PROGRAM = 1
     ERASE = 2
 
+    @classmethod
+    def _missing_(cls, value: object) -> Optional[Kind]:
+        """The kind with a count of sectors; of equal ones always the same."""
+        if not isinstance(value, int) or not 0 < value < 8 << SECTORS_AT:
+            return None
+        operation, sectors = value & (1 << SECTORS_AT) - 1, value >> SECTORS_AT
+        if operation not in cls._value2member_map_ or not sectors:
+            return None
+        made = int.__new__(cls, value)
+        made._name_, made._value_ = f"{cls(operation).name}_BY_{sectors}", value
+        cls._value2member_map_[value] = made
+        return made
 
-def kind_by(kind: Kind, sectors: int = 0) -> int:
-    """The kind of a read that puts out so many sectors of its page, 1 to 7, for calls that are told `lengths`; with 0 it is the kind.
+    @property
+    def operation(self) -> Kind:
+        """The kind without its sectors."""
+        return Kind(self & (1 << SECTORS_AT) - 1)
+
+    @property
+    def sectors(self) -> int:
+        """How many sectors of its page a read puts out; 0 where it is all of it."""
+        return self >> SECTORS_AT
+
+
+def kind_by(kind: Kind, sectors: int = 0) -> Kind:
+    """The kind of a read that puts out so many sectors of its page, 1 to 7, for calls that take `lengths`; with 0 it is the kind.
 
     `ValueError` where the sectors aren't from 0 to 7.
     """
     if not 0 <= sectors <= 7:
         raise ValueError(f"the sectors of a kind are not from 0 to 7: {sectors}")
-    return kind | sectors << 5
+    return Kind(kind | sectors << SECTORS_AT)
+
+
+def keep_tuples(of: object, *names: str) -> None:
+    """Makes tuples of these members of a frozen dataclass, which may be given as any iterables, so that it can be hashed."""
+    for name in names:
+        object.__setattr__(of, name, tuple(getattr(of, name)))
 
 
 class Choice(enum.IntEnum):
@@ -31,7 +63,7 @@ class Choice(enum.IntEnum):
     IN_ORDER = 0
     """The oldest ones."""
     BY_LUN = 1
-    """By LUN, the one that comes free first at first: its oldest request and those that can join its group."""
+    """By LUN, the one that comes free soonest first: its oldest request and those that can join its group."""
     READS_FIRST = 2
     """By LUN, and of each its oldest read; where it has none its oldest program, else its oldest erase."""
 
@@ -68,6 +100,9 @@ class Lengths:
 
     sectors: Mapping[int, int]
 
+    def __hash__(self) -> int:
+        return hash(frozenset(self.sectors.items()))
+
 
 @dataclass(frozen=True)
 class Rules:
@@ -98,8 +133,8 @@ class Want:
 
     id: int
     """A number of the caller's, below 2^64; each want of a list has a greater one than that before it."""
-    kind: int
-    """A `Kind`; for calls that are told `lengths` also one of `kind_by`."""
+    kind: Kind
+    """For calls that take `lengths` also one of `kind_by`."""
     lun: int
     """From 0."""
     block: int
@@ -119,6 +154,9 @@ class Lun:
     next: int = 0
     """Commands are phases 0 .., posts follow; at least one is over and one is left."""
 
+    def __post_init__(self) -> None:
+        keep_tuples(self, "members")
+
 
 @dataclass(frozen=True)
 class Group:
@@ -128,6 +166,43 @@ class Group:
     """Their ids, planes rising."""
     starts: Sequence[int]
     """In ns: for each member of its command, then for each of its post."""
+
+    def __post_init__(self) -> None:
+        keep_tuples(self, "wants", "starts")
+
+
+class BusPhase(NamedTuple):
+    """A phase of a schedule: from when to when it has the bus, in ns, and whose it is."""
+
+    start: int
+    end: int
+    lun: int
+    want: int
+    """The id of its request; of a running group's the id that the member has in the list of LUNs."""
+    kind: Kind
+    is_post: bool
+    """Whether it is a data output or a status byte; else it is a command with its address and data."""
+
+
+@dataclass(frozen=True)
+class Problem:
+    """What is to be planned."""
+
+    channel: Channel
+    luns: Sequence[Lun]
+    wants: Sequence[Want]
+    lengths: Optional[Lengths] = None
+
+    def __post_init__(self) -> None:
+        keep_tuples(self, "luns", "wants")
+
+    def length_of(self, kind: Kind, is_post: bool) -> int:
+        """How long a phase has the bus, in ns."""
+        if is_post and kind.sectors and self.lengths:
+            return self.lengths.sectors[kind.sectors]
+        timing = self.channel.timing
+        spans = (timing.read, timing.program, timing.erase)[kind.operation]
+        return spans.post if is_post else spans.cmd
 
 
 @dataclass(frozen=True)
@@ -139,9 +214,42 @@ class Schedule:
     groups: Sequence[Group]
     """The new groups; in a plan by rising first start."""
 
+    def __post_init__(self) -> None:
+        object.__setattr__(self, "rest", tuple(tuple(starts) for starts in self.rest))
+        keep_tuples(self, "groups")
+
+    def phases(self, problem: Problem) -> List[BusPhase]:
+        """The phases that the bus has by this schedule of the problem, by rising start.
+
+        `KeyError` where it names a want that isn't there, `IndexError` a LUN; `ValueError` where a kind is none.
+        """
+        wants = {want.id: want for want in problem.wants}
+        running = [(problem.luns[at].members, problem.luns[at].next, starts) for at, starts in enumerate(self.rest) if starts]
+        groups = [(tuple(wants[want] for want in group.wants), 0, group.starts) for group in self.groups]
+        found = []
+        for members, first, starts in [*running, *groups]:
+            for number, start in enumerate(starts, first):
+                want, is_post = members[number % len(members)], number >= len(members)
+                kind = Kind(want.kind)
+                found.append(BusPhase(start, start + problem.length_of(kind, is_post), want.lun, want.id, kind, is_post))
+        return sorted(found)
+
+
+class Planned:
+    """What plans have: a schedule of a problem."""
+
+    schedule: Schedule
+    problem: Optional[Problem]
+
+    def phases(self) -> List[BusPhase]:
+        """Its phases by rising start, each as (start, end, lun, want, kind, is_post); `ValueError` of a plan that no call gave."""
+        if self.problem is None:
+            raise ValueError("a plan that no call gave has no problem: ask its schedule for the phases of one")
+        return self.schedule.phases(self.problem)
+
 
 @dataclass(frozen=True)
-class Plan:
+class Plan(Planned):
     """A schedule that no legal schedule beats, and what shows it."""
 
     schedule: Schedule
@@ -150,10 +258,12 @@ class Plan:
     opened: int
     """How many nodes the search opened, at least 1."""
     certificate: bytes
+    problem: Optional[Problem] = field(default=None, repr=False, compare=False)
+    """What was planned."""
 
 
 @dataclass(frozen=True)
-class PlanWithin:
+class PlanWithin(Planned):
     """A schedule, and what shows how near it is to the best."""
 
     schedule: Schedule
@@ -162,6 +272,8 @@ class PlanWithin:
     below: int
     """Nothing ends before this time, in ns. Where it is the finish, no legal schedule beats this one."""
     certificate: bytes
+    problem: Optional[Problem] = field(default=None, repr=False, compare=False)
+    """What was planned."""
 
 
 @dataclass(frozen=True)
@@ -179,7 +291,7 @@ class Phase:
     block: int
     page: int
     lun: int
-    kind: int
+    kind: Kind
     """That of its request."""
     number: int
     """Its number in its group: commands are 0 .., posts follow."""
@@ -188,7 +300,7 @@ class Phase:
     opener: int
     """The first command byte: 00h, 80h, 60h; of a data output 06h, of a status 78h."""
     closer: int
-    """The last one: 30h, 10h, D0h; with more of its group behind it 32h, 11h, D1h; of a data output E0h; of a status 0: none."""
+    """The last one: 30h, 10h, D0h; with more of its group after it 32h, 11h, D1h; of a data output E0h; of a status 0: none."""
     row_cycles: int
     """How many cycles of the row address, lowest byte first."""
     is_post: bool
@@ -213,6 +325,9 @@ class Stand:
     luns: Sequence[Lun]
     wants: Sequence[Want]
     schedule: Schedule
+
+    def __post_init__(self) -> None:
+        keep_tuples(self, "luns", "wants")
 
 
 @dataclass(frozen=True)

@@ -13,8 +13,11 @@ class Refused(Exception):
     status = 0
     """The number that onfi.h gives it."""
 
-    def __init__(self, text: str, place: int = 0, breach: Optional[Breach] = None) -> None:
-        super().__init__(text if breach is None else f"{text}: {breach}")
+    def __init__(self, text: str, place: int = 0, breach: Optional[Breach] = None, lun: Optional[int] = None, want: Optional[int] = None) -> None:
+        named = [f"luns[{lun}]"] * (lun is not None) + [f"wants[{want}]"] * (want is not None) + [str(breach)] * (breach is not None)
+        super().__init__(": ".join([text, *named]))
+        self.lun, self.want = lun, want
+        """The place, in the list that was given, of the LUN or of the want that it is of; None where it is of none alone."""
         self.breach = breach
         """The condition that a schedule breaks, of `Illegal` by a check; else None."""
         self.place = place

@@ -3,12 +3,14 @@
 from __future__ import annotations
 
 import ctypes
-from typing import Any, Dict, Sequence, Union
+from typing import Any, Callable, Dict, Iterable, Iterator, Sequence, TypeVar, Union
 
 from onfi.breach import Breach, Condition, Difference, NamedPhase, Part, told_by
 from onfi.model import Channel, Device, Geometry, Group, Kind, Lengths, Lun, Output, Phase, Rules, Schedule, Spans, Timing, Want
 
-LUNS, WANTS, MEMBERS, STARTS, SECTORS = 8, 8, 4, 8, 7
+LUNS, WANTS, MEMBERS, STARTS, SECTORS, WAITERS = 8, 8, 4, 8, 7, 64
+Given = TypeVar("Given")
+Made = TypeVar("Made")
 
 
 def number(value: int, below: int, what: str) -> int:
@@ -37,9 +39,13 @@ def text(value: Union[str, bytes, bytearray, memoryview], what: str) -> bytes:
         raise ValueError(f"{what} has half a character, which no text in UTF-8 has") from None
 
 
-def kind_told(kind: int) -> int:
-    """A kind; a `Kind` where it puts out no sectors."""
-    return Kind(kind) if kind in list(Kind) else kind
+def each_of(name: str, make: Callable[[Given], Made], given: Sequence[Given]) -> Iterator[Made]:
+    """What is made of each of these; `ValueError` names the place of one that it can't be made of."""
+    for at, one in enumerate(given):
+        try:
+            yield make(one)
+        except ValueError as wrong:
+            raise ValueError(f"{name}[{at}]: {wrong}") from None
 
 
 class CSpans(ctypes.Structure):
@@ -120,7 +126,7 @@ class CWant(ctypes.Structure):
         )
 
     def told(self) -> Want:
-        return Want(self.id, kind_told(self.kind), self.lun, self.block, self.page)
+        return Want(self.id, Kind(self.kind), self.lun, self.block, self.page)
 
 
 class CLun(ctypes.Structure):
@@ -129,8 +135,8 @@ class CLun(ctypes.Structure):
     @classmethod
     def of(cls, lun: Lun) -> CLun:
         made = cls(number(lun.since, 1 << 64, "a time"), number(len(lun.members), 256, "the count of members"), number(lun.next, 256, "a phase"))
-        for at, want in enumerate(lun.members[:MEMBERS]):
-            made.member[at] = CWant.of(want)
+        for at, want in enumerate(each_of("members", CWant.of, lun.members[:MEMBERS])):
+            made.member[at] = want
         return made
 
     def told(self) -> Lun:
@@ -195,14 +201,12 @@ class CWeights(ctypes.Structure):
     _fields_ = [("want", ctypes.c_uint16 * WANTS), ("running", (ctypes.c_uint16 * MEMBERS) * LUNS)]
 
     @classmethod
-    def of(cls, weights: Sequence[int], running: Sequence[Sequence[int]]) -> CWeights:
+    def of(cls, weights: Iterable[int], running: Iterable[Iterable[int]]) -> CWeights:
         """The weights of wants and of running groups by their places; 1 where none is given."""
-        made = cls()
+        made = cls((1,) * WANTS, ((1,) * MEMBERS,) * LUNS)
         for told, places in zip((weights, *running), (made.want, *made.running)):
-            for at in range(len(places)):
-                places[at] = number(told[at], 1 << 16, "a weight") if at < len(told) else 1
-        for places in made.running[len(running):]:
-            places[:] = [1] * MEMBERS
+            for at, weight in zip(range(len(places)), told):
+                places[at] = number(weight, 1 << 16, "a weight")
         return made
 
 
@@ -222,8 +226,16 @@ class CPhase(ctypes.Structure):
 
     def told(self) -> Phase:
         made: Dict[str, Any] = {name: getattr(self, name) for name, *_ in self._fields_}
-        made["kind"] = kind_told(self.kind)
+        made["kind"] = Kind(self.kind)
         return Phase(**made)
+
+
+class CWaiter(ctypes.Structure):
+    _fields_ = [("want", CWant), ("passed", ctypes.c_uint16)]
+
+
+class CQueue(ctypes.Structure):
+    _fields_ = [("newest", ctypes.c_uint64), ("count", ctypes.c_uint8), ("has_newest", ctypes.c_uint8), ("waiter", CWaiter * WAITERS)]
 
 
 class CStage(ctypes.Structure):

@@ -33,9 +33,10 @@ def page(**fields: int) -> bytes:
     return device.page_of({**NUMBERS, **fields}, {})
 
 
-def run_example(program: str, *texts: bytes) -> "subprocess.CompletedProcess[str]":
+def run_example(program: str, *texts: bytes, count: int = 0) -> "subprocess.CompletedProcess[str]":
+    """What the example prints of these texts; of so many files, of which those without a text aren't there."""
     with tempfile.TemporaryDirectory() as room:
-        files = [Path(room) / name for name in ("page", "sheet", "strobes")[: len(texts)]]
+        files = [Path(room) / name for name in ("page", "sheet", "strobes")[: max(len(texts), count)]]
         for file, text in zip(files, texts):
             file.write_bytes(text)
         return subprocess.run([program, *map(str, files)], capture_output=True, text=True)
@@ -60,6 +61,12 @@ def check_example(test: unittest.TestCase, program: str) -> None:
     test.assertEqual((told.returncode, told.stdout), (1, "refused 83 the value of a row of the sheet is no number, place 2\n"))
     told = run_example(program, PAGE, BESIDE.encode(), b"tDQ,5\n")
     test.assertEqual((told.returncode, told.stdout[:11]), (1, "refused 88 "))
+    faults: Dict[str, List[bytes]] = {"sheet: No such file or directory": [PAGE], "page: No such file or directory": [],
+                                      "sheet: it has 8192 bytes or more": [PAGE, b"x" * 8192]}
+    for fault, given in faults.items():
+        told = run_example(program, *given, count=2)
+        test.assertEqual((told.returncode, told.stdout), (1, ""))
+        test.assertRegex(told.stderr, rf"^device: \S+/{fault}\n$")
 
 
 BESIDE = SHEET.replace("tWC,20", "tWC,25").replace("tRC,20\n", "").replace("tADL,100", "tADL,150")

@@ -4,9 +4,14 @@ from __future__ import annotations
 
 import ast
 import base64
+import contextlib
+import ctypes
 import dataclasses
 import hashlib
+import inspect
+import io
 import os
+import pickle
 import random
 import re
 import shutil
@@ -17,12 +22,13 @@ import textwrap
 import unittest
 import zipfile
 from pathlib import Path
-from typing import Any, Callable, Dict, Iterator, List, Sequence, Tuple, Type
+from typing import Any, Callable, Dict, Iterator, List, Optional, Sequence, Tuple, Type
 
 sys.path.insert(0, str(Path(__file__).resolve().parent))
 import test_libraries  # noqa: E402, F401
 
 import onfi  # noqa: E402
+from onfi_tools.drawn import any_script  # noqa: E402
 
 ROOT = Path(__file__).resolve().parent.parent.parent
 TIMING = onfi.Timing(onfi.Spans(140, 600, 25_100, 11_000), onfi.Spans(10_800, 600, 200_100, 280), onfi.Spans(100, 600, 1_500_100, 280))
@@ -91,10 +97,50 @@ class Plans(unittest.TestCase):
         refused(onfi.BadLun, wants=[dataclasses.replace(WANTS[0], lun=2)])
         refused(onfi.Clock, dataclasses.replace(CHANNEL, bus_free=1 << 62))
 
-    def test_equal_ids_are_told_as_such(self) -> None:
-        equal = [WANTS[0], dataclasses.replace(WANTS[1], id=WANTS[0].id)]
-        self.assertRaisesRegex(onfi.BadLun, "ids that are equal or fall$", onfi.plan, CHANNEL, LUNS, equal)
-        self.assertRaisesRegex(onfi.BadOrder, "^numbers of requests that are equal or fall,", onfi.choose, CHANNEL, LUNS, equal, 99)
+    def test_a_refusal_names_what_it_is_of_by_its_place(self) -> None:
+        def named(name: Type[onfi.Refused], lun: Optional[int], want: Optional[int], call: Callable[[], object]) -> None:
+            with self.assertRaises(name) as told:
+                call()
+            self.assertEqual((told.exception.lun, told.exception.want), (lun, want))
+            places = [f"luns[{lun}]"] * (lun is not None) + [f"wants[{want}]"] * (want is not None)
+            self.assertEqual(str(told.exception).split(": ")[1:], places)
+
+        def with_want(**how: Any) -> List[onfi.Want]:
+            return [*WANTS[:2], dataclasses.replace(WANTS[2], **how)]
+
+        schedule = onfi.plan(CHANNEL, LUNS, WANTS).schedule
+        ways: List[Callable[[onfi.Channel, List[onfi.Lun], List[onfi.Want]], object]] = [
+            onfi.plan, onfi.plan_known, onfi.plan_within, onfi.plan_rule, onfi.plan_early,
+            lambda channel, luns, wants: onfi.check(channel, luns, wants, schedule, b""),
+            lambda channel, luns, wants: onfi.check_within(channel, luns, wants, schedule, 0, b""),
+            lambda channel, luns, wants: onfi.find_breach(channel, luns, wants, schedule),
+            lambda channel, luns, wants: onfi.due(channel, luns, wants, GEOMETRY, schedule),
+            lambda channel, luns, wants: onfi.ran(channel, luns, wants, schedule, 0, 0, 0)]
+        running = [onfi.Lun(), onfi.Lun(0, [onfi.Want(0, onfi.Kind.READ, 0, 0)], 1)]
+        for way in ways:
+            named(onfi.BadLun, None, 2, lambda: way(CHANNEL, LUNS, with_want(lun=2)))
+            named(onfi.BadLun, None, 2, lambda: way(CHANNEL, LUNS, with_want(id=WANTS[1].id)))
+            named(onfi.BadKind, None, 2, lambda: way(CHANNEL, LUNS, with_want(kind=3)))
+            named(onfi.BadLun, 1, None, lambda: way(CHANNEL, running, WANTS))
+            named(onfi.BadMembers, 0, None, lambda: way(CHANNEL, [onfi.Lun(0, WANTS[:1] * 5, 1), onfi.Lun()], WANTS))
+            named(onfi.Clock, 1, None, lambda: way(CHANNEL, [onfi.Lun(), onfi.Lun(1 << 62)], WANTS))
+            named(onfi.Clock, None, None, lambda: way(dataclasses.replace(CHANNEL, bus_free=1 << 62), LUNS, WANTS))
+            named(onfi.BadPlaneBits, None, None, lambda: way(changed(CHANNEL, plane_bits=3), LUNS, with_want(lun=2)))
+        named(onfi.NoLengths, None, 1, lambda: onfi.plan_rule(CHANNEL, LUNS, [WANTS[0], dataclasses.replace(WANTS[1], kind=64)], lengths=onfi.Lengths({})))
+        named(onfi.BadOrder, None, 1, lambda: onfi.choose(CHANNEL, LUNS, [WANTS[0], dataclasses.replace(WANTS[1], id=3)], 99))
+        named(onfi.BadOrder, None, 2, lambda: onfi.choose(CHANNEL, LUNS, WANTS, 9))
+        named(onfi.BadOrder, None, 1, lambda: onfi.choose_whole(CHANNEL, LUNS, [WANTS[1], WANTS[0]], (), None))
+        named(onfi.BadMembers, 0, None, lambda: onfi.Audit(CHANNEL, [onfi.Lun(0, WANTS[:1] * 5, 1)]))
+        narrow = dataclasses.replace(GEOMETRY, blocks_per_lun=1, block_bits=0)
+        named(onfi.BadPlace, None, 0, lambda: onfi.due(CHANNEL, LUNS, WANTS[1:2], narrow, onfi.plan(CHANNEL, LUNS, WANTS[1:2]).schedule))
+        runs = [onfi.Lun(), onfi.Lun(0, [onfi.Want(0, onfi.Kind.READ, 1, 1)], 1)]
+        named(onfi.BadPlace, 1, None, lambda: onfi.due(CHANNEL, runs, (), narrow, onfi.plan(CHANNEL, runs, ()).schedule))
+
+    def test_a_number_that_fits_no_place_is_named_too(self) -> None:
+        wrong = [WANTS[0], dataclasses.replace(WANTS[1], lun=-1)]
+        self.assertRaisesRegex(ValueError, r"^wants\[1\]: the LUN of a want is not from 0 to 255: -1$", onfi.plan, CHANNEL, LUNS, wrong)
+        self.assertRaisesRegex(ValueError, r"^luns\[1\]: a time is not from 0", onfi.plan, CHANNEL, [onfi.Lun(), onfi.Lun(-1)], WANTS)
+        self.assertRaisesRegex(ValueError, r"^luns\[0\]: members\[1\]: the LUN of a want", onfi.plan, CHANNEL, [onfi.Lun(0, wrong, 1)], WANTS)
 
     def test_plan_and_check_that_remember(self) -> None:
         plan = onfi.plan_known(CHANNEL, LUNS, WANTS)
@@ -178,6 +224,156 @@ class Plans(unittest.TestCase):
     def test_numbers_that_fit_no_place(self) -> None:
         for want in (dataclasses.replace(WANTS[0], block=65536), dataclasses.replace(WANTS[0], lun=-1), dataclasses.replace(WANTS[0], id=1 << 64)):
             self.assertRaises(ValueError, onfi.plan, CHANNEL, LUNS, [want])
+
+
+class Given(unittest.TestCase):
+    """What calls take and give."""
+
+    def test_generators_are_taken(self) -> None:
+        def luns() -> Iterator[onfi.Lun]:
+            yield from LUNS
+
+        def wants() -> Iterator[onfi.Want]:
+            yield from WANTS
+
+        made = onfi.plan(CHANNEL, luns(), wants())
+        self.assertEqual(made, onfi.plan(CHANNEL, LUNS, WANTS))
+        self.assertEqual(onfi.check(CHANNEL, luns(), wants(), made.schedule, made.certificate), made.finish)
+        self.assertEqual(onfi.choose(CHANNEL, luns(), wants(), 99), [0, 1, 2])
+        self.assertEqual(onfi.choose_whole(CHANNEL, luns(), wants(), (it for it in (0, 0)), None), [0, 1, 2])
+        weights = onfi.plan_early(CHANNEL, luns(), wants(), (it for it in (1, 9)), running=(iter([it]) for it in range(2)))
+        self.assertEqual(weights, onfi.plan_early(CHANNEL, LUNS, WANTS, (1, 9), running=((0,), (1,))))
+        phase = onfi.due(CHANNEL, luns(), wants(), GEOMETRY, made.schedule)
+        stand = onfi.ran(CHANNEL, luns(), wants(), made.schedule, phase.lun, phase.number, phase.start)
+        self.assertEqual(stand, onfi.ran(CHANNEL, LUNS, WANTS, made.schedule, phase.lun, phase.number, phase.start))
+        self.assertEqual([*onfi.audit(CHANNEL, luns(), (it for it in [phase]), wants())], [])
+        self.assertIsNone(onfi.Audit(CHANNEL, luns()).judge(phase))
+
+    def test_what_is_equal_hashes_alike(self) -> None:
+        members: Any = (it for it in WANTS[:1])
+        self.assertEqual(onfi.Lun(0, [WANTS[0]], 1), onfi.Lun(0, members, 1))
+        made = onfi.plan(CHANNEL, LUNS, WANTS)
+        for one in (WANTS[0], onfi.Lun(0, [WANTS[0]], 1), CHANNEL, made, made.schedule, made.problem, onfi.Lengths({1: 2}), GEOMETRY):
+            self.assertEqual({one: 1}[dataclasses.replace(one)], 1)
+        self.assertNotEqual(*({hash(onfi.Lun(since)) for since in range(2)}))
+
+    def test_kinds_are_kinds(self) -> None:
+        three = onfi.kind_by(onfi.Kind.READ, 3)
+        self.assertIs(three, onfi.Kind(96))
+        self.assertEqual((repr(three), three.operation, three.sectors), ("<Kind.READ_BY_3: 96>", onfi.Kind.READ, 3))
+        self.assertIs(pickle.loads(pickle.dumps(three)), three)
+        self.assertEqual([*onfi.Kind], [onfi.Kind.READ, onfi.Kind.PROGRAM, onfi.Kind.ERASE])
+        for wrong in (3, 35, 256, -1):
+            self.assertRaises(ValueError, onfi.Kind, wrong)
+        schedule = onfi.plan_within(CHANNEL, LUNS, SECTORS, lengths=LENGTHS).schedule
+        phase = onfi.due(CHANNEL, LUNS, SECTORS, GEOMETRY, schedule, lengths=LENGTHS)
+        stand = onfi.ran(CHANNEL, LUNS, SECTORS, schedule, phase.lun, phase.number, phase.start, lengths=LENGTHS)
+        for kind in (phase.kind, *(want.kind for lun in stand.luns for want in [*lun.members, *stand.wants])):
+            self.assertIs(type(kind), onfi.Kind)
+
+    def test_phases_of_a_plan(self) -> None:
+        """As traces have them, also of groups that run already."""
+        draw = random.Random(8)
+        for number in range(60):
+            script = any_script(draw)
+            channel, luns, wants = test_libraries.said(script)
+            luns = [dataclasses.replace(lun, members=[dataclasses.replace(want, id=99) for want in lun.members]) for lun in luns]
+            lines = []
+            for start, end, lun, want, kind, is_post in onfi.plan_known(channel, luns, wants).phases():
+                lines.append(f"{start} {end} {lun} {kind.name.lower()} {'post' if is_post else 'cmd'} {'-' if want == 99 else want}")
+            told = onfi.text_plan(script, remember=True, requests=True).text.decode().splitlines()
+            self.assertEqual(lines, [" ".join([*line.split()[:5], line.split()[-1]]) for line in told], script)
+        self.assertRaises(ValueError, onfi.Plan(onfi.Schedule([], []), 0, 1, b"").phases)
+
+    def test_phases_of_sectors(self) -> None:
+        made = onfi.plan_within(CHANNEL, LUNS, SECTORS, lengths=LENGTHS)
+        posts = {it.want: it.end - it.start for it in made.phases() if it.is_post}
+        self.assertEqual(posts, {3: 3_080, 5: 11_000, 9: 8_360})
+
+    def test_help_begins_with_the_functions(self) -> None:
+        about = str(onfi.__doc__).partition("from onfi import")[0]
+        calls = [name for name in onfi.__all__ if inspect.isfunction(getattr(onfi, name))]
+        self.assertGreater(len(calls), 20)
+        self.assertEqual([name for name in calls if not re.search(rf"\b{name}\b", about)], [])
+        names: Dict[str, Any] = {}
+        code = str(onfi.__doc__)[len(about):].partition("Times are ns")[0]
+        with contextlib.redirect_stdout(io.StringIO()) as told:
+            exec("\n".join(line[4:] if line.startswith("    ") else line for line in code.splitlines()), names)
+        self.assertEqual(told.getvalue().splitlines()[0], "LUN 0 from 0 to 140 ns: read 0, command")
+        self.assertEqual(len(told.getvalue().splitlines()), 4)
+
+
+class Drivers(unittest.TestCase):
+    """All that stands, kept and changed in place."""
+
+    def test_a_loop(self) -> None:
+        """Phase by phase the same as by calls that make all anew, with early arrays, late phases and another plan amid them."""
+        draw, count = random.Random(12), 0
+        for lengths, wants in ((None, WANTS), (LENGTHS, SECTORS)) * 10:
+            driver = onfi.Driver(CHANNEL, LUNS, GEOMETRY, lengths)
+            stand = onfi.Stand(CHANNEL, LUNS, wants, onfi.Schedule([(), ()], []))
+            driver.set_wants(wants)
+            for at in range(6):
+                if at in (0, 3):
+                    made = onfi.plan_within(stand.channel, stand.luns, stand.wants, lengths=lengths)
+                    stand = dataclasses.replace(stand, schedule=made.schedule)
+                    driver.plan_within()
+                    self.assertEqual((driver.finish, driver.below, driver.schedule), (made.finish, made.below, made.schedule))
+                phase = onfi.due(stand.channel, stand.luns, stand.wants, GEOMETRY, stand.schedule, lengths)
+                self.assertEqual(driver.due(), phase)
+                started = phase.start + draw.choice((0, 0, 7))
+                stand = onfi.ran(stand.channel, stand.luns, stand.wants, stand.schedule, phase.lun, phase.number, started, lengths)
+                driver.ran(phase, started)
+                self.assertEqual(driver.stand, stand)
+                count += 1
+            self.assertEqual((driver.due(), driver.wants, driver.lun(1)), (None, (), stand.luns[1]))
+        self.assertEqual(count, 120)
+
+    def test_plans(self) -> None:
+        driver = onfi.Driver(CHANNEL, LUNS, GEOMETRY)
+        driver.set_wants(WANTS)
+        ways: List[Tuple[Callable[[], None], onfi.PlanWithin]] = [
+            (driver.plan_rule, onfi.plan_rule(CHANNEL, LUNS, WANTS)),
+            (lambda: driver.plan_early((1, 9, 9), 20), onfi.plan_early(CHANNEL, LUNS, WANTS, (1, 9, 9), 20)),
+            (driver.plan_within, onfi.plan_within(CHANNEL, LUNS, WANTS))]
+        for plan, made in ways:
+            plan()
+            self.assertEqual((driver.schedule, driver.finish, driver.below), (made.schedule, made.finish, made.below))
+
+    def test_what_is_said_stands(self) -> None:
+        driver = onfi.Driver(CHANNEL, LUNS, GEOMETRY)
+        driver.bus_free = 700
+        driver.set_since(0, 900)
+        driver.set_lun(1, onfi.Lun(5, [dataclasses.replace(WANTS[2], id=8)], 1))
+        driver.set_wants((it for it in WANTS[:1]))
+        luns = (onfi.Lun(900), onfi.Lun(5, [dataclasses.replace(WANTS[2], id=8)], 1))
+        self.assertEqual((driver.bus_free, driver.lun(0), driver.lun(1), driver.wants), (700, *luns, (WANTS[0],)))
+        made = onfi.plan(dataclasses.replace(CHANNEL, bus_free=700), luns, WANTS[:1])
+        driver.schedule = made.schedule
+        phase = driver.due()
+        self.assertEqual(phase, onfi.due(dataclasses.replace(CHANNEL, bus_free=700), luns, WANTS[:1], GEOMETRY, made.schedule))
+
+    def test_refusals_leave_all(self) -> None:
+        driver = onfi.Driver(CHANNEL, LUNS, GEOMETRY)
+        driver.set_wants(WANTS)
+        driver.plan_within()
+        before, phase = driver.stand, driver.due()
+        assert phase is not None
+        self.assertRaises(onfi.NotDue, driver.ran, dataclasses.replace(phase, lun=1 - phase.lun), phase.start)
+        driver.bus_free = 700
+        self.assertRaises(onfi.Illegal, driver.due)
+        driver.bus_free = 0
+        self.assertRaises(onfi.BadLimit, driver.plan_within, 0)
+        self.assertRaises(ValueError, driver.ran, phase, -1)
+        self.assertRaises(IndexError, driver.set_since, 2, 0)
+        self.assertRaises(IndexError, driver.lun, -1)
+        with self.assertRaises(onfi.TooMany):
+            driver.set_wants([dataclasses.replace(WANTS[0], id=number) for number in range(9)])
+        self.assertEqual(driver.stand, before)
+        driver.set_wants([WANTS[0], dataclasses.replace(WANTS[1], lun=2)])
+        with self.assertRaises(onfi.BadLun) as told:
+            driver.plan_rule()
+        self.assertEqual(told.exception.want, 1)
 
 
 class Checks(unittest.TestCase):
@@ -300,7 +496,7 @@ class Sectors(unittest.TestCase):
 class Outputs(unittest.TestCase):
     """The column and the count of bytes of what a phase puts out; a page has 528 bytes, four sectors of 132."""
 
-    def put_out(self, kind: int, is_post: bool = True, sector_bytes: int = 132, first: int = 0, geometry: onfi.Geometry = GEOMETRY) -> Tuple[int, int]:
+    def put_out(self, kind: Any, is_post: bool = True, sector_bytes: int = 132, first: int = 0, geometry: onfi.Geometry = GEOMETRY) -> Tuple[int, int]:
         phase = onfi.Phase(0, 1, 0, 0, 0, 0, 0, kind, 1, 1, 6, 224, 3, is_post)
         told = onfi.output_of(geometry, sector_bytes, phase, first)
         return told.column, told.bytes
@@ -455,7 +651,7 @@ class Logs(unittest.TestCase):
     def test_refusals(self) -> None:
         self.assertRaises(onfi.BadLun, self.broken, wants=[onfi.Want(0, onfi.Kind.READ, 2, 0)])
         self.assertRaises(onfi.BadLun, self.broken, luns=[onfi.Lun(0, [onfi.Want(0, onfi.Kind.READ, 0, 0), onfi.Want(0, onfi.Kind.ERASE, 0, 1)], 1)])
-        self.assertRaises(onfi.BadKind, self.broken, onfi.Logged(0, 0, 35, False, 0, 0))
+        self.assertRaises(onfi.BadKind, self.broken, dataclasses.replace(self.read(0, False), kind=35))
         self.assertRaises(ValueError, self.broken, self.read(1 << 62, False))
         self.assertRaises(ValueError, self.broken, self.read(0, False, 65_536))
         self.assertRaises(ValueError, self.broken, luns=[onfi.Lun(-1)])
@@ -491,6 +687,27 @@ class Logs(unittest.TestCase):
             seen |= {breach.condition for breach in told}
         self.assertEqual(seen, {*onfi.LogCondition} - {onfi.LogCondition.UNKNOWN_REQUEST, onfi.LogCondition.BLOCK_ORDER})
 
+    def test_whole_logs_of_sectors(self) -> None:
+        """With wants their kinds say how many sectors, without them the commands'; lengths say how long the bus is held."""
+        lengths, three = onfi.Lengths({3: 7}), onfi.kind_by(onfi.Kind.READ, 3)
+        phases = [dataclasses.replace(self.read(start, is_post, lun=lun), kind=three) for start, is_post, lun in ((0, False, 0), (110, True, 0), (117, False, 1))]
+        late = [*phases[:2], dataclasses.replace(phases[2], start=116)]
+        wants = [onfi.Want(lun, three, lun, 0) for lun in range(2)]
+        none: List[onfi.Want] = []
+        early = onfi.LogBreach(2, onfi.LogCondition.BUS_NOT_FREE, start=116, earliest=117)
+        for waiting in (none, wants):
+            self.assertEqual([*onfi.audit(self.CHANNEL, self.TWO, phases, waiting, lengths)], [])
+            self.assertEqual([*onfi.audit(self.CHANNEL, self.TWO, late, waiting, lengths)], [early])
+            self.assertRaises(onfi.BadKind, onfi.audit, self.CHANNEL, self.TWO, phases, waiting)
+            self.assertRaises(onfi.NoLengths, onfi.audit, self.CHANNEL, self.TWO, phases, waiting, onfi.Lengths({2: 7}))
+        self.assertEqual([*onfi.audit_phases(self.CHANNEL, self.TWO, late, lengths)], [early])
+        nine = [onfi.Want(number, three, 0, number) for number in range(9)]
+        self.assertRaisesRegex(ValueError, r"^wants\[8\]: ", onfi.audit, self.CHANNEL, self.TWO, phases, nine, lengths)
+        running = [onfi.Lun(50, wants[:1], 1), onfi.Lun()]
+        for waiting in (none, wants[1:]):
+            post = dataclasses.replace(phases[1], start=50)
+            self.assertEqual([*onfi.audit(self.CHANNEL, running, [post, dataclasses.replace(phases[2], start=57)], waiting, lengths)], [])
+
     def test_a_lun_that_was_ready_sooner(self) -> None:
         log = onfi.Audit(self.CHANNEL, self.TWO)
         self.assertIsNone(log.judge(self.read(0, False)))
@@ -513,7 +730,7 @@ class Logs(unittest.TestCase):
         log = onfi.Audit(self.CHANNEL, self.TWO)
         self.assertRaises(onfi.Clock, log.judge, self.read(1 << 62, False))
         self.assertRaises(ValueError, log.judge, self.read(1 << 64, False))
-        self.assertRaises(onfi.BadKind, log.judge, onfi.Logged(0, 0, 3, False, 0, 0))
+        self.assertRaises(onfi.BadKind, log.judge, dataclasses.replace(self.read(0, False), kind=3))
         self.assertRaises(onfi.BadLun, log.judge, onfi.Logged(0, 0, onfi.Kind.ERASE, False, 0, 1))
         self.assertRaises(onfi.TooMany, onfi.Audit, self.CHANNEL, [])
         self.assertRaises(onfi.BadPlaneBits, onfi.audit_phases, changed(self.CHANNEL, plane_bits=3), self.TWO, [])
@@ -556,9 +773,38 @@ class Packages(unittest.TestCase):
             told = self.imported(Path(room), call).stdout
             for word in (f"{room}/onfi/libonfi.so, beside the package", "libonfi.so.1, where the system looks", "ONFI_LIBRARY is not set", "`make library`"):
                 self.assertIn(word, told)
+            self.assertNotIn("in lib of its checkout", told)
             named = self.imported(Path(room), call, ONFI_LIBRARY="/no/such.so").stdout
             self.assertIn("/no/such.so, as ONFI_LIBRARY says", named)
             self.assertNotIn("beside the package", named)
+
+    def test_the_library_of_its_checkout_is_found(self) -> None:
+        call = "import onfi\ntry:\n    print(onfi.text_plan(b'end').status)\nexcept OSError as told:\n    print(told)"
+        with tempfile.TemporaryDirectory() as room:
+            top = Path(room)
+            shutil.copytree(ROOT / "python/onfi", top / "python/onfi")
+            (top / "crates.txt").write_text("")
+            self.assertIn(f"{top.resolve()}/lib/libonfi.so, in lib of its checkout", self.imported(top / "python", call).stdout)
+            (top / "lib").mkdir()
+            shutil.copy(os.environ["ONFI_LIBRARY"], top / "lib/libonfi.so")
+            self.assertEqual(self.imported(top / "python", call).stdout, "1\n")
+
+    def test_each_call_and_struct_of_the_header_is_there(self) -> None:
+        """Those that take lengths after theirs; structs have the sizes that C gives them."""
+        from onfi import library, structs
+
+        header = (ROOT / "include/onfi.h").read_text()
+        self.assertEqual(sorted(library.CALLS), sorted(re.findall(r"^uint32_t (onfi_\w+)\(", header, re.MULTILINE)))
+        names = {"onfi_rest": "CRest", "onfi_planned": "CPlan", "onfi_log_broken": "CLogBroken"}
+        told = {name: names.get(name, "C" + name.partition("_")[2].capitalize()) for name in re.findall(r"^typedef struct (onfi_\w+)", header, re.MULTILINE)}
+        self.assertGreater(len(told), 20)
+        with tempfile.TemporaryDirectory() as room:
+            source = Path(room) / "sizes.c"
+            lines = "".join(f'    printf("%zu\\n", sizeof({name}));\n' for name in told)
+            source.write_text(f"#include <onfi.h>\n#include <stdio.h>\nint main(void)\n{{\n{lines}    return 0;\n}}\n")
+            subprocess.run(["cc", f"-I{ROOT / 'include'}", str(source), "-o", f"{room}/sizes"], check=True)
+            sizes = subprocess.run([f"{room}/sizes"], capture_output=True, text=True, check=True).stdout.split()
+        self.assertEqual([*map(int, sizes)], [ctypes.sizeof(getattr(structs, name)) for name in told.values()])
 
     def test_a_library_that_is_older_than_the_package_is_told(self) -> None:
         with tempfile.TemporaryDirectory() as room:

@@ -112,6 +112,23 @@ class Examples(unittest.TestCase):
             made = subprocess.run(command[1], shell=True, capture_output=True, text=True, cwd=folder).stdout
         self.assertEqual(made.splitlines(), [row[:5] + row[5:].lower() for row in rows])
 
+    def test_what_a_device_printed_becomes_a_file_and_rows(self) -> None:
+        """By the commands of their page, of bytes as its `printf` writes them."""
+        page = (EXAMPLES / "devices/README.md").read_text()
+        form = re.search(r'`(printf\(.*?\))`', page)
+        commands = re.findall(r"^    (.*page\.hex.*)$", page, re.MULTILINE)
+        rows = page_rows(EXAMPLES / "devices/tlc.onfi")
+        taken = bytes.fromhex("".join(row[5:] for row in rows)) * 3
+        assert form
+        source = f"#include <stdio.h>\nint main(void) {{ unsigned char page[768]; fread(page, 1, 768, stdin); for (int at = 0; at < 768; at++) {form[1]}; }}"
+        with tempfile.TemporaryDirectory() as folder:
+            printer = support.compiled(folder, source, "-w")
+            (Path(folder) / "page.hex").write_bytes(subprocess.run([printer], input=taken, capture_output=True).stdout)
+            told = [subprocess.run(it, shell=True, capture_output=True, text=True, cwd=folder) for it in commands]
+            self.assertEqual((Path(folder) / "page.bin").read_bytes(), taken)
+        self.assertEqual([(it.returncode, it.stderr) for it in told], [(0, "")] * 2)
+        self.assertEqual(told[1].stdout.splitlines(), rows * 3)
+
     def test_their_pages_are_short(self) -> None:
         for page in PAGES:
             self.assertLessEqual(len(page.read_text().splitlines()), 24)
