@@ -133,7 +133,7 @@ class Files(unittest.TestCase):
 
 
 PAGE = (support.ROOT / "docs/CALLS.md").read_text()
-LEFT_OUT = ("onfi_samples", "onfi_c")
+LEFT_OUT = ("onfi_samples", "onfi_calls", "onfi_c")
 
 
 def sections() -> Dict[str, str]:

@@ -1,50 +1,60 @@
-//! Logs, as bytes.
-ghost use Rattle.std.specs.Prelude.{◌≡◌, IfSome};
-ghost use Rattle.onfi_script.specs.Auditing.{AnswersAudit};
-ghost use Rattle.onfi_script.specs.AnswerOf.{answer_of};
-ghost use Rattle.onfi_c.specs.Auditing.{GivesAudit};
+//! Audits of logs, for C.
+ghost use Rattle.std.specs.Prelude.{None, Some};
+ghost use Rattle.onfi_calls.specs.AuditBegun as spec;
+ghost use Rattle.onfi_calls.specs.AuditPhase as spec;
 
-use crate::room::give;
-use onfi_script::{Answer, audit};
+use onfi_calls::{PlainAudit, PlainChannel, PlainLengths, PlainLogBroken, PlainLun, PlainPhase};
 use std::alloc::Global;
 
-/// The status of an answer that memory ran out.
-const MEMORY: u32 = 4;
-
-/// The answer to a log; nothing where memory ran out.
-fn audit_text(alloc: Global, all: bool, input: &[u8]) -> Option<Answer>
-    ensures { IfSome result (λ a. AnswersAudit all input.now (answer_of a)) }
+/// Is [`onfi_audit_begin`](onfi_calls::onfi_audit_begin) for C.
+#[unsafe(no_mangle)]
+pub extern "C" fn onfi_audit_begin(
+    alloc: Global,
+    channel: &PlainChannel,
+    luns: &[PlainLun],
+    audit: &mut PlainAudit,
+) -> u32
+    ensures { spec.GivesAudit None channel.now luns.now audit.old audit.new result }
 {
-    match audit(alloc, all, input) {
-        Ok(answer) => Some(answer),
-        Err(_) => None,
-    }
+    onfi_calls::onfi_audit_begin(alloc, channel, luns, audit)
 }
 
-/// The bytes of a script and of a log of any length after it in, out what `onfi_sim audit` prints: that the log is legal, or the first
-/// line of it that breaks a condition, and which; with `all` each such line, as `onfi_sim audit --all` prints them. `bytes` says how
-/// many bytes the answer has.
-///
-/// Answers the status of that program: 0 where the log is legal, 1 where the script is refused, 2 where the log breaks a condition or
-/// has a line that is none, 4 where memory was refused. 3 where the answer has more bytes than there is room for: the room is then as
-/// it was.
+/// Is [`onfi_audit_begin_by`](onfi_calls::onfi_audit_begin_by) for C.
 #[unsafe(no_mangle)]
-pub extern "C" fn onfi_text_audit(
+pub extern "C" fn onfi_audit_begin_by(
     alloc: Global,
-    script: &[u8],
-    all: bool,
-    answer: &mut [u8],
-    bytes: &mut usize,
+    lengths: &PlainLengths,
+    channel: &PlainChannel,
+    luns: &[PlainLun],
+    audit: &mut PlainAudit,
 ) -> u32
-    ensures { GivesAudit all script.now answer.old answer.new bytes.new result }
+    ensures { spec.GivesAudit (Some lengths.now) channel.now luns.now audit.old audit.new result }
 {
-    match audit_text(alloc, all, script) {
-        Some(audited) => give(
-            audited.text.as_slice(),
-            u32::from(audited.status),
-            answer,
-            bytes,
-        ),
-        None => give(b"memory\n", MEMORY, answer, bytes),
-    }
+    onfi_calls::onfi_audit_begin_by(alloc, lengths, channel, luns, audit)
+}
+
+/// Is [`onfi_audit_phase`](onfi_calls::onfi_audit_phase) for C.
+#[unsafe(no_mangle)]
+pub extern "C" fn onfi_audit_phase(
+    alloc: Global,
+    audit: &mut PlainAudit,
+    phase: &PlainPhase,
+    broken: &mut PlainLogBroken,
+) -> u32
+    ensures { spec.GivesPhase audit.old audit.new phase.now broken.old broken.new result }
+{
+    onfi_calls::onfi_audit_phase(alloc, audit, phase, broken)
+}
+
+/// Is [`onfi_audit_ready`](onfi_calls::onfi_audit_ready) for C.
+#[unsafe(no_mangle)]
+pub extern "C" fn onfi_audit_ready(
+    alloc: Global,
+    audit: &mut PlainAudit,
+    lun: u8,
+    moment: u64,
+) -> u32
+    ensures { spec.GivesReady audit.old audit.new lun moment result }
+{
+    onfi_calls::onfi_audit_ready(alloc, audit, lun, moment)
 }

@@ -1,55 +1,16 @@
-//! Checks of schedules that plain structs say.
-ghost use Rattle.std.specs.Prelude.{◌≡◌, None, IfOk, IfErr};
-ghost use Rattle.onfi_schedule.specs.Schedule.{finish};
-ghost use Rattle.onfi_planners.specs.declared.chosen.ChosenPlanner.TheVariants.{Plain};
-ghost use Rattle.onfi_script.specs.Answer.{IsProved};
-ghost use Rattle.onfi_c.specs.Checked.{GivesVerdict, IsFaultTold, IsRefusedBy};
+//! Judgements of plans, for C.
+ghost use Rattle.std.specs.Prelude.{None, Some};
+ghost use Rattle.onfi_planners.specs.declared.chosen.ChosenPlanner.TheVariants.{Plain, Remembering, BestSoFar};
+ghost use Rattle.onfi_script.specs.Answer.{IsProved, IsShown};
+ghost use Rattle.onfi_calls.specs.Checked.{GivesVerdict, IsFaultTold, IsKnownFaultTold, IsWithinFaultTold};
+ghost use Rattle.onfi_calls.specs.Broken as spec;
 
-use crate::channel::PlainChannel;
-use crate::lun::{PlainLun, PlainWant};
-use crate::refusal::Refusal;
-use crate::schedule::{PlainSchedule, PlainVerdict};
-use crate::stand::{Stand, read_stand};
-use onfi_check::check_text;
+use onfi_calls::{
+    PlainBroken, PlainChannel, PlainLengths, PlainLun, PlainSchedule, PlainVerdict, PlainWant,
+};
 use std::alloc::Global;
 
-/// Gives a verdict.
-pub fn give_verdict(judged: Result<u64, Refusal>, verdict: &mut PlainVerdict) -> u32
-    ensures accepted { IfOk judged (λ ends. (verdict.new.finish ≡ ends) × (verdict.new.place ≡ 0) × (result ≡ 0)) }
-    ensures refused { IfErr judged (λ refusal. IsRefusedBy refusal verdict.new result) }
-{
-    match judged {
-        Ok(finish) => {
-            *verdict = PlainVerdict { finish, place: 0 };
-            0
-        }
-        Err(refusal) => {
-            *verdict = PlainVerdict {
-                finish: 0,
-                place: refusal.place,
-            };
-            refusal.status.number()
-        }
-    }
-}
-
-/// When the schedule ends, in ns, where its certificate shows that none ends sooner.
-pub fn judge(alloc: Global, stand: &Stand, certificate: &[u8]) -> Result<u64, Refusal>
-    ensures shown { IfOk result (λ ends. IsProved Plain stand.now.problem.problem stand.now.schedule certificate.now
-        × (finish stand.now.problem.problem stand.now.schedule ≡ ends)) }
-    ensures refused { IfErr result (λ refusal. IsFaultTold stand.now.problem.problem stand.now.schedule certificate.now refusal) }
-{
-    match check_text(alloc, &stand.problem, &stand.schedule, certificate) {
-        Ok(finish) => Ok(finish),
-        Err(fault) => Err(Refusal::of_text(fault)),
-    }
-}
-
-/// Checks by the text of a certificate that no legal schedule of a channel's wants ends sooner than this one, and says
-/// when it ends, in ns. Who made the schedule and the certificate need not be trusted.
-///
-/// Answers 0 where it is so; else the number of a [`Status`], with the place of the token that it speaks of, counted
-/// from 0.
+/// Is [`onfi_check`](onfi_calls::onfi_check) for C.
 #[unsafe(no_mangle)]
 pub extern "C" fn onfi_check(
     alloc: Global,
@@ -62,8 +23,108 @@ pub extern "C" fn onfi_check(
 ) -> u32
     ensures { GivesVerdict (IsProved Plain) IsFaultTold None channel.now luns.now wants.now schedule.now certificate.now verdict.new result }
 {
-    match read_stand(alloc, channel, luns, wants, schedule) {
-        Ok(stand) => give_verdict(judge(alloc, &stand, certificate), verdict),
-        Err(status) => give_verdict(Err(Refusal::whole(status)), verdict),
-    }
+    onfi_calls::onfi_check(alloc, channel, luns, wants, schedule, certificate, verdict)
+}
+
+/// Is [`onfi_check_known`](onfi_calls::onfi_check_known) for C.
+#[unsafe(no_mangle)]
+pub extern "C" fn onfi_check_known(
+    alloc: Global,
+    channel: &PlainChannel,
+    luns: &[PlainLun],
+    wants: &[PlainWant],
+    schedule: &PlainSchedule,
+    certificate: &[u8],
+    verdict: &mut PlainVerdict,
+) -> u32
+    ensures { GivesVerdict (IsProved Remembering) IsKnownFaultTold None channel.now luns.now wants.now schedule.now certificate.now verdict.new result }
+{
+    onfi_calls::onfi_check_known(alloc, channel, luns, wants, schedule, certificate, verdict)
+}
+
+/// Is [`onfi_check_within`](onfi_calls::onfi_check_within) for C.
+#[unsafe(no_mangle)]
+pub extern "C" fn onfi_check_within(
+    alloc: Global,
+    channel: &PlainChannel,
+    luns: &[PlainLun],
+    wants: &[PlainWant],
+    schedule: &PlainSchedule,
+    below: u64,
+    certificate: &[u8],
+    verdict: &mut PlainVerdict,
+) -> u32
+    ensures { GivesVerdict (λ p s. IsShown BestSoFar p s below) (λ p s. IsWithinFaultTold p s below) None channel.now luns.now wants.now schedule.now certificate.now
+        verdict.new result }
+{
+    onfi_calls::onfi_check_within(
+        alloc,
+        channel,
+        luns,
+        wants,
+        schedule,
+        below,
+        certificate,
+        verdict,
+    )
+}
+
+/// Is [`onfi_check_within_by`](onfi_calls::onfi_check_within_by) for C.
+#[unsafe(no_mangle)]
+pub extern "C" fn onfi_check_within_by(
+    alloc: Global,
+    lengths: &PlainLengths,
+    channel: &PlainChannel,
+    luns: &[PlainLun],
+    wants: &[PlainWant],
+    schedule: &PlainSchedule,
+    below: u64,
+    certificate: &[u8],
+    verdict: &mut PlainVerdict,
+) -> u32
+    ensures { GivesVerdict (λ p s. IsShown BestSoFar p s below) (λ p s. IsWithinFaultTold p s below) (Some lengths.now) channel.now luns.now wants.now schedule.now certificate.now
+        verdict.new result }
+{
+    onfi_calls::onfi_check_within_by(
+        alloc,
+        lengths,
+        channel,
+        luns,
+        wants,
+        schedule,
+        below,
+        certificate,
+        verdict,
+    )
+}
+
+/// Is [`onfi_breach`](onfi_calls::onfi_breach) for C.
+#[unsafe(no_mangle)]
+pub extern "C" fn onfi_breach(
+    alloc: Global,
+    channel: &PlainChannel,
+    luns: &[PlainLun],
+    wants: &[PlainWant],
+    schedule: &PlainSchedule,
+    broken: &mut PlainBroken,
+) -> u32
+    ensures { spec.GivesBreach None channel.now luns.now wants.now schedule.now broken.old broken.new result }
+{
+    onfi_calls::onfi_breach(alloc, channel, luns, wants, schedule, broken)
+}
+
+/// Is [`onfi_breach_by`](onfi_calls::onfi_breach_by) for C.
+#[unsafe(no_mangle)]
+pub extern "C" fn onfi_breach_by(
+    alloc: Global,
+    lengths: &PlainLengths,
+    channel: &PlainChannel,
+    luns: &[PlainLun],
+    wants: &[PlainWant],
+    schedule: &PlainSchedule,
+    broken: &mut PlainBroken,
+) -> u32
+    ensures { spec.GivesBreach (Some lengths.now) channel.now luns.now wants.now schedule.now broken.old broken.new result }
+{
+    onfi_calls::onfi_breach_by(alloc, lengths, channel, luns, wants, schedule, broken)
 }

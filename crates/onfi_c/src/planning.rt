@@ -1,133 +1,15 @@
-//! Plans of problems that plain structs say.
-ghost use Rattle.std.specs.Prelude.{◌≡◌, ◌≤◌, None, Some, IfOk, IfErr};
-ghost use Rattle.onfi_cert.specs.Text.{text_of};
-ghost use Rattle.onfi_c.specs.Planned.{GivesAsked, GivesPlan, IsPlan, IsPosed, IsUngiven, IsUnplanned, IsUnposed};
+//! Plans, for C.
+ghost use Rattle.std.specs.Prelude.{None, Some};
+ghost use Rattle.onfi_calls.specs.Planned.{GivesPlan, IsPlan, IsUnplanned, IsRecalled};
+ghost use Rattle.onfi_calls.specs.Within.{IsNoMemory, IsPlanWithin, IsPlanNear};
+ghost use Rattle.onfi_calls.specs.Ruled.{GivesByRule};
 
-use crate::channel::PlainChannel;
-use crate::lengths::PlainLengths;
-use crate::lun::{PlainLun, PlainWant};
-use crate::room::give;
-use crate::said::problem_of;
-use crate::said_lengths::problem_by;
-use crate::schedule::PlainPlan;
-use crate::status::Status;
-use crate::told::Told;
-use crate::written;
-use onfi_cert::write;
-use onfi_plan::Limit;
-use onfi_planner::{Counted, Planned, plan_counted};
-use onfi_problem::Problem;
-use std::alloc::{AllocError, Global};
+use onfi_calls::{
+    PlainChannel, PlainLengths, PlainLun, PlainPlan, PlainWant, PlainWeights, PlainWithin,
+};
+use std::alloc::Global;
 
-/// The problem that a caller says, which a search of so many nodes is to plan.
-pub fn pose_problem(
-    alloc: Global,
-    channel: &PlainChannel,
-    luns: &[PlainLun],
-    wants: &[PlainWant],
-    limit: u32,
-) -> Result<Problem, Status>
-    ensures posed { IfOk result (λ p. IsPosed None channel.now luns.now wants.now limit p.problem) }
-    ensures begun { IfOk result (λ p. p.all ≡ p.problem.wants) }
-    ensures none { IfErr result (IsUnposed None channel.now luns.now wants.now limit) }
-{
-    if Limit::of(limit).is_none() {
-        return Err(Status::BadLimit);
-    }
-    problem_of(alloc, channel, luns, wants)
-}
-
-/// The same with lengths of reads of some sectors.
-pub fn pose_problem_by(
-    alloc: Global,
-    lengths: &PlainLengths,
-    channel: &PlainChannel,
-    luns: &[PlainLun],
-    wants: &[PlainWant],
-    limit: u32,
-) -> Result<Problem, Status>
-    ensures posed { IfOk result (λ p. IsPosed (Some lengths.now) channel.now luns.now wants.now limit p.problem) }
-    ensures begun { IfOk result (λ p. p.all ≡ p.problem.wants) }
-    ensures none { IfErr result (IsUnposed (Some lengths.now) channel.now luns.now wants.now limit) }
-{
-    let Some(_) = Limit::of(limit) else {
-        return Err(Status::BadLimit);
-    };
-    problem_by(alloc, lengths, channel, luns, wants)
-}
-
-/// Gives a text where there is room for any, and says how many bytes it has.
-fn give_asked(text: &[u8], room: &mut [u8], bytes: &mut usize) -> u32
-    ensures { GivesAsked text.now room.old room.new bytes.new result }
-{
-    if room.is_empty() {
-        *bytes = text.len();
-        return 0;
-    }
-    give(text, 0, room, bytes)
-}
-
-/// Gives a plan, and its certificate where there is room for any byte; or says why there is none.
-pub fn give_found<P: Copy>(
-    told: Result<Told<P>, Status>,
-    plan: &mut P,
-    certificate: &mut [u8],
-    bytes: &mut usize,
-) -> u32
-    ensures given { IfOk told (λ t. (plan.new ≡ t.plan) × GivesAsked t.text.items certificate.old certificate.new bytes.new result) }
-    ensures refused { IfErr told (λ status. IsUngiven plan.old plan.new certificate.old certificate.new bytes.new result status) }
-{
-    match told {
-        Ok(told) => {
-            *plan = told.plan;
-            give_asked(told.text.as_slice(), certificate, bytes)
-        }
-        Err(status) => {
-            *bytes = 0;
-            status.number()
-        }
-    }
-}
-
-/// The text of a plan's certificate.
-fn certificate(alloc: Global, strict: bool, planned: &Planned) -> Result<Vec<u8>, AllocError>
-    ensures { IfOk result (λ text. text.items ≡ text_of strict planned.now.cert.items) }
-{
-    match write(alloc, strict, planned.cert.as_slice()) {
-        Ok(text) => Ok(text),
-        Err(_) => Err(AllocError),
-    }
-}
-
-/// A plan, as it is given.
-pub fn find_plan(alloc: Global, problem: &Problem, limit: u32) -> Result<Told<PlainPlan>, Status>
-    ensures plan { IfOk result (λ t. IsPlan problem.now.problem limit t.plan t.text.items) }
-    ensures none { IfErr result (λ status. IsUnplanned problem.now.problem limit status) }
-{
-    let Counted { planned, opened } = match plan_counted(alloc, problem, limit) {
-        Ok(counted) => counted,
-        Err(fault) => return Err(Status::of_plan(fault)),
-    };
-    let Ok(text) = certificate(alloc, problem.rules().strict, &planned) else {
-        return Err(Status::Memory);
-    };
-    let schedule = written::legal_schedule(problem, &planned.schedule);
-    Ok(Told {
-        plan: PlainPlan {
-            schedule,
-            finish: planned.finish,
-            opened,
-        },
-        text,
-    })
-}
-
-/// Plans the wants of a channel: the schedule that no legal schedule beats, when it ends, how many nodes the search
-/// opened, at most `limit` of them, 1 to 1,048,576, and where `certificate` has room for any byte, the text of the
-/// certificate that shows it. `bytes` says how many bytes that text has.
-///
-/// Answers 0, or 3 where the certificate has more bytes than there is room for, which is then as it was; or the number
-/// of a [`Status`], and nothing is given.
+/// Is [`onfi_plan`](onfi_calls::onfi_plan) for C.
 #[unsafe(no_mangle)]
 pub extern "C" fn onfi_plan(
     alloc: Global,
@@ -141,8 +23,171 @@ pub extern "C" fn onfi_plan(
 ) -> u32
     ensures { GivesPlan IsPlan IsUnplanned None channel.now luns.now wants.now limit plan.old plan.new certificate.old certificate.new bytes.new result }
 {
-    match pose_problem(alloc, channel, luns, wants, limit) {
-        Ok(problem) => give_found(find_plan(alloc, &problem, limit), plan, certificate, bytes),
-        Err(status) => give_found(Err(status), plan, certificate, bytes),
-    }
+    onfi_calls::onfi_plan(alloc, channel, luns, wants, limit, plan, certificate, bytes)
+}
+
+/// Is [`onfi_plan_known`](onfi_calls::onfi_plan_known) for C.
+#[unsafe(no_mangle)]
+pub extern "C" fn onfi_plan_known(
+    alloc: Global,
+    channel: &PlainChannel,
+    luns: &[PlainLun],
+    wants: &[PlainWant],
+    limit: u32,
+    plan: &mut PlainPlan,
+    certificate: &mut [u8],
+    bytes: &mut usize,
+) -> u32
+    ensures { GivesPlan IsRecalled IsUnplanned None channel.now luns.now wants.now limit plan.old plan.new certificate.old certificate.new bytes.new result }
+{
+    onfi_calls::onfi_plan_known(alloc, channel, luns, wants, limit, plan, certificate, bytes)
+}
+
+/// Is [`onfi_plan_within`](onfi_calls::onfi_plan_within) for C.
+#[unsafe(no_mangle)]
+pub extern "C" fn onfi_plan_within(
+    alloc: Global,
+    channel: &PlainChannel,
+    luns: &[PlainLun],
+    wants: &[PlainWant],
+    limit: u32,
+    plan: &mut PlainWithin,
+    certificate: &mut [u8],
+    bytes: &mut usize,
+) -> u32
+    ensures { GivesPlan IsPlanWithin IsNoMemory None channel.now luns.now wants.now limit plan.old plan.new certificate.old certificate.new bytes.new result }
+{
+    onfi_calls::onfi_plan_within(alloc, channel, luns, wants, limit, plan, certificate, bytes)
+}
+
+/// Is [`onfi_plan_within_by`](onfi_calls::onfi_plan_within_by) for C.
+#[unsafe(no_mangle)]
+pub extern "C" fn onfi_plan_within_by(
+    alloc: Global,
+    lengths: &PlainLengths,
+    channel: &PlainChannel,
+    luns: &[PlainLun],
+    wants: &[PlainWant],
+    limit: u32,
+    plan: &mut PlainWithin,
+    certificate: &mut [u8],
+    bytes: &mut usize,
+) -> u32
+    ensures { GivesPlan IsPlanWithin IsNoMemory (Some lengths.now) channel.now luns.now wants.now limit plan.old plan.new certificate.old certificate.new bytes.new result }
+{
+    onfi_calls::onfi_plan_within_by(
+        alloc,
+        lengths,
+        channel,
+        luns,
+        wants,
+        limit,
+        plan,
+        certificate,
+        bytes,
+    )
+}
+
+/// Is [`onfi_plan_early`](onfi_calls::onfi_plan_early) for C.
+#[unsafe(no_mangle)]
+pub extern "C" fn onfi_plan_early(
+    alloc: Global,
+    channel: &PlainChannel,
+    luns: &[PlainLun],
+    wants: &[PlainWant],
+    limit: u32,
+    weights: &PlainWeights,
+    slack: u16,
+    plan: &mut PlainWithin,
+    certificate: &mut [u8],
+    bytes: &mut usize,
+) -> u32
+    ensures { GivesPlan (IsPlanNear slack) IsNoMemory None channel.now luns.now wants.now limit plan.old plan.new certificate.old certificate.new bytes.new result }
+{
+    onfi_calls::onfi_plan_early(
+        alloc,
+        channel,
+        luns,
+        wants,
+        limit,
+        weights,
+        slack,
+        plan,
+        certificate,
+        bytes,
+    )
+}
+
+/// Is [`onfi_plan_early_by`](onfi_calls::onfi_plan_early_by) for C.
+#[unsafe(no_mangle)]
+pub extern "C" fn onfi_plan_early_by(
+    alloc: Global,
+    lengths: &PlainLengths,
+    channel: &PlainChannel,
+    luns: &[PlainLun],
+    wants: &[PlainWant],
+    limit: u32,
+    weights: &PlainWeights,
+    slack: u16,
+    plan: &mut PlainWithin,
+    certificate: &mut [u8],
+    bytes: &mut usize,
+) -> u32
+    ensures { GivesPlan (IsPlanNear slack) IsNoMemory (Some lengths.now) channel.now luns.now wants.now limit plan.old plan.new certificate.old certificate.new bytes.new result }
+{
+    onfi_calls::onfi_plan_early_by(
+        alloc,
+        lengths,
+        channel,
+        luns,
+        wants,
+        limit,
+        weights,
+        slack,
+        plan,
+        certificate,
+        bytes,
+    )
+}
+
+/// Is [`onfi_plan_rule`](onfi_calls::onfi_plan_rule) for C.
+#[unsafe(no_mangle)]
+pub extern "C" fn onfi_plan_rule(
+    alloc: Global,
+    channel: &PlainChannel,
+    luns: &[PlainLun],
+    wants: &[PlainWant],
+    plan: &mut PlainWithin,
+    certificate: &mut [u8],
+    bytes: &mut usize,
+) -> u32
+    ensures { GivesByRule None channel.now luns.now wants.now plan.old plan.new certificate.old certificate.new bytes.new result }
+{
+    onfi_calls::onfi_plan_rule(alloc, channel, luns, wants, plan, certificate, bytes)
+}
+
+/// Is [`onfi_plan_rule_by`](onfi_calls::onfi_plan_rule_by) for C.
+#[unsafe(no_mangle)]
+pub extern "C" fn onfi_plan_rule_by(
+    alloc: Global,
+    lengths: &PlainLengths,
+    channel: &PlainChannel,
+    luns: &[PlainLun],
+    wants: &[PlainWant],
+    plan: &mut PlainWithin,
+    certificate: &mut [u8],
+    bytes: &mut usize,
+) -> u32
+    ensures { GivesByRule (Some lengths.now) channel.now luns.now wants.now plan.old plan.new certificate.old certificate.new bytes.new result }
+{
+    onfi_calls::onfi_plan_rule_by(
+        alloc,
+        lengths,
+        channel,
+        luns,
+        wants,
+        plan,
+        certificate,
+        bytes,
+    )
 }

@@ -1,9 +1,0 @@
-use Rattle.std.proofs.Common.{sym, subst}
-use Rattle.onfi_c.specs.AuditSaid.{IsAuditSaid}
-use Rattle.onfi_c.proofs.Audits.{ready_kept}
-use Rattle.onfi_c.proofs.audit_phase.keep_ready.Goals as goal
-
-pub returns : goal.returns
-returns c = λ lun moment readied.
-    subst (λ s. IsAuditSaid s c.args.audit.now) (sym c.keep.ensures.kept)
-    (ready_kept c.args.said.now readied.audit c.args.audit.now lun moment readied.said readied.is c.keep.ensures.fit)

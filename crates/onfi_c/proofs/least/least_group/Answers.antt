@@ -1,6 +1,0 @@
-use Rattle.onfi_c.specs.SaidSchedule.{starts_of}
-use Rattle.onfi_c.proofs.InPlace.{least_more}
-use Rattle.onfi_c.proofs.least.least_group.Goals as goal
-
-pub loop-at-preserved : goal.loop-at-preserved
-loop-at-preserved c = least_more starts_of c.args.groups.now c.loop-at.at _ c.loop-at.least c.choose_sooner_group-least.result c.loop-at-test.true c.loop-at.invariant c.choose_sooner_group-least.ensures

@@ -1,8 +1,0 @@
-use Rattle.std.specs.Prelude.{map}
-use Rattle.onfi_flight.specs.Turns.{LeastSoFar}
-use Rattle.onfi_c.specs.InOrder.{some_start}
-use Rattle.onfi_c.specs.SaidSchedule.{starts_of}
-use Rattle.onfi_c.proofs.least.least_group.Given as goal
-
-abbrev pub invariant-loop-at : goal.invariant-loop-at
-invariant-loop-at l = LeastSoFar (map starts_of l.groups) l.at (some_start l.least)

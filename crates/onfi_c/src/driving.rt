@@ -1,0 +1,186 @@
+//! What a driver asks and says of each phase, for C.
+ghost use Rattle.onfi_calls.specs.SaidGeometry.{GivesRow};
+ghost use Rattle.std.specs.Prelude.{None, Some, take};
+ghost use Rattle.onfi_calls.specs.Due.{GivesDue};
+ghost use Rattle.onfi_calls.specs.Ran.{GivesRan};
+ghost use Rattle.onfi_calls.specs.Chosen as spec;
+ghost use Rattle.onfi_calls.specs.WholeChosen as spec;
+ghost use Rattle.onfi_calls.specs.Output as spec;
+
+use onfi_calls::{
+    PlainChannel, PlainGeometry, PlainLengths, PlainLun, PlainOutput, PlainPhase, PlainSchedule,
+    PlainWant,
+};
+use std::alloc::Global;
+
+/// Is [`onfi_row`](onfi_calls::onfi_row) for C.
+#[unsafe(no_mangle)]
+pub extern "C" fn onfi_row(
+    geometry: &PlainGeometry,
+    lun: u8,
+    block: u16,
+    page: u16,
+    row: &mut u32,
+) -> u32
+    ensures { GivesRow geometry.now (record { lun = lun; block = block; page = page }) row.old row.new result }
+{
+    onfi_calls::onfi_row(geometry, lun, block, page, row)
+}
+
+/// Is [`onfi_choose`](onfi_calls::onfi_choose) for C.
+#[unsafe(no_mangle)]
+pub extern "C" fn onfi_choose(
+    alloc: Global,
+    channel: &PlainChannel,
+    luns: &[PlainLun],
+    wants: &[PlainWant],
+    accepted: u64,
+    choice: u8,
+    batch: u8,
+    chosen: &mut [usize; 8],
+    count: &mut usize,
+) -> u32
+    ensures { spec.GivesChosen None channel.now luns.now wants.now accepted choice batch chosen.old chosen.new count.old count.new result }
+{
+    onfi_calls::onfi_choose(
+        alloc, channel, luns, wants, accepted, choice, batch, chosen, count,
+    )
+}
+
+/// Is [`onfi_choose_by`](onfi_calls::onfi_choose_by) for C.
+#[unsafe(no_mangle)]
+pub extern "C" fn onfi_choose_by(
+    alloc: Global,
+    lengths: &PlainLengths,
+    channel: &PlainChannel,
+    luns: &[PlainLun],
+    wants: &[PlainWant],
+    accepted: u64,
+    choice: u8,
+    batch: u8,
+    chosen: &mut [usize; 8],
+    count: &mut usize,
+) -> u32
+    ensures { spec.GivesChosen (Some lengths.now) channel.now luns.now wants.now accepted choice batch chosen.old chosen.new count.old count.new result }
+{
+    onfi_calls::onfi_choose_by(
+        alloc, lengths, channel, luns, wants, accepted, choice, batch, chosen, count,
+    )
+}
+
+/// Is [`onfi_choose_whole`](onfi_calls::onfi_choose_whole) for C.
+#[unsafe(no_mangle)]
+pub extern "C" fn onfi_choose_whole(
+    alloc: Global,
+    channel: &PlainChannel,
+    luns: &[PlainLun],
+    wants: &[PlainWant],
+    passed: &[u16],
+    has_newest: bool,
+    newest: u64,
+    batch: u8,
+    chosen: &mut [usize; 8],
+    count: &mut usize,
+) -> u32
+    ensures { spec.GivesWhole channel.now luns.now wants.now passed.now (spec.newest_said has_newest newest) batch chosen.old chosen.new count.old count.new result }
+{
+    onfi_calls::onfi_choose_whole(
+        alloc, channel, luns, wants, passed, has_newest, newest, batch, chosen, count,
+    )
+}
+
+/// Is [`onfi_due`](onfi_calls::onfi_due) for C.
+#[unsafe(no_mangle)]
+pub extern "C" fn onfi_due(
+    alloc: Global,
+    channel: &PlainChannel,
+    luns: &[PlainLun],
+    wants: &[PlainWant],
+    geometry: &PlainGeometry,
+    schedule: &PlainSchedule,
+    phase: &mut PlainPhase,
+) -> u32
+    ensures { GivesDue None channel.now luns.now wants.now geometry.now schedule.now phase.old phase.new result }
+{
+    onfi_calls::onfi_due(alloc, channel, luns, wants, geometry, schedule, phase)
+}
+
+/// Is [`onfi_due_by`](onfi_calls::onfi_due_by) for C.
+#[unsafe(no_mangle)]
+pub extern "C" fn onfi_due_by(
+    alloc: Global,
+    lengths: &PlainLengths,
+    channel: &PlainChannel,
+    luns: &[PlainLun],
+    wants: &[PlainWant],
+    geometry: &PlainGeometry,
+    schedule: &PlainSchedule,
+    phase: &mut PlainPhase,
+) -> u32
+    ensures { GivesDue (Some lengths.now) channel.now luns.now wants.now geometry.now schedule.now phase.old phase.new result }
+{
+    onfi_calls::onfi_due_by(
+        alloc, lengths, channel, luns, wants, geometry, schedule, phase,
+    )
+}
+
+/// Is [`onfi_ran`](onfi_calls::onfi_ran) for C.
+#[unsafe(no_mangle)]
+pub extern "C" fn onfi_ran(
+    alloc: Global,
+    channel: &mut PlainChannel,
+    luns: &mut [PlainLun],
+    wants: &mut [PlainWant; 8],
+    count: &mut usize,
+    schedule: &mut PlainSchedule,
+    lun: u8,
+    number: u8,
+    started: u64,
+) -> u32
+    ensures { GivesRan
+        (record { lengths = None; channel = channel.old; luns = luns.old; wants = take count.old wants.old; schedule = schedule.old })
+        (record { lengths = None; channel = channel.new; luns = luns.new; wants = take count.new wants.new; schedule = schedule.new })
+        wants.old wants.new count.old count.new lun number started result }
+{
+    onfi_calls::onfi_ran(
+        alloc, channel, luns, wants, count, schedule, lun, number, started,
+    )
+}
+
+/// Is [`onfi_ran_by`](onfi_calls::onfi_ran_by) for C.
+#[unsafe(no_mangle)]
+pub extern "C" fn onfi_ran_by(
+    alloc: Global,
+    lengths: &PlainLengths,
+    channel: &mut PlainChannel,
+    luns: &mut [PlainLun],
+    wants: &mut [PlainWant; 8],
+    count: &mut usize,
+    schedule: &mut PlainSchedule,
+    lun: u8,
+    number: u8,
+    started: u64,
+) -> u32
+    ensures { GivesRan
+        (record { lengths = Some lengths.now; channel = channel.old; luns = luns.old; wants = take count.old wants.old; schedule = schedule.old })
+        (record { lengths = Some lengths.now; channel = channel.new; luns = luns.new; wants = take count.new wants.new; schedule = schedule.new })
+        wants.old wants.new count.old count.new lun number started result }
+{
+    onfi_calls::onfi_ran_by(
+        alloc, lengths, channel, luns, wants, count, schedule, lun, number, started,
+    )
+}
+
+/// Is [`onfi_output_of`](onfi_calls::onfi_output_of) for C.
+#[unsafe(no_mangle)]
+pub extern "C" fn onfi_output_of(
+    geometry: &PlainGeometry,
+    sector_bytes: u16,
+    phase: &PlainPhase,
+    first: u8,
+    output: &mut PlainOutput,
+) -> u32
+    ensures { spec.GivesOutput geometry.now sector_bytes phase.now first output.old output.new result }
+{
+    onfi_calls::onfi_output_of(geometry, sector_bytes, phase, first, output)
+}

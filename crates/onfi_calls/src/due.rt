@@ -1,0 +1,277 @@
+//! The phase that is due.
+ghost use Rattle.std.specs.Prelude.{◌≡◌, ◌*◌, ◌<◌, ◌≤◌, ◌^◌, false, length, Option, None, Some, IfOk, IfErr, IfNone, IfSome};
+ghost use Rattle.std.specs.List.{list_any};
+ghost use Rattle.onfi_calls.specs.declared.lengths.PlainLengths.{PlainLengths as ALengths};
+ghost use Rattle.onfi_calls.specs.Due.{GivesDue, IsDueSaid, IsNoneDue, IsOffDevice, IsOnDevice, IsOutside, IsOverTold, IsWritten, closer_of as spec_closer_of, number_of_kind, opener_of as spec_opener_of};
+ghost use Rattle.onfi_calls.specs.Refused.{IsMeasured};
+ghost use Rattle.onfi_calls.specs.Said.{AreRules, has_bad_count};
+
+use crate::channel::PlainChannel;
+use crate::device::PlainGeometry;
+use crate::due_plain::due_in_order;
+use crate::flight::{fill, timing_of};
+use crate::geometry::geometry_of;
+use crate::lengths::PlainLengths;
+use crate::lun::{PlainLun, PlainWant};
+use crate::phase::PlainPhase;
+use crate::row::row_in;
+use crate::said::rules;
+use crate::said_lengths::timing_in_flight;
+use crate::schedule::PlainSchedule;
+use crate::status::Status;
+use onfi_addr::{Geometry, Place};
+use onfi_flight::{Due, Flight, Next};
+use onfi_group::{Rules, phase_length};
+use onfi_timing::{Kind, Operation, Timing};
+use std::alloc::Global;
+
+/// The number of a kind: of its operation, and above it how many sectors a read puts out.
+pub fn kind_number(kind: Kind) -> u8
+    ensures { result ≡ number_of_kind kind }
+{
+    match kind {
+        Kind::Read => 0,
+        Kind::Program => 1,
+        Kind::Erase => 2,
+        Kind::ReadSectors { count, .. } => count % 8 * 32,
+    }
+}
+
+/// The first command byte (ONFI 4.2, command definition).
+fn opener_of(operation: Operation, is_post: bool) -> u8
+    ensures { result ≡ spec_opener_of operation is_post }
+{
+    match (is_post, operation) {
+        (false, Operation::Read) => 0x00,
+        (false, Operation::Program) => 0x80,
+        (false, Operation::Erase) => 0x60,
+        (true, Operation::Read) => 0x06,
+        (true, _) => 0x78,
+    }
+}
+
+/// The last command byte, 0 where there is none.
+fn closer_of(operation: Operation, is_post: bool, is_last: bool) -> u8
+    ensures { result ≡ spec_closer_of operation is_post is_last }
+{
+    match (is_post, operation) {
+        (false, Operation::Read) => if is_last { 0x30 } else { 0x32 },
+        (false, Operation::Program) => if is_last { 0x10 } else { 0x11 },
+        (false, Operation::Erase) => if is_last { 0xD0 } else { 0xD1 },
+        (true, Operation::Read) => 0xE0,
+        (true, _) => 0x00,
+    }
+}
+
+/// The phase that is due, as a plain struct; none where the device doesn't have its page.
+fn phase_of(timing: &Timing, geometry: &Geometry, due: &Due) -> Option<PlainPhase>
+    requires within { due.now.phase < 2 * length due.now.group }
+    requires time { due.now.start < 2 ^ 63 }
+    ensures some { IfSome result (λ phase. IsWritten timing.now geometry.now due.now.group due.now.start due.now.phase phase) }
+    ensures none { IfNone result (IsOutside geometry.now due.now.group due.now.phase) }
+{
+    let member = due.member();
+    let place = Place {
+        lun: member.lun,
+        block: member.block,
+        page: member.page,
+    };
+    if !geometry.is_in_range(&place) {
+        return None;
+    }
+    let (members, number) = (due.group.len(), usize::from(due.phase));
+    let is_post = members <= number;
+    let operation = member.kind.operation();
+    Some(PlainPhase {
+        start: due.start,
+        end: due.start + phase_length(timing, due.group.members(), number),
+        want: member.id,
+        row: row_in(geometry, &place),
+        block: member.block,
+        page: member.page,
+        lun: member.lun,
+        kind: kind_number(member.kind),
+        number: due.phase,
+        members: members as u8,
+        opener: opener_of(operation, is_post),
+        closer: closer_of(operation, is_post, number + 1 == members),
+        row_cycles: geometry.row_address_cycles,
+        is_post,
+    })
+}
+
+/// The phase that is due, on the device that is said.
+pub fn phase_on(timing: &Timing, geometry: &PlainGeometry, due: &Due) -> Result<PlainPhase, Status>
+    requires within { due.now.phase < 2 * length due.now.group }
+    requires time { due.now.start < 2 ^ 63 }
+    ensures phase { IfOk result (λ phase. IsOnDevice timing.now geometry.now due.now phase) }
+    ensures none { IfErr result (λ status. IsOffDevice geometry.now due.now status) }
+{
+    let Some(geometry) = geometry_of(geometry) else {
+        return Err(Status::BadGeometry);
+    };
+    match phase_of(timing, &geometry, due) {
+        Some(phase) => Ok(phase),
+        None => Err(Status::BadPlace),
+    }
+}
+
+/// What is answered where nothing is left to do.
+pub fn over_status(geometry: &PlainGeometry) -> Status
+    ensures { IsOverTold geometry.now result }
+{
+    match geometry_of(geometry) {
+        Some(_) => Status::NothingDue,
+        None => Status::BadGeometry,
+    }
+}
+
+/// The phase that is due of what is said, with these lengths of all that is put out, or why there is none: a flight is made of it.
+// A flight has some thousand bytes, which a caller whose phase is in order need not clear.
+#[inline(never)]
+fn due_in_flight(
+    alloc: Global,
+    timing: &Timing,
+    rules: Rules,
+    channel: &PlainChannel,
+    luns: &[PlainLun],
+    wants: &[PlainWant],
+    geometry: &PlainGeometry,
+    schedule: &PlainSchedule,
+) -> Result<PlainPhase, Status>
+    requires bits { channel.now.rules.plane_bits ≤ 2 }
+    requires counts { list_any has_bad_count luns.now ≡ false }
+    requires few { (length luns.now ≤ 8) × (length wants.now ≤ 8) }
+    requires rules { AreRules channel.now.rules rules }
+    ensures due { (by : Option ALengths) → IsMeasured by channel.now luns.now wants.now timing.now
+        → IfOk result (IsDueSaid by channel.now luns.now wants.now geometry.now schedule.now) }
+    ensures none { (by : Option ALengths) → IsMeasured by channel.now luns.now wants.now timing.now
+        → IfErr result (IsNoneDue by channel.now luns.now wants.now geometry.now schedule.now) }
+{
+    let mut flight = Flight::idle(alloc, *timing, rules, channel.bus_free, luns.len() as u8);
+    match fill(alloc, &mut flight, channel, luns, wants, schedule) {
+        Ok(()) => {}
+        Err(status) => return Err(status),
+    }
+    match flight.due() {
+        Next::Due(due) => phase_on(&flight.timing(), geometry, &due),
+        Next::Done => Err(over_status(geometry)),
+        Next::Illegal => Err(Status::Illegal),
+    }
+}
+
+/// The same, seen where it is said if it is in order.
+fn due_of(
+    alloc: Global,
+    timing: &Timing,
+    channel: &PlainChannel,
+    luns: &[PlainLun],
+    wants: &[PlainWant],
+    geometry: &PlainGeometry,
+    schedule: &PlainSchedule,
+) -> Result<PlainPhase, Status>
+    requires bits { channel.now.rules.plane_bits ≤ 2 }
+    requires counts { list_any has_bad_count luns.now ≡ false }
+    requires few { (length luns.now ≤ 8) × (length wants.now ≤ 8) }
+    ensures due { (by : Option ALengths) → IsMeasured by channel.now luns.now wants.now timing.now
+        → IfOk result (IsDueSaid by channel.now luns.now wants.now geometry.now schedule.now) }
+    ensures none { (by : Option ALengths) → IsMeasured by channel.now luns.now wants.now timing.now
+        → IfErr result (IsNoneDue by channel.now luns.now wants.now geometry.now schedule.now) }
+{
+    let rules = rules(&channel.rules);
+    if let Some(due) = due_in_order(alloc, &rules, channel, luns, wants, schedule) {
+        return phase_on(timing, geometry, &due);
+    }
+    due_in_flight(
+        alloc, timing, rules, channel, luns, wants, geometry, schedule,
+    )
+}
+
+/// The same of a channel whose lengths are all that is said of them.
+fn find_due(
+    alloc: Global,
+    channel: &PlainChannel,
+    luns: &[PlainLun],
+    wants: &[PlainWant],
+    geometry: &PlainGeometry,
+    schedule: &PlainSchedule,
+) -> Result<PlainPhase, Status>
+    ensures due { IfOk result (IsDueSaid None channel.now luns.now wants.now geometry.now schedule.now) }
+    ensures none { IfErr result (IsNoneDue None channel.now luns.now wants.now geometry.now schedule.now) }
+{
+    match timing_of(channel, luns, wants) {
+        Ok(timing) => due_of(alloc, &timing, channel, luns, wants, geometry, schedule),
+        Err(status) => Err(status),
+    }
+}
+
+/// The same with lengths of reads of some sectors.
+fn due_by(
+    alloc: Global,
+    lengths: &PlainLengths,
+    channel: &PlainChannel,
+    luns: &[PlainLun],
+    wants: &[PlainWant],
+    geometry: &PlainGeometry,
+    schedule: &PlainSchedule,
+) -> Result<PlainPhase, Status>
+    ensures due { IfOk result (IsDueSaid (Some lengths.now) channel.now luns.now wants.now geometry.now schedule.now) }
+    ensures none { IfErr result (IsNoneDue (Some lengths.now) channel.now luns.now wants.now geometry.now schedule.now) }
+{
+    match timing_in_flight(alloc, lengths, channel, luns, wants) {
+        Ok(timing) => due_of(alloc, &timing, channel, luns, wants, geometry, schedule),
+        Err(status) => Err(status),
+    }
+}
+
+/// The phase that is due of a schedule, what is left of a plan: the undone one of least start, with the bytes and the
+/// address that a driver gives out for it. That it may run is looked at, and nothing else of the schedule: of one that isn't
+/// legal a phase may be given. This asks for no memory.
+///
+/// Answers 0; or the first of the numbers that [`onfi_plan`](crate::planning::onfi_plan) answers for the channel, but for
+/// `Memory`, and those of `BadSchedule`, of `Illegal` where the phase of least start may not run, or what waits or runs has no
+/// start, and of `BadGeometry`, `NothingDue` and `BadPlace`; and the phase is as it was.
+pub fn onfi_due(
+    alloc: Global,
+    channel: &PlainChannel,
+    luns: &[PlainLun],
+    wants: &[PlainWant],
+    geometry: &PlainGeometry,
+    schedule: &PlainSchedule,
+    phase: &mut PlainPhase,
+) -> u32
+    ensures { GivesDue None channel.now luns.now wants.now geometry.now schedule.now phase.old phase.new result }
+{
+    match find_due(alloc, channel, luns, wants, geometry, schedule) {
+        Ok(due) => {
+            *phase = due;
+            0
+        }
+        Err(status) => status.number(),
+    }
+}
+
+/// Gives the phase that is due as [`onfi_due`] does, where reads may put out some sectors: their posts are those of `lengths`.
+///
+/// Answers what `onfi_due` does, `LongSpan` also of these posts, after those of a channel's lengths, and after `BadLun` that of
+/// `NoLengths`; and the phase is as it was.
+pub fn onfi_due_by(
+    alloc: Global,
+    lengths: &PlainLengths,
+    channel: &PlainChannel,
+    luns: &[PlainLun],
+    wants: &[PlainWant],
+    geometry: &PlainGeometry,
+    schedule: &PlainSchedule,
+    phase: &mut PlainPhase,
+) -> u32
+    ensures { GivesDue (Some lengths.now) channel.now luns.now wants.now geometry.now schedule.now phase.old phase.new result }
+{
+    match due_by(alloc, lengths, channel, luns, wants, geometry, schedule) {
+        Ok(due) => {
+            *phase = due;
+            0
+        }
+        Err(status) => status.number(),
+    }
+}
