@@ -1,4 +1,5 @@
-# make plan             proves and builds bin/onfi_sim, and plans one read with it
+# make plan             proves and builds bin/onfi_sim, and plans one read with it; KEEP=yes also keeps each proof in crates/*/out, 12 GB,
+#                       so that after a change rt check proves what changed; it takes a third more
 # make try              builds bin/onfi_sim-unproved in two minutes, and runs it: SCRIPT=FILE is its input, WORDS=".." its command
 #                       line; else it plans the same
 # make try-library      builds lib/unproved/libonfi.a and libonfi.so in two minutes, which those of make library replace without a change
@@ -28,13 +29,6 @@ sources_of = $(shell find $(wildcard crates/$(1)/src crates/$(1)/specs crates/$(
 LIBRARIES := $(sort $(foreach crate,$(call below,onfi_c),$(call below,$(crate)) $(crate)))
 PROGRAM := $(sort $(LIBRARIES) $(foreach crate,$(call below,onfi_program),$(foreach lower,$(call below,$(crate)) $(crate),$(call below,$(lower)) $(lower))))
 
-# The crates are a chain but for one. So some are proved ahead, beside the crates named here, from their sources.
-ahead_onfi_addr := onfi_param
-ahead_onfi_request := onfi_timing
-ahead_onfi_script := onfi_group onfi_problem onfi_schedule onfi_flight onfi_audit onfi_log onfi_bound onfi_cert onfi_check onfi_demand onfi_known_check onfi_planner onfi_plan onfi_steady onfi_known_plan onfi_gap
-# Of onfi_script the modules that only read and write text.
-only_onfi_script := script row device_row problem_row rows row_name field forms text fault seen transfer members plan_line plan_text
-
 # What is built is for x86-64, or for the processor that TARGET names, and stands in folders of its name then.
 ifneq ($(filter library wheel install install-library install-program,$(MAKECMDGOALS)),)
 $(if $(filter-out aarch64,$(TARGET)),$(error nothing is proved and built for TARGET=$(TARGET): it is aarch64, or left out for x86-64))
@@ -56,25 +50,15 @@ plan:
 	@$(if $(wildcard bin/onfi_sim),,$(kit))$(MAKE) --no-print-directory -j3 TARGET= bin/onfi_sim
 	bin/onfi_sim plan < examples/one-read.onfi
 
-# A library is proved once those that it stands on are; onfi_cert, on which few stand, later and by one process beside others.
-after_onfi_cert := onfi_request
-beside_onfi_cert := yes
+# A library is proved once those that it stands on are. KEEP=yes keeps its proofs too, for who changes a crate.
+KEEP ?=
 define library
-crates/$(1)/out/proved: $(call proved,$(call below,$(1))) $(call sources_of,$(1)) | $(if $(ahead_$(1)),crates/$(1)/out/ahead) $(call proved,$(after_$(1)))
+crates/$(1)/out/proved: $(call proved,$(call below,$(1))) $(call sources_of,$(1))
 	@$$(kit)echo "proving $(1)"
-	@$(if $(beside_$(1)),nice) tools/prove library $(1) --source $(ahead_$(1)) --jobs $(if $(beside_$(1)),1,$(JOBS))
+	@tools/prove library $(1) --jobs $(JOBS) $(if $(KEEP),--keep)
 	@touch $$@
 endef
 $(foreach crate,$(PROGRAM),$(eval $(call library,$(crate))))
-
-# Only where nothing of the crate is kept: its own check finds what was proved here, and decides.
-define ahead
-crates/$(1)/out/ahead: | $(call proved,$(filter-out $(ahead_$(1)),$(call below,$(1))))
-	@$$(kit)echo "proving $(1) ahead"
-	@nice tools/prove ahead $(1) --source $(ahead_$(1)) $(only_$(1):%=--only %) --jobs 2 || true
-	@touch $$@
-endef
-$(foreach crate,$(PROGRAM),$(if $(ahead_$(crate)),$(eval $(call ahead,$(crate)))))
 
 $(sim): $(call proved,$(PROGRAM)) $(call sources_of,onfi_program) crates.txt $(if $(TARGET),$(wildcard targets/*.c))
 	@$(kit)echo "proving onfi_program$(TARGET:%= for %)"
