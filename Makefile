@@ -25,9 +25,9 @@
 below = $(filter onfi_%,$(shell sed -n 's/^$(1)\( [^:]*\)\{0,1\}://p' crates.txt))
 proved = $(patsubst %,crates/%/out/proved,$(1))
 sources_of = $(shell find $(wildcard crates/$(1)/src crates/$(1)/specs crates/$(1)/proofs) -type f)
-# What the library for C stands on, and what the program does.
+# What the library for C stands on, and what the program does: all of that but the calls over plain structs.
 LIBRARIES := $(sort $(foreach crate,$(call below,onfi_c),$(call below,$(crate)) $(crate)))
-PROGRAM := $(sort $(LIBRARIES) $(foreach crate,$(call below,onfi_program),$(foreach lower,$(call below,$(crate)) $(crate),$(call below,$(lower)) $(lower))))
+PROGRAM := $(sort $(filter-out onfi_calls,$(LIBRARIES)) $(foreach crate,$(call below,onfi_program),$(foreach lower,$(call below,$(crate)) $(crate),$(call below,$(lower)) $(lower))))
 
 # What is built is for x86-64, or for the processor that TARGET names, and stands in folders of its name then.
 ifneq ($(filter library wheel install install-library install-program,$(MAKECMDGOALS)),)
@@ -58,7 +58,7 @@ crates/$(1)/out/proved: $(call proved,$(call below,$(1))) $(call sources_of,$(1)
 	@tools/prove library $(1) --jobs $(JOBS) $(if $(KEEP),--keep)
 	@touch $$@
 endef
-$(foreach crate,$(PROGRAM),$(eval $(call library,$(crate))))
+$(foreach crate,$(sort $(LIBRARIES) $(PROGRAM)),$(eval $(call library,$(crate))))
 
 $(sim): $(call proved,$(PROGRAM)) $(call sources_of,onfi_program) crates.txt $(if $(TARGET),$(wildcard targets/*.c))
 	@$(kit)echo "proving onfi_program$(TARGET:%= for %)"
