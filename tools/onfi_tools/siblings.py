@@ -1,9 +1,9 @@
 """A copy of a crate in which many wrong bodies are tried by one check.
 
 An edited body stands in a further function after its own, its sibling, with the same signature, attributes and contract and a copy of its
-proofs: so all edits of a function stand side by side. One that can't have a sibling, as a method of a trait, a member of a cycle of
-calls or a constant, is made in place. The other functions are taken by their contracts: their proofs, which the crate's own check
-looks at, are holes here.
+proofs: so all edits of a function stand side by side. Of a cycle of calls each function has one. What can't have a sibling, as a method
+of a trait or a constant, is edited in place. The other functions are taken by their contracts: their proofs, which the crate's own
+check looks at, are holes here.
 """
 
 from __future__ import annotations
