@@ -117,6 +117,10 @@ bin/onfi_trials-unproved bin/onfi_row_tests-unproved: bin/%-unproved: crates.txt
 	@$(kit)echo "building $* unproved"
 	@tools/try-program $@ $*
 
+bin/%.tests: crates.txt $(call sources,*)
+	@$(kit)echo "building the tests of $* unproved"
+	@tools/try-program $@ $* --test
+
 lib/unproved/libonfi.a: crates.txt include/onfi.h $(call sources,$(LIBRARIES) onfi_c)
 	@$(kit)echo "building the library unproved"
 	@tools/try-library $(@D)

@@ -7,7 +7,7 @@ first what may start soonest, then by what it does. A plan by the rule is what c
 
 from __future__ import annotations
 
-from typing import Dict, Iterable, List, NamedTuple, Optional, Sequence, Tuple
+from typing import Counter, Dict, Iterable, List, NamedTuple, Optional, Sequence, Tuple
 
 READ, PROGRAM, ERASE = range(3)
 DUE = {READ: 128, PROGRAM: 128, ERASE: 512}
@@ -53,6 +53,7 @@ class Channel:
         self.spans, self.planes, self.bus, self.luns, self.waiting = spans, planes, bus, list(luns), list(waiting)
         self.passed: Dict[int, int] = {}
         self.newest: Optional[int] = None  # the newest program that is held back; none where nothing is
+        self.met: Counter[str] = Counter()  # the rules that told one group or phase from another
 
     def first(self, want: Want) -> bool:
         """Whether no earlier request on its block waits."""
@@ -91,8 +92,12 @@ class Channel:
     def begins(self, lun: int, even_held: bool) -> Tuple[Want, ...]:
         group = self.turned_to(lun)
         turned = next((want for want in self.waiting if want in group and self.due(want)), None) or min(group, default=None)
+        if turned and self.due(turned):
+            self.met["an erase that is due" if turned.kind == ERASE else "a program that is due"] += turned.kind != READ
         if turned and not even_held and self.held(group, turned):
-            return self.group_of(want for want in self.waiting if (want.lun, want.kind) == (lun, ERASE))
+            erases = self.group_of(want for want in self.waiting if (want.lun, want.kind) == (lun, ERASE))
+            self.met["an erase meanwhile" if erases else "held"] += 1
+            return erases
         return group
 
     def given(self) -> List[Tuple[Tuple[int, ...], int, Step]]:
@@ -107,6 +112,7 @@ class Channel:
             command = lun.next < len(members)
             rank = BEGINS[kind] if group else 0 if command else 4 if kind == READ else 1
             keeps = not group and command and start <= self.bus + spans.gap
+            self.met["the bus is kept"] += keeps
             end = -1 if keeps else start + (spans.cmd if command else spans.post)
             found.append(((start, rank, -len(group), min(want.id for want in members)), end, Step(start, number, group)))
         return found
@@ -135,6 +141,7 @@ class Reader:
     """What lines of numbers say, as next_trials.c prints them: a run's beginning, a request, a group that began, questions."""
 
     def __init__(self) -> None:
+        self.met: Counter[str] = Counter()
         self.spans: List[Spans] = []
         self.planes, self.waiting, self.passed, self.newest = 1, [], {}, None  # type: int, List[Want], Dict[int, int], Optional[int]
 
@@ -175,7 +182,7 @@ class Reader:
     def next(self, numbers: List[int]) -> bool:
         bus, now, luns, lun, start, members = numbers[:6]
         channel = Channel(self.spans, self.planes, max(bus, now), self.luns(numbers[6 + members :], luns), self.waiting)
-        channel.passed, channel.newest = self.passed, self.newest
+        channel.passed, channel.newest, channel.met = self.passed, self.newest, self.met
         found = channel.next()
         return found is not None and (found.lun, found.start, [want.id for want in found.group]) == (lun, start, numbers[6 : 6 + members])
 

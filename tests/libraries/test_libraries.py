@@ -173,7 +173,7 @@ class Choices(unittest.TestCase):
 
     def test_whole_groups_by_hand(self) -> None:
         told = run(build(ROOT / "tests/libraries/wholes.c"))
-        self.assertEqual((told.returncode, told.stderr, told.stdout), (0, b"", b"21 tried, 0 failed\n"))
+        self.assertEqual((told.returncode, told.stderr, told.stdout), (0, b"", b"26 tried, 0 failed\n"))
 
 
 class Sectors(unittest.TestCase):

@@ -81,8 +81,24 @@ static void work(void)
     expect("a read ends within the array time", &q, 10, 8, 0);
     q.luns[1] = running(ONFI_READ, 1, ARRAY + 1);
     expect("a read ends later", &q, 10, 8, 1);
+    q.luns[1] = running(ONFI_ERASE, 0, 0);
+    expect("an erase whose command is next is no work", &q, 10, 8, 1);
+    q.luns[1] = running(ONFI_PROGRAM, 0, ARRAY + 1);
+    expect("a program whose data are next is work", &q, 10, 8, 0);
     q.luns[1] = running(ONFI_READ, 1, 0);
     q.wants[0].kind = ONFI_READ, expect("a read waits for nothing", &q, 10, 8, 1);
+}
+
+/* A read waits for the block of the program that waits for its mates: something begins where nothing runs. */
+static void held(void)
+{
+    queue q = {.count = 0};
+    put(&q, ONFI_PROGRAM, 0, 0, 0);
+    put(&q, ONFI_READ, 0, 0, 0);
+    expect("one is held, and nothing else may begin", &q, 10, 1, 1);
+    expect("and what follows it", &q, 10, 8, 12);
+    q.luns[1] = running(ONFI_ERASE, 0, 0);
+    expect("the other LUN runs", &q, 10, 8, 0);
 }
 
 /* What waits long comes first of its LUN. */
@@ -142,6 +158,7 @@ int main(void)
 {
     mates();
     work();
+    held();
     due();
     rounds();
     refusals();

@@ -9,11 +9,7 @@ mod addr;
 #[cfg(test)]
 mod batch;
 #[cfg(test)]
-mod choosing;
-#[cfg(test)]
 mod held;
-#[cfg(test)]
-mod lazy;
 #[cfg(test)]
 mod opened;
 #[cfg(test)]
@@ -22,8 +18,6 @@ mod page;
 mod param;
 #[cfg(test)]
 mod plain;
-#[cfg(test)]
-mod request;
 #[cfg(test)]
 mod sectors;
 #[cfg(test)]

@@ -6,7 +6,7 @@ use onfi_addr::Place;
 use onfi_cert::Token;
 use onfi_check::check;
 use onfi_chip::SimChip;
-use onfi_core::{Core, Event, Outcome, Setup};
+use onfi_core::Setup;
 use onfi_planner::Planned;
 use onfi_problem::Problem;
 use onfi_queue::Host;
@@ -18,7 +18,7 @@ use onfi_timing::Kind;
 use std::alloc::{AllocError, Global};
 use std::sync::Wait;
 
-// A core and a sequencer whose planner is not named: the plain one.
+// A sequencer whose planner is not named: the plain one.
 
 // A read of the first page of LUN 0.
 fn read(alloc: Global) -> Result<Request, AllocError> {
@@ -48,36 +48,6 @@ fn is_plan_of_the_read(alloc: Global, last: Option<(&Problem, &Planned)>) -> boo
             .all(|starts| starts.as_slice().is_empty())
         && group.starts().as_slice() == [0, 25_240].as_slice()
         && check(alloc, problem, &planned.schedule, tokens) == Ok(36_240)
-}
-
-#[test]
-fn a_core_tells_its_last_plan(rt: HostRuntime) -> Result<(), AllocError> {
-    let alloc = rt.alloc();
-    let setup = setup_of(&rt, 1, 8);
-    let chip = new_chip(alloc, &setup)?;
-    let chips = Vec::from_array(alloc, [chip])?;
-    let mut core: Core<SimChip> = Core::open(alloc, setup, chips).expect(&rt, "a core");
-    assert!(rt; core.last(0).is_none());
-    let submit = Event::Submit {
-        channel: 0,
-        host: 0,
-        request: read(alloc)?,
-    };
-    assert!(rt; matches!(core.step(alloc, submit), Outcome::Submitted(0)));
-    assert!(rt;
-        matches!(
-            core.step(alloc, Event::Accept { channel: 0 }),
-            Outcome::Accepted(0)
-        )
-    );
-    assert!(rt;
-        matches!(
-            core.step(alloc, Event::Plan { channel: 0 }),
-            Outcome::Planned(36_240)
-        )
-    );
-    assert!(rt; is_plan_of_the_read(alloc, core.last(0)));
-    Ok(())
 }
 
 // A gate that is always open.

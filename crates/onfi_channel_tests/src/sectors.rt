@@ -2,12 +2,9 @@ ghost use Rattle.std.specs.Prelude.{◌≡◌, IfOk};
 
 use onfi_addr::Geometry;
 use onfi_core::{Setup, SetupFault};
-use onfi_die::{Block, Shape};
 use onfi_group::Rules;
-use onfi_request::Answer;
 use onfi_samples::{sample_geometry, sample_timing};
-use onfi_timing::{Kind, Timing};
-use std::alloc::AllocError;
+use onfi_timing::Timing;
 use std::process::Abort;
 
 // The sample device with four sectors of 132 bytes a page.
@@ -34,38 +31,6 @@ pub(crate) fn setup(rt: &impl Abort, timing: Timing) -> Result<Setup, SetupFault
 {
     let rules = Rules::new(true, true, false, 1);
     Setup::new(sectored(rt), timing, rules, 1, 1, 8, 8, 8, 1_000)
-}
-
-#[test]
-fn sectors_are_of_some_bytes_and_fit_the_page(rt: HostRuntime) {
-    let geometry = sample_geometry();
-    assert_eq!(rt; geometry.sector_bytes, 0);
-    for (bytes, given) in [(0, None), (1, Some(1)), (528, Some(528)), (529, None)] {
-        let sectored = geometry.with_sector_bytes(bytes);
-        assert_eq!(rt; sectored.map(|geometry| geometry.sector_bytes), given);
-    }
-    assert_eq!(rt; sectored(&rt).page_bytes(), 528);
-}
-
-#[test]
-fn a_block_puts_out_sectors(rt: HostRuntime) -> Result<(), AllocError> {
-    let alloc = rt.alloc();
-    let shape = Shape {
-        pages: 2,
-        bytes: 10,
-        any_order: false,
-        sector_bytes: 3,
-    };
-    let mut block = Block::of(alloc, shape)?;
-    let page = [0, 1, 2, 3, 4, 5, 6, 7, 8, 9];
-    let done = block.apply(alloc, Kind::Program, 0, &page, false)?;
-    assert!(rt; matches!(done, Answer::Done));
-    let two = Kind::ReadSectors { first: 1, count: 2 };
-    let Answer::Read(bytes) = block.apply(alloc, two, 0, &[], false)? else {
-        panic!(rt; "a read was answered otherwise");
-    };
-    assert_eq!(rt; bytes.as_slice(), [3, 4, 5, 6, 7, 8].as_slice());
-    Ok(())
 }
 
 #[test]

@@ -1,7 +1,5 @@
 use crate::sample::{free, running, want};
-use onfi_bound::{
-    Bound, BoundAt, Commands, Loads, NodeBounds, bus, closing, die, lead, reaches, trail,
-};
+use onfi_bound::{Bound, BoundAt, Loads, bus, closing, die, lead, reaches, trail};
 use onfi_group::Rules;
 use onfi_problem::{Problem, ProblemFault};
 use onfi_samples::sample_timing;
@@ -90,34 +88,5 @@ fn bounds_of_programs_apart(rt: HostRuntime) -> Result<(), Fail> {
         at: 100840,
     };
     assert_eq!(rt; closing(&problem, 100840), Some(lead));
-    Ok(())
-}
-
-#[test]
-fn commands_are_counted_down(rt: HostRuntime) -> Result<(), Fail> {
-    let problem = programs_apart(rt.alloc())?;
-    let left = Commands::of(&problem);
-    assert_eq!(rt; (left.read, left.program, left.erase), (0, 2, 0));
-    assert_eq!(rt; left.trail(&problem), Some(221980));
-    assert!(rt; left.trail_reaches(&problem, 221980));
-    assert!(rt; !left.trail_reaches(&problem, 221981));
-    let program = problem.move_at(0).ok_or("a move")?;
-    assert_eq!(rt; left.after(&problem, program).program, 1);
-    let status = problem.move_at(2).ok_or("a move")?;
-    assert_eq!(rt; left.after(&problem, status), left);
-    Ok(())
-}
-
-#[test]
-fn bounds_behind_a_move(rt: HostRuntime) -> Result<(), Fail> {
-    let problem = programs_apart(rt.alloc())?;
-    let bounds = NodeBounds::of(&problem);
-    assert_eq!(rt; bounds.bus, 22440);
-    let program = problem.move_at(0).ok_or("a move")?;
-    assert_eq!(rt; bounds.after(&problem, program).bus, 22440);
-    let status = problem.move_at(2).ok_or("a move")?;
-    assert_eq!(rt; bounds.after(&problem, status).commands, bounds.commands);
-    assert!(rt; bounds.bus_reaches_after(&problem, status, 122440));
-    assert!(rt; !bounds.bus_reaches_after(&problem, status, 122441));
     Ok(())
 }

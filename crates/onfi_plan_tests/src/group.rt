@@ -75,26 +75,3 @@ fn groups_of_a_lun(rt: HostRuntime) -> Result<(), Fail> {
     assert!(rt; starts(alloc, &equal_ids, &[1, 1, 11])?);
     Ok(())
 }
-
-#[test]
-fn a_group_tells_its_members(rt: HostRuntime) {
-    let wants = [
-        Want {
-            page: 7,
-            ..want(4, PROGRAM, 0, 0)
-        },
-        Want {
-            page: 7,
-            ..want(6, PROGRAM, 0, 1)
-        },
-    ];
-    let group = Group::of(rt.alloc(), &wants);
-    assert_eq!(rt; group.len(), 2);
-    assert_eq!(rt; group.members(), wants.as_slice());
-    assert_eq!(rt; (group.kind(), group.lun()), (PROGRAM, 0));
-    assert!(rt; group.has(&want(6, READ, 0, 0)));
-    assert!(rt; !group.has(&Want { id: 5, ..wants[0] }));
-    assert_eq!(rt; group.copy().members(), group.members());
-    assert!(rt; group.is_group(&Rules::new(false, true, false, 1)));
-    assert!(rt; !group.is_group(&Rules::new(true, false, false, 1)));
-}

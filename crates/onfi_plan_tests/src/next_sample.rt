@@ -6,7 +6,7 @@ use arrayvec::ArrayVec;
 use onfi_group::Rules;
 use onfi_problem::LunState;
 use onfi_request::Want;
-use onfi_steady::{Full, NextPhase, Waiter, Waiting, next_phase, next_phase_of};
+use onfi_steady::{Full, NextPhase, Waiter, Waiting, next_phase};
 use onfi_timing::{Kind, Timing};
 
 /// Two planes, and groups of all kinds.
@@ -22,25 +22,13 @@ pub(crate) fn accept(
     lun: u8,
     block: u16,
 ) -> Result<(), Full> {
-    accept_page(waiting, id, kind, lun, block, 0)
-}
-
-/// .. or of that page.
-pub(crate) fn accept_page(
-    waiting: &mut Waiting,
-    id: u64,
-    kind: Kind,
-    lun: u8,
-    block: u16,
-    page: u16,
-) -> Result<(), Full> {
     waiting.accept(Want {
         id,
         kind,
         lun: lun % 8,
         plane: (block % 2) as u8,
         block,
-        page,
+        page: 0,
     })
 }
 
@@ -68,53 +56,10 @@ pub(crate) fn next(
     told(next_phase(timing, bus_free, now, luns, waiting))
 }
 
-/// The same of a list of what waits for LUNs that run nothing.
-pub(crate) fn next_shown(
-    timing: &Timing,
-    bus_free: u64,
-    now: u64,
-    luns: &[LunState],
-    waiting: &Waiting,
-) -> Option<(u8, u64, [u64; 4])>
-    requires { length luns.now ≤ 8 }
-{
-    let list = shown(luns, waiting);
-    told(next_phase_of(
-        timing,
-        bus_free,
-        now,
-        luns,
-        waiting.rules(),
-        list.as_slice(),
-        waiting.newest(),
-    ))
-}
-
 fn told(next: Option<NextPhase>) -> Option<(u8, u64, [u64; 4])> {
     match next {
         Some(phase) => Some((phase.lun, phase.start, numbers(phase.members()))),
         None => None,
-    }
-}
-
-// What waits for LUNs that run nothing.
-fn shown(luns: &[LunState], waiting: &Waiting) -> ArrayVec<Waiter, 64> {
-    let mut list = ArrayVec::new();
-    for waiter in waiting.as_slice() {
-        if is_free(luns, waiter.want.lun) && !list.is_full() {
-            list.push(*waiter);
-        }
-    }
-    list
-}
-
-fn is_free(luns: &[LunState], lun: u8) -> bool {
-    let Some(state) = luns.get(usize::from(lun)) else {
-        return false;
-    };
-    match state {
-        LunState::Free { .. } => true,
-        LunState::Running { .. } => false,
     }
 }
 

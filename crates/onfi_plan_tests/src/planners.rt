@@ -1,15 +1,62 @@
-use crate::early::{timing, with_status_due};
 use onfi_early::{Weights, cost_of, slack_of};
-use onfi_group::Rules;
+use onfi_group::{Group, Rules};
 use onfi_plan::{Limit, PlanFault, Planner};
-use onfi_planners::{
-    ChosenPlanner, EarlyPlanner, Nodes, PlainPlanner, SlackPlanner, Weighing, make_better_within,
-};
+use onfi_planners::{EarlyPlanner, Nodes, PlainPlanner, Weighing, make_better_within};
 use onfi_problem::{LunState, Problem};
 use onfi_request::Want;
-use onfi_timing::Kind;
+use onfi_timing::{Kind, Spans, Timing};
 use std::alloc::Global;
 use std::test::Fail;
+
+// Phases so short that the sums can be checked by hand.
+fn timing() -> Result<Timing, Fail> {
+    let read = Spans::new(10, 1, 100, 20)?;
+    let program = Spans::new(50, 1, 400, 3)?;
+    let erase = Spans::new(5, 1, 900, 3)?;
+    Ok(Timing::new(read, program, erase))
+}
+
+// An erase on LUN 0 decides the finish, a status of LUN 1 is due, and a program of LUN 2 waits.
+fn with_status_due(alloc: Global) -> Result<Problem, Fail> {
+    let page = 0;
+    let running = Want {
+        id: 0,
+        kind: Kind::Program,
+        lun: 1,
+        plane: 0,
+        block: 4,
+        page,
+    };
+    let luns = [
+        LunState::Free { since: 0 },
+        LunState::Running {
+            group: Group::of(alloc, &[running]),
+            next: 1,
+            ready: 0,
+        },
+        LunState::Free { since: 0 },
+    ];
+    let wants = [
+        Want {
+            id: 0,
+            kind: Kind::Erase,
+            lun: 0,
+            plane: 0,
+            block: 0,
+            page,
+        },
+        Want {
+            id: 1,
+            kind: Kind::Program,
+            lun: 2,
+            plane: 0,
+            block: 0,
+            page,
+        },
+    ];
+    let rules = Rules::new(true, true, false, 1);
+    Ok(Problem::new(alloc, timing()?, rules, 0, &luns, &wants)?)
+}
 
 // What a plan by a planner costs where all requests count alike, when it ends, and before what nothing ends.
 fn told(
@@ -33,28 +80,6 @@ fn a_slack_is_of_the_time_between(rt: HostRuntime) {
     assert_eq!(rt; slack_of(1_000, 7, 9), 2);
     assert_eq!(rt; slack_of(60_000, 7, 9), 2);
     assert_eq!(rt; slack_of(20, 9, 7), 0);
-}
-
-// By age the status and the erase count 48 each, the program 16.
-#[test]
-fn a_planner_and_a_slack_are_chosen(rt: HostRuntime) -> Result<(), Fail> {
-    let alloc = rt.alloc();
-    let problem = with_status_due(alloc)?;
-    let planners = [
-        ChosenPlanner::Plain,
-        ChosenPlanner::Remembering,
-        ChosenPlanner::BestSoFar,
-    ];
-    for planner in planners {
-        let weighing = Weighing::ByAge;
-        let early = EarlyPlanner::of(planner, weighing);
-        assert!(rt; told(alloc, &early, &problem) == Ok((1377, 908, 908)));
-        let zero = SlackPlanner::of(planner, weighing, 0);
-        assert!(rt; told(alloc, &zero, &problem) == Ok((1377, 908, 908)));
-        let more = SlackPlanner::of(planner, weighing, 4);
-        assert!(rt; told(alloc, &more, &problem) == Ok((1375, 911, 908)));
-    }
-    Ok(())
 }
 
 // With no node for a better plan it is that of the other planner; with the root and one step below it nothing is found yet.

@@ -99,20 +99,6 @@ fn a_tree_is_walked_once_more_where_a_sooner_finish_was_found(rt: HostRuntime) -
     Ok(())
 }
 
-#[test]
-fn a_plan_within_an_ample_limit_is_the_one_that_ends_first(rt: HostRuntime) -> Result<(), Fail> {
-    let alloc = rt.alloc();
-    let problem = six_reads(alloc)?;
-    let known = plan_known(alloc, &problem, Limit::of(1000).unwrap())?;
-    let planned = plan_within(alloc, &problem, Limit::of(1000).unwrap())?;
-    assert_eq!(rt; (planned.planned.finish, planned.below), (92_120, 92_120));
-    assert!(rt; planned.text() == known.text());
-    let text = planned.text().expect(&rt, "a text");
-    let checked = check_known_text(alloc, &problem, &planned.planned.schedule, text);
-    assert_eq!(rt; checked, Ok(92_120));
-    Ok(())
-}
-
 // No data output starts before a command and an array time, at 25,240 ns, and six of 11,000 ns each are left then. Both the
 // first walk and the one for the middle meet the limit.
 #[test]

@@ -2,9 +2,9 @@ ghost use Rattle.std.specs.Prelude.{◌<◌, length};
 ghost use Rattle.onfi_problem.specs.Left.{InLimits};
 ghost use Rattle.onfi_problem.specs.Position.{restored};
 
-use crate::sample::{free, running, want};
+use crate::sample::{free, want};
 use onfi_group::Rules;
-use onfi_problem::{Lun, LunState, Problem, ProblemFault, Undo};
+use onfi_problem::{LunState, Problem, ProblemFault, Undo};
 use onfi_request::Want;
 use onfi_samples::sample_timing;
 use onfi_timing::Kind;
@@ -13,8 +13,6 @@ use std::process::Abort;
 use std::test::Fail;
 
 const READ: Kind = Kind::Read;
-
-const ERASE: Kind = Kind::Erase;
 
 // Those of a device with four planes.
 fn any_groups() -> Rules {
@@ -82,42 +80,5 @@ fn two_planes_read_as_one(rt: HostRuntime) -> Result<(), Fail> {
     }
     assert_eq!(rt; problem.bus_free(), 47980);
     assert_eq!(rt; problem.move_count(), 0);
-    Ok(())
-}
-
-#[test]
-fn moves_made_and_taken_back(rt: HostRuntime) -> Result<(), Fail> {
-    let alloc = rt.alloc();
-    let luns = [
-        running(alloc, want(0, READ, 0, 0), 0),
-        running(alloc, want(0, ERASE, 1, 0), 50),
-    ];
-    let mut problem = problem(alloc, 0, &luns, &[want(0, ERASE, 1, 1)])?;
-    let before = problem.copy(alloc)?;
-    let post = step(&rt, &mut problem, 1, 50);
-    problem.undo(post);
-    assert_eq!(rt; problem.bus_free(), 0);
-    assert_eq!(rt; problem.luns(), before.luns());
-    assert_eq!(rt; problem.waiting(), before.waiting());
-    assert_eq!(rt; problem.move_count(), 2);
-    step(&rt, &mut problem, 1, 50);
-    let start = step(&rt, &mut problem, 1, 330);
-    assert_eq!(rt;
-        problem.waiting(),
-        &[false, true, true, true, true, true, true, true]
-    );
-    problem.undo(start);
-    assert_eq!(rt; problem.waiting(), before.waiting());
-    step(&rt, &mut problem, 1, 330);
-    step(&rt, &mut problem, 0, 430);
-    step(&rt, &mut problem, 0, 1500530);
-    assert_eq!(rt; problem.bus_free(), 1500810);
-    assert_eq!(rt; problem.move_count(), 0);
-    let first = Lun {
-        next: 0,
-        place: 0,
-        time: 11430,
-    };
-    assert_eq!(rt; problem.luns().get(0).copied(), Some(first));
     Ok(())
 }

@@ -3,12 +3,11 @@
 ghost use Rattle.std.specs.Prelude.{◌≡◌, ◌≤◌};
 
 use onfi_addr::Place;
-use onfi_group::{Group, Rules};
+use onfi_group::Group;
 use onfi_plan::Plan;
-use onfi_problem::{LunState, Problem};
+use onfi_problem::LunState;
 use onfi_request::Want;
 use onfi_samples::want_of;
-use onfi_steady::plan_by_rule;
 use onfi_timing::{Kind, Spans, Timing};
 use std::alloc::{AllocError, Global};
 use std::test::Fail;
@@ -36,15 +35,6 @@ pub(crate) fn running(alloc: Global, kind: Kind, lun: u8, ready: u64) -> LunStat
     }
 }
 
-/// A LUN that runs a pair of operations on blocks 0 and 1, of which that phase is next, from a time on.
-pub(crate) fn running_pair(alloc: Global, kind: Kind, next: u8, ready: u64) -> LunState {
-    LunState::Running {
-        group: Group::of(alloc, &[want(0, kind, 0, 0), want(1, kind, 0, 1)]),
-        next,
-        ready,
-    }
-}
-
 /// A read's command takes 10 ns, its array 50, its output 20; a program's 20, 100 and 2; an erase's 3, 500 and 2. The gap
 /// of reads is that, of others 5.
 pub(crate) fn timing(gap: u64) -> Result<Timing, Fail> {
@@ -52,31 +42,6 @@ pub(crate) fn timing(gap: u64) -> Result<Timing, Fail> {
     let program = Spans::new(20, 5, 100, 2)?;
     let erase = Spans::new(3, 5, 500, 2)?;
     Ok(Timing::new(read, program, erase))
-}
-
-/// The text of the plan of a problem with these LUNs and wants, two planes and groups of all kinds, whose bus is free from
-/// the start.
-pub(crate) fn planned(alloc: Global, luns: &[LunState], wants: &[Want]) -> Result<Vec<u8>, Fail> {
-    planned_by(
-        alloc,
-        timing(5)?,
-        Rules::new(true, true, false, 1),
-        luns,
-        wants,
-    )
-}
-
-/// .. with this timing and these rules.
-pub(crate) fn planned_by(
-    alloc: Global,
-    timing: Timing,
-    rules: Rules,
-    luns: &[LunState],
-    wants: &[Want],
-) -> Result<Vec<u8>, Fail> {
-    let problem = Problem::new(alloc, timing, rules, 0, luns, wants)?;
-    let plan = plan_by_rule(alloc, &problem)?;
-    Ok(told(alloc, &plan)?)
 }
 
 /// When a plan ends, and what no schedule ends before; after a stroke the starts that are left of each LUN's running group;

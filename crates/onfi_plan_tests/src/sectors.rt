@@ -3,10 +3,8 @@
 use crate::rule_sample::told;
 use crate::sample::free;
 use onfi_addr::Place;
-use onfi_check::TextFault;
 use onfi_early::{Weights, cost_of, improve};
 use onfi_group::{Group, Rules};
-use onfi_known_check::{KnownFault, check_known_text};
 use onfi_known_plan::plan_known;
 use onfi_plan::{Limit, Planner};
 use onfi_problem::{LunState, Problem};
@@ -38,56 +36,6 @@ fn read(id: u64, kind: Kind, lun: u8, block: u16, page: u16) -> Want {
 fn posed(alloc: Global, luns: &[LunState], wants: &[Want]) -> Result<Problem, Fail> {
     let rules = Rules::new(true, true, false, 1);
     Ok(Problem::new(alloc, timing()?, rules, 0, luns, wants)?)
-}
-
-// One sector of page 0 of a block, and all of page 1 of the block beside it: two groups of one LUN. The second begins where the
-// sector has been put out, at 25,240 + 3,080, and ends 140 + 25,100 + 11,000 later.
-fn a_sector_and_a_page(alloc: Global) -> Result<Problem, Fail> {
-    let wants = [read(0, SECTOR, 0, 0, 0), read(1, Kind::Read, 0, 1, 1)];
-    posed(alloc, &[free()], &wants)
-}
-
-#[test]
-fn a_sector_and_a_page_take_turns(rt: HostRuntime) -> Result<(), Fail> {
-    let alloc = rt.alloc();
-    let problem = a_sector_and_a_page(alloc)?;
-    let plan = plan_known(alloc, &problem, Limit::of(1000).unwrap())?;
-    let shown = told(alloc, &plan)?;
-    assert!(rt; shown.as_slice() == b"64560 64560|; 0: 0 25240; 1: 28320 53560".as_slice());
-    let text = plan.text().expect(&rt, "a text");
-    let checked = check_known_text(alloc, &problem, &plan.planned.schedule, text);
-    assert_eq!(rt; checked, Ok(64_560));
-    Ok(())
-}
-
-// After the sector's command or the page's so many phases of so many members are left, but not the same output. Who counted
-// them as the same would close the second node by the first.
-#[test]
-fn a_node_with_other_sectors_left_is_no_other(rt: HostRuntime) -> Result<(), Fail> {
-    let alloc = rt.alloc();
-    let problem = a_sector_and_a_page(alloc)?;
-    let plan = plan_known(alloc, &problem, Limit::of(1000).unwrap())?;
-    let schedule = &plan.planned.schedule;
-    let again = b"ONFICERT 3 remember\nB2 B1 B1 B1 X B1 B1 R0\n".as_slice();
-    let checked = check_known_text(alloc, &problem, schedule, again);
-    assert_eq!(rt; checked, Err(TextFault::Cert(KnownFault::OtherLeft(7))));
-    let opened = b"ONFICERT 3 remember\nB2 B1 B1 B1 X B1 B1 B1 X\n".as_slice();
-    let checked = check_known_text(alloc, &problem, schedule, opened);
-    assert_eq!(rt; checked, Ok(64_560));
-    Ok(())
-}
-
-// Where both put out one sector the nodes are one.
-#[test]
-fn a_node_with_the_same_sectors_left_is_the_other(rt: HostRuntime) -> Result<(), Fail> {
-    let alloc = rt.alloc();
-    let wants = [read(0, SECTOR, 0, 0, 0), read(1, SECTOR, 0, 1, 1)];
-    let problem = posed(alloc, &[free()], &wants)?;
-    let plan = plan_known(alloc, &problem, Limit::of(1000).unwrap())?;
-    let again = b"ONFICERT 3 remember\nB2 B1 B1 B1 X B1 B1 R0\n".as_slice();
-    let checked = check_known_text(alloc, &problem, &plan.planned.schedule, again);
-    assert_eq!(rt; checked, Ok(56_640));
-    Ok(())
 }
 
 // Weights of two requests that wait.

@@ -1,0 +1,31 @@
+//! A plan by the rule, and its planner.
+
+use crate::rule_sample::{free, timing, told, want};
+use onfi_check::check;
+use onfi_group::Rules;
+use onfi_plan::{Limit, Planner};
+use onfi_problem::Problem;
+use onfi_steady::{RulePlanner, plan_by_rule};
+use onfi_timing::Kind;
+use std::test::Fail;
+
+// The planner gives the same plan, and no node is opened. Where nothing can end sooner, the certificate shows it.
+#[test]
+fn the_planner_and_the_certificate(rt: HostRuntime) -> Result<(), Fail> {
+    let alloc = rt.alloc();
+    let luns = [free(0), free(0)];
+    let wants = [want(0, Kind::Read, 1, 0), want(1, Kind::Read, 0, 0)];
+    let rules = Rules::new(true, true, false, 1);
+    let problem = Problem::new(alloc, timing(5)?, rules, 0, &luns, &wants)?;
+    let plan = plan_by_rule(alloc, &problem)?;
+    let by_planner = RulePlanner.plan(alloc, &problem, Limit::of(1).unwrap())?;
+    assert!(rt; told(alloc, &plan)?.as_slice() == told(alloc, &by_planner)?.as_slice());
+    assert_eq!(rt; (by_planner.opened, by_planner.reopened), (0, 0));
+    let tokens = plan.planned.cert.as_slice();
+    assert_eq!(rt; tokens.len(), 1);
+    assert_eq!(rt;
+        check(alloc, &problem, &plan.planned.schedule, tokens),
+        Ok(100)
+    );
+    Ok(())
+}
