@@ -73,16 +73,15 @@ class Headers(unittest.TestCase):
         self.assertEqual((told.returncode, told.stderr), (0, b""))
         self.assertEqual(run(str(made)).stdout, b"times that reach 2^62 ns")
 
-    def test_shared_library_shows_its_calls_alone(self) -> None:
-        told = run("nm", "-D", "--defined-only", str(LIBRARY / "libonfi.so")).stdout.decode().split()[2::3]
-        self.assertEqual(sorted(told), [
-            "onfi_audit_begin", "onfi_audit_begin_by", "onfi_audit_phase", "onfi_audit_ready",
-            "onfi_breach", "onfi_breach_by", "onfi_check", "onfi_check_known", "onfi_check_within", "onfi_check_within_by", "onfi_choose", "onfi_choose_by",
-            "onfi_choose_whole", "onfi_due", "onfi_due_by", "onfi_lengths_of_page", "onfi_next", "onfi_output_of", "onfi_plan", "onfi_plan_early", "onfi_plan_early_by",
-            "onfi_plan_known", "onfi_plan_rule", "onfi_plan_rule_by",
-            "onfi_plan_within", "onfi_plan_within_by", "onfi_queue_accept", "onfi_queue_begin", "onfi_queue_ran", "onfi_ran",
-            "onfi_ran_by", "onfi_row", "onfi_status_text", "onfi_text_audit", "onfi_text_check", "onfi_text_check_known", "onfi_text_legal", "onfi_text_plan",
-            "onfi_text_plan_known", "onfi_text_trace", "onfi_timing_of_page", "onfi_timing_of_strobes", "onfi_version"])
+    def test_libraries_show_their_calls_alone(self) -> None:
+        """A linker sees the calls of the header in both, and of the archive what it asks of others."""
+        calls = sorted(re.findall(r"^uint32_t (onfi_\w+)\(", (ROOT / "include/onfi.h").read_text(), re.MULTILINE))
+        self.assertIn("onfi_plan", calls)
+        for words in (["-D", str(LIBRARY / "libonfi.so")], ["-g", str(LIBRARY / "libonfi.a")]):
+            told = run("nm", "--defined-only", *words).stdout.decode()
+            self.assertEqual(sorted(re.findall(r"^\w+ \w (\w+)$", told, re.MULTILINE)), calls, words)
+        asked = run("nm", "-u", str(LIBRARY / "libonfi.a")).stdout.decode().split()
+        self.assertEqual(sorted({*asked} - {"U", "onfi.o:"}), ["__udivti3", "free", "malloc", "memcpy", "memmove", "memset", "realloc"])
 
     def test_shared_library_is_named_by_its_major_version(self) -> None:
         version = (ROOT / "VERSION").read_text().strip()
