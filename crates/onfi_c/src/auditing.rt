@@ -1,7 +1,7 @@
 //! Audits of logs, for C.
 ghost use Rattle.std.specs.Prelude.{None, Some};
-ghost use Rattle.onfi_calls.specs.AuditBegun as spec;
-ghost use Rattle.onfi_calls.specs.AuditPhase as spec;
+ghost use Rattle.onfi_calls.specs.AuditBegun as audit_begun_spec;
+ghost use Rattle.onfi_calls.specs.AuditPhase as audit_phase_spec;
 
 use onfi_calls::{PlainAudit, PlainChannel, PlainLengths, PlainLogBroken, PlainLun, PlainPhase};
 use std::alloc::Global;
@@ -14,7 +14,7 @@ pub extern "C" fn onfi_audit_begin(
     luns: &[PlainLun],
     audit: &mut PlainAudit,
 ) -> u32
-    ensures { spec.GivesAudit None channel.now luns.now audit.old audit.new result }
+    ensures { audit_begun_spec.GivesAudit None channel.now luns.now audit.old audit.new result }
 {
     onfi_calls::onfi_audit_begin(alloc, channel, luns, audit)
 }
@@ -28,7 +28,7 @@ pub extern "C" fn onfi_audit_begin_by(
     luns: &[PlainLun],
     audit: &mut PlainAudit,
 ) -> u32
-    ensures { spec.GivesAudit (Some lengths.now) channel.now luns.now audit.old audit.new result }
+    ensures { audit_begun_spec.GivesAudit (Some lengths.now) channel.now luns.now audit.old audit.new result }
 {
     onfi_calls::onfi_audit_begin_by(alloc, lengths, channel, luns, audit)
 }
@@ -41,7 +41,7 @@ pub extern "C" fn onfi_audit_phase(
     phase: &PlainPhase,
     broken: &mut PlainLogBroken,
 ) -> u32
-    ensures { spec.GivesPhase audit.old audit.new phase.now broken.old broken.new result }
+    ensures { audit_phase_spec.GivesPhase audit.old audit.new phase.now broken.old broken.new result }
 {
     onfi_calls::onfi_audit_phase(alloc, audit, phase, broken)
 }
@@ -54,7 +54,7 @@ pub extern "C" fn onfi_audit_ready(
     lun: u8,
     moment: u64,
 ) -> u32
-    ensures { spec.GivesReady audit.old audit.new lun moment result }
+    ensures { audit_phase_spec.GivesReady audit.old audit.new lun moment result }
 {
     onfi_calls::onfi_audit_ready(alloc, audit, lun, moment)
 }

@@ -3,7 +3,7 @@ ghost use Rattle.std.specs.Prelude.{None, Some};
 ghost use Rattle.onfi_planners.specs.declared.chosen.ChosenPlanner.TheVariants.{Plain, Remembering, BestSoFar};
 ghost use Rattle.onfi_script.specs.Answer.{IsProved, IsShown};
 ghost use Rattle.onfi_calls.specs.Checked.{GivesVerdict, IsFaultTold, IsKnownFaultTold, IsWithinFaultTold};
-ghost use Rattle.onfi_calls.specs.Broken as spec;
+ghost use Rattle.onfi_calls.specs.Broken as broken_spec;
 
 use onfi_calls::{
     PlainBroken, PlainChannel, PlainLengths, PlainLun, PlainSchedule, PlainVerdict, PlainWant,
@@ -108,7 +108,7 @@ pub extern "C" fn onfi_breach(
     schedule: &PlainSchedule,
     broken: &mut PlainBroken,
 ) -> u32
-    ensures { spec.GivesBreach None channel.now luns.now wants.now schedule.now broken.old broken.new result }
+    ensures { broken_spec.GivesBreach None channel.now luns.now wants.now schedule.now broken.old broken.new result }
 {
     onfi_calls::onfi_breach(alloc, channel, luns, wants, schedule, broken)
 }
@@ -124,7 +124,7 @@ pub extern "C" fn onfi_breach_by(
     schedule: &PlainSchedule,
     broken: &mut PlainBroken,
 ) -> u32
-    ensures { spec.GivesBreach (Some lengths.now) channel.now luns.now wants.now schedule.now broken.old broken.new result }
+    ensures { broken_spec.GivesBreach (Some lengths.now) channel.now luns.now wants.now schedule.now broken.old broken.new result }
 {
     onfi_calls::onfi_breach_by(alloc, lengths, channel, luns, wants, schedule, broken)
 }

@@ -1,7 +1,7 @@
 //! Devices by their parameter pages, for C.
-ghost use Rattle.onfi_calls.specs.Device as spec;
-ghost use Rattle.onfi_calls.specs.StrobedDevice as spec;
-ghost use Rattle.onfi_calls.specs.SectorDevice as spec;
+ghost use Rattle.onfi_calls.specs.Device as device_spec;
+ghost use Rattle.onfi_calls.specs.StrobedDevice as strobed_device_spec;
+ghost use Rattle.onfi_calls.specs.SectorDevice as sector_device_spec;
 
 use onfi_calls::{PlainDevice, PlainLengths};
 use std::alloc::Global;
@@ -15,7 +15,7 @@ pub extern "C" fn onfi_timing_of_page(
     device: &mut PlainDevice,
     place: &mut u64,
 ) -> u32
-    ensures { spec.GivesDevice page.now sheet.now device.old device.new place.new result }
+    ensures { device_spec.GivesDevice page.now sheet.now device.old device.new place.new result }
 {
     onfi_calls::onfi_timing_of_page(alloc, page, sheet, device, place)
 }
@@ -30,7 +30,7 @@ pub extern "C" fn onfi_timing_of_strobes(
     device: &mut PlainDevice,
     place: &mut u64,
 ) -> u32
-    ensures { spec.GivesStrobedDevice page.now sheet.now strobes.now device.old device.new place.new result }
+    ensures { strobed_device_spec.GivesStrobedDevice page.now sheet.now strobes.now device.old device.new place.new result }
 {
     onfi_calls::onfi_timing_of_strobes(alloc, page, sheet, strobes, device, place)
 }
@@ -47,7 +47,7 @@ pub extern "C" fn onfi_lengths_of_page(
     lengths: &mut PlainLengths,
     place: &mut u64,
 ) -> u32
-    ensures { spec.GivesLengths page.now sheet.now strobes.now sector_bytes device.old device.new lengths.old lengths.new place.new result }
+    ensures { sector_device_spec.GivesLengths page.now sheet.now strobes.now sector_bytes device.old device.new lengths.old lengths.new place.new result }
 {
     onfi_calls::onfi_lengths_of_page(
         alloc,

@@ -3,9 +3,9 @@ ghost use Rattle.onfi_calls.specs.SaidGeometry.{GivesRow};
 ghost use Rattle.std.specs.Prelude.{None, Some, take};
 ghost use Rattle.onfi_calls.specs.Due.{GivesDue};
 ghost use Rattle.onfi_calls.specs.Ran.{GivesRan};
-ghost use Rattle.onfi_calls.specs.Chosen as spec;
-ghost use Rattle.onfi_calls.specs.WholeChosen as spec;
-ghost use Rattle.onfi_calls.specs.Output as spec;
+ghost use Rattle.onfi_calls.specs.Chosen as chosen_spec;
+ghost use Rattle.onfi_calls.specs.WholeChosen as whole_chosen_spec;
+ghost use Rattle.onfi_calls.specs.Output as output_spec;
 
 use onfi_calls::{
     PlainChannel, PlainGeometry, PlainLengths, PlainLun, PlainOutput, PlainPhase, PlainSchedule,
@@ -40,7 +40,7 @@ pub extern "C" fn onfi_choose(
     chosen: &mut [usize; 8],
     count: &mut usize,
 ) -> u32
-    ensures { spec.GivesChosen None channel.now luns.now wants.now accepted choice batch chosen.old chosen.new count.old count.new result }
+    ensures { chosen_spec.GivesChosen None channel.now luns.now wants.now accepted choice batch chosen.old chosen.new count.old count.new result }
 {
     onfi_calls::onfi_choose(
         alloc, channel, luns, wants, accepted, choice, batch, chosen, count,
@@ -61,7 +61,7 @@ pub extern "C" fn onfi_choose_by(
     chosen: &mut [usize; 8],
     count: &mut usize,
 ) -> u32
-    ensures { spec.GivesChosen (Some lengths.now) channel.now luns.now wants.now accepted choice batch chosen.old chosen.new count.old count.new result }
+    ensures { chosen_spec.GivesChosen (Some lengths.now) channel.now luns.now wants.now accepted choice batch chosen.old chosen.new count.old count.new result }
 {
     onfi_calls::onfi_choose_by(
         alloc, lengths, channel, luns, wants, accepted, choice, batch, chosen, count,
@@ -82,7 +82,7 @@ pub extern "C" fn onfi_choose_whole(
     chosen: &mut [usize; 8],
     count: &mut usize,
 ) -> u32
-    ensures { spec.GivesWhole channel.now luns.now wants.now passed.now (spec.newest_said has_newest newest) batch chosen.old chosen.new count.old count.new result }
+    ensures { whole_chosen_spec.GivesWhole channel.now luns.now wants.now passed.now (whole_chosen_spec.newest_said has_newest newest) batch chosen.old chosen.new count.old count.new result }
 {
     onfi_calls::onfi_choose_whole(
         alloc, channel, luns, wants, passed, has_newest, newest, batch, chosen, count,
@@ -180,7 +180,7 @@ pub extern "C" fn onfi_output_of(
     first: u8,
     output: &mut PlainOutput,
 ) -> u32
-    ensures { spec.GivesOutput geometry.now sector_bytes phase.now first output.old output.new result }
+    ensures { output_spec.GivesOutput geometry.now sector_bytes phase.now first output.old output.new result }
 {
     onfi_calls::onfi_output_of(geometry, sector_bytes, phase, first, output)
 }

@@ -2,7 +2,7 @@
 ghost use Rattle.std.specs.Prelude.{◌≡◌, ℕ, [], None};
 ghost use Rattle.onfi_calls.specs.QueueRan.{GivesQueueRan};
 ghost use Rattle.onfi_calls.specs.Next.{GivesNext};
-ghost use Rattle.onfi_calls.specs.Queue as spec;
+ghost use Rattle.onfi_calls.specs.Queue as queue_spec;
 
 use onfi_calls::{PlainChannel, PlainGeometry, PlainLun, PlainPhase, PlainQueue, PlainWant};
 use std::alloc::Global;
@@ -10,8 +10,8 @@ use std::alloc::Global;
 /// Is [`onfi_queue_begin`](onfi_calls::onfi_queue_begin) for C.
 #[unsafe(no_mangle)]
 pub extern "C" fn onfi_queue_begin(queue: &mut PlainQueue) -> u32
-    ensures waiting { (plane_bits : ℕ) → spec.waiters_of plane_bits queue.new ≡ [] }
-    ensures newest { spec.newest_of queue.new ≡ None }
+    ensures waiting { (plane_bits : ℕ) → queue_spec.waiters_of plane_bits queue.new ≡ [] }
+    ensures newest { queue_spec.newest_of queue.new ≡ None }
     ensures number { result ≡ 0 }
 {
     onfi_calls::onfi_queue_begin(queue)
@@ -20,7 +20,7 @@ pub extern "C" fn onfi_queue_begin(queue: &mut PlainQueue) -> u32
 /// Is [`onfi_queue_accept`](onfi_calls::onfi_queue_accept) for C.
 #[unsafe(no_mangle)]
 pub extern "C" fn onfi_queue_accept(queue: &mut PlainQueue, want: &PlainWant) -> u32
-    ensures { spec.GivesAccepted queue.old queue.new want.now result }
+    ensures { queue_spec.GivesAccepted queue.old queue.new want.now result }
 {
     onfi_calls::onfi_queue_accept(queue, want)
 }
