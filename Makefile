@@ -132,7 +132,7 @@ try: bin/onfi_sim-unproved
 try-library: lib/unproved/libonfi.a
 
 try-test:
-	@$(kit)tools/try-test
+	@$(kit)tools/try-test --jobs $(JOBS)
 
 # For processors that the kit doesn't compile for: of the module that it compiles for x86-64.
 .PHONY: object

@@ -26,5 +26,3 @@ mod texts;
 mod three_calls;
 #[cfg(test)]
 mod timing;
-#[cfg(test)]
-mod whole;

@@ -52,7 +52,7 @@ fn is_plan_of_the_read(alloc: Global, last: Option<(&Problem, &Planned)>) -> boo
 
 // A gate that is always open.
 #[derive(Drop)]
-pub(crate) struct Open;
+struct Open;
 
 impl Gate for Open {
     fn before(&mut self, _channel: u8, _turn: u64) {}
@@ -67,7 +67,7 @@ fn open_replies(alloc: Global, setup: &Setup, host: u8) -> Result<(Poster, Inbox
 }
 
 // The sequencer of the channel, and its hosts.
-pub(crate) fn open_sequencer(
+fn open_sequencer(
     alloc: Global,
     setup: &Setup,
 ) -> Result<(Sequencer<SimChip>, [Host; 4]), AllocError>
