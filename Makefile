@@ -38,8 +38,11 @@ lib := lib$(below_target)
 sim := bin$(below_target)/onfi_sim
 dist := dist$(below_target)
 
-# One job for each processor, up to four; a job takes about a gigabyte of memory.
-JOBS ?= $(shell n=$$(nproc); echo $$((n < 4 ? n : 4)))
+# As many crates at a time as there are processors, up to four; a proof takes one to four gigabytes of memory.
+LANES ?= $(shell n=$$(nproc); echo $$((n < 4 ? n : 4)))
+# A further job of one proof loads the libraries once more: it pays where few stand below.
+JOBS ?= 2
+jobs_of = $(if $(word 9,$(call below,$(1))),1,$(JOBS))
 
 # Stands in the recipes that call the kit, so that make ends by this line as it comes to one of them, before anything of it is run.
 kit = $(if $(shell command -v rt),,$(error no Rattle kit in PATH, see README))
@@ -47,7 +50,7 @@ kit = $(if $(shell command -v rt),,$(error no Rattle kit in PATH, see README))
 .PHONY: plan try try-library try-test test library wheel install install-program install-library uninstall wrong-bodies clean clean-proofs help
 
 plan:
-	@$(if $(wildcard bin/onfi_sim),,$(kit))$(MAKE) --no-print-directory -j3 TARGET= bin/onfi_sim
+	@$(if $(wildcard bin/onfi_sim),,$(kit))$(MAKE) --no-print-directory -j$(LANES) TARGET= bin/onfi_sim
 	bin/onfi_sim plan < examples/one-read.onfi
 
 # A library is proved once those that it stands on are. KEEP=yes keeps its proofs too, for who changes a crate.
@@ -55,14 +58,14 @@ KEEP ?=
 define library
 crates/$(1)/out/proved: $(call proved,$(call below,$(1))) $(call sources_of,$(1))
 	@$$(kit)echo "proving $(1)"
-	@tools/prove library $(1) --jobs $(JOBS) $(if $(KEEP),--keep)
+	@tools/prove library $(1) --jobs $(call jobs_of,$(1)) $(if $(KEEP),--keep)
 	@touch $$@
 endef
 $(foreach crate,$(sort $(LIBRARIES) $(PROGRAM)),$(eval $(call library,$(crate))))
 
 $(sim): $(call proved,$(PROGRAM)) $(call sources_of,onfi_program) crates.txt $(if $(TARGET),$(wildcard targets/*.c))
 	@$(kit)echo "proving onfi_program$(TARGET:%= for %)"
-	@tools/prove program onfi_program --jobs $(JOBS) $(TARGET:%=--target %)
+	@tools/prove program onfi_program $(TARGET:%=--target %)
 	@mkdir -p $(@D)
 	@cp crates/onfi_program/out$(below_target)/onfi_program $@
 
@@ -70,11 +73,12 @@ $(sim): $(call proved,$(PROGRAM)) $(call sources_of,onfi_program) crates.txt $(i
 KIT := $(shell dirname $$(dirname $$(readlink -f $$(command -v rt || echo rt))))
 heap := $(if $(TARGET),targets/heap.c,$(KIT)/c/liblibc_c.a)
 
-library: $(lib)/libonfi.a $(lib)/libonfi.so
+library:
+	@$(kit)$(MAKE) --no-print-directory -j$(LANES) TARGET=$(TARGET) $(lib)/libonfi.a $(lib)/libonfi.so
 
 $(lib)/libonfi.a: $(call proved,$(LIBRARIES)) $(call sources_of,onfi_c) crates.txt $(if $(TARGET),$(heap))
 	@$(kit)echo "proving onfi_c$(TARGET:%= for %)"
-	@tools/prove static onfi_c --jobs $(JOBS) $(TARGET:%=--target %)
+	@tools/prove static onfi_c $(TARGET:%=--target %)
 	@tools/make-library archive crates/onfi_c/out$(below_target)/libonfi_c.a $(heap) $(lib) $(TARGET)
 
 $(lib)/libonfi.so: $(lib)/libonfi.a
@@ -132,13 +136,13 @@ try: bin/onfi_sim-unproved
 try-library: lib/unproved/libonfi.a
 
 try-test:
-	@$(kit)tools/try-test --jobs $(JOBS)
+	@$(kit)tools/try-test --jobs $(LANES)
 
 # For processors that the kit doesn't compile for: of the module that it compiles for x86-64.
 .PHONY: object
 object:
-	@$(kit)$(MAKE) --no-print-directory TARGET= lib/libonfi.a
-	@tools/keep-module onfi_c crates/onfi_c/out/kept --jobs $(JOBS)
+	@$(kit)$(MAKE) --no-print-directory -j$(LANES) TARGET= lib/libonfi.a
+	@tools/keep-module onfi_c crates/onfi_c/out/kept
 	@tools/retarget crates/onfi_c/out/kept/module.bc $(or $(TARGET),$(error make object asks for TARGET=riscv64, riscv32, armv7 or thumbv7em)) lib/$(TARGET)
 
 test:

@@ -41,7 +41,7 @@ class Makefile(unittest.TestCase):
         for target, asked in ((ARM, f"TARGET={ARM} PREFIX=/nowhere"), ("", "")):
             lines, below = support.make("-n", "-W", "crates.txt", "wheel", "install", *asked.split()).stdout, f"/{target}" if target else ""
             for line in (
-                "tools/prove static onfi_c --jobs",
+                "tools/prove static onfi_c",
                 f"tools/make-library shared lib{below} {target}\n",
                 f"tools/make-wheel lib{below}/libonfi.so dist{below}\n",
                 f"tools/install library lib{below}\n",
