@@ -3,12 +3,23 @@
 //! at most; as [`RulePlanner`] it stands under the trait of `onfi_plan`.
 #![tactic(auto)]
 
+mod begin;
 mod below;
 mod bus;
 mod choosing;
 mod dispatch;
+mod dispatcher;
+mod due_phase;
+mod fault;
+mod first;
 mod given;
+mod group_spans;
+mod kind_spans;
 mod left;
+mod line;
+mod line_left;
+mod lun_books;
+mod newest;
 mod next;
 mod next_turn;
 mod offer;
@@ -17,12 +28,16 @@ mod phase;
 mod planner;
 mod planning;
 mod ready;
+mod run;
+mod slot;
 mod text;
 mod turn;
 mod waiter;
 mod waiting;
 
 pub use dispatch::run_by_rule;
+pub use dispatcher::Dispatcher;
+pub use fault::{AcceptFault, RanFault};
 pub use next::{NextPhase, next_phase, next_phase_of};
 pub use planner::RulePlanner;
 pub use planning::plan_by_rule;
