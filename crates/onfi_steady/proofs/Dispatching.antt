@@ -42,7 +42,7 @@ use Rattle.onfi_steady.proofs.Starting.{Starts, erase_starts, own_starts}
 pub at_some : {A : Type 0} (P : A → Type 0) (o : Option A) (x : A) → o ≡ Some x → IfSome o P → P x
 at_some P o x e h = subst (λ z. IfSome z P) e h
 
-the_same : {A : Type 0} (x y : A) → Some x ≡ Some y → x ≡ y
+pub the_same : {A : Type 0} (x y : A) → Some x ≡ Some y → x ≡ y
 the_same x y h = cc
 
 -- what a LUN is known to keep
@@ -151,18 +151,18 @@ held_found timing books luns from o are small none h = by_option o h
     by_option (Some c) h = held_next timing books luns from c are small no_move h
 
 -- one LUN's requests
-on_push : (lun : ℕ) (ws : List Waiter) (w : Waiter) → w.want.lun ≡ lun → on_lun lun (ws ++ w ∷ []) ≡ on_lun lun ws ++ w ∷ []
+pub on_push : (lun : ℕ) (ws : List Waiter) (w : Waiter) → w.want.lun ≡ lun → on_lun lun (ws ++ w ∷ []) ≡ on_lun lun ws ++ w ∷ []
 on_push lun ws w e = filter-append (is_on lun) ws (w ∷ []) ∙ ap (λ z. on_lun lun ws ++ cond z (w ∷ []) []) (eq-eqb w.want.lun lun e)
 
-off_push : (lun : ℕ) (ws : List Waiter) (w : Waiter) → w.want.lun ≢ lun → on_lun lun (ws ++ w ∷ []) ≡ on_lun lun ws
+pub off_push : (lun : ℕ) (ws : List Waiter) (w : Waiter) → w.want.lun ≢ lun → on_lun lun (ws ++ w ∷ []) ≡ on_lun lun ws
 off_push lun ws w d = filter-append (is_on lun) ws (w ∷ []) ∙ (ap (λ z. on_lun lun ws ++ cond z (w ∷ []) []) (ne_eqb w.want.lun lun d) ∙ append-nil (on_lun lun ws))
 
 module _ (lun : ℕ) (ms : List Want) where
   abbrev pass : Waiter → Waiter
   pass = passed_by lun (greatest_number 0 ms)
 
-  same_want : (w : Waiter) → (pass w).want ≡ w.want
-  same_want w = elim (cases_Bool (is_on lun w)) [
+  pub pass_want : (w : Waiter) → (pass w).want ≡ w.want
+  pass_want w = elim (cases_Bool (is_on lun w)) [
     | inl k ↦ elim (cases_Bool (nat_lt w.want.id (greatest_number 0 ms))) [
       | inl q ↦ rw (k, q) refl
       | inr q ↦ rw (k, q) refl
@@ -171,7 +171,7 @@ module _ (lun : ℕ) (ms : List Want) where
   ]
 
   passed_on : (at : ℕ) (w : Waiter) → is_on at (pass w) ≡ is_on at w
-  passed_on at w = ap (λ (z : Want). z.lun == at) (same_want w)
+  passed_on at w = ap (λ (z : Want). z.lun == at) (pass_want w)
 
   abbrev stays : Waiter → Bool
   stays w = not (begins_with lun ms w)
@@ -222,7 +222,7 @@ module _ (lun : ℕ) (ms : List Want) where
   left_there n [] h = tt
   left_there n (w ∷ ws) h = elim (cases_Bool (begins_with lun ms w)) [
     | inl b ↦ rw b (left_there n ws h.1)
-    | inr b ↦ rw b (subst (λ (z : Want). z.lun < n) (sym (same_want w)) h.0, left_there n ws h.1)
+    | inr b ↦ rw b (subst (λ (z : Want). z.lun < n) (sym (pass_want w)) h.0, left_there n ws h.1)
   ]
 
 -- one LUN changed
@@ -262,6 +262,9 @@ set_same (y ∷ xs) (suc i) x e = ap (λ z. y ∷ z) (set_same xs i x e)
 
 pub states_changed : (luns : List LunBooks) (i : ℕ) (new : LunBooks) → states_in (slice_set luns i new) ≡ slice_set (states_in luns) i (state_in new.run)
 states_changed luns i new = map_set (λ (x : LunBooks). state_in x.run) luns i new
+
+pub state_there : (luns : List LunBooks) (i : ℕ) (l : LunBooks) → slice_get luns i ≡ Some l → slice_get (states_in luns) i ≡ Some (state_in l.run)
+state_there luns i l e = map_get (λ (x : LunBooks). state_in x.run) luns i l e
 
 -- one that runs what it ran
 pub states_kept : (luns : List LunBooks) (i : ℕ) (l new : LunBooks) → slice_get luns i ≡ Some l → new.run ≡ l.run → states_in (slice_set luns i new) ≡ states_in luns

@@ -22,3 +22,5 @@ pub mod Selecting
 pub mod Dispatching
 pub mod KindPlaces
 pub mod LunKept
+pub mod Changing
+pub mod Fair

@@ -21,7 +21,7 @@ use Rattle.onfi_steady.specs.Offer.{firsts, is_kind}
 use Rattle.onfi_steady.specs.Kept.{firsts_with}
 use Rattle.onfi_steady.specs.Next.{is_number}
 use Rattle.onfi_steady.specs.Waiting.{greatest_number, left_waiting, passed_by}
-use Rattle.onfi_steady.specs.Slots.{begins, begins_with, has_number, left_of, left_over, left_with, waiter_in, waiters_in, want_in, wants_in}
+use Rattle.onfi_steady.specs.Slots.{begins, begins_with, has_number, left_of, left_over, left_with, others_of, others_with, waiter_in, waiters_in, want_in, wants_in}
 use Rattle.onfi_steady.specs.LunBooks.{runs}
 use Rattle.onfi_steady.specs.Selecting.{has_newest}
 use Rattle.onfi_steady.proofs.Firsts.{firsts_push}
@@ -140,3 +140,24 @@ left_more lun b slots i d h = ap (left_of lun b) (take_more slots i d h) ∙ by_
 
     by_test : (xs : List Slot) (x : Slot) (t : Bool) → begins_with lun (begins b) x ≡ t → left_of lun b (xs ++ x ∷ []) ≡ (if not t then left_of lun b xs ++ left_over lun b.last x ∷ [] else left_of lun b xs)
     by_test xs x t e = ap (map (left_over lun b.last)) (filter-append (λ s. not (begins_with lun (begins b) s)) xs (x ∷ []) ∙ ap (λ z. filter (λ s. not (begins_with lun (begins b) s)) xs ++ cond (not z) (x ∷ []) []) e) ∙ pushed (filter (λ s. not (begins_with lun (begins b) s)) xs) x t
+
+-- one more of those that have another number
+module _ (id : ℕ) where
+  abbrev is_other : Slot → Bool
+  is_other s = not (s.id == id)
+
+  pub others_more : (slots : List Slot) (i : ℕ) (d : Slot) → i < length slots → others_of id (take (i + 1) slots) ≡ others_with id (others_of id (take i slots)) (get_or slots i d)
+  others_more slots i d h = ap (filter is_other) (take_more slots i d h) ∙ (filter-append is_other (take i slots) (get_or slots i d ∷ []) ∙ by_test (others_of id (take i slots)) (get_or slots i d) (is_other (get_or slots i d)))
+    where
+      by_test : (xs : List Slot) (x : Slot) (t : Bool) → xs ++ cond t (x ∷ []) [] ≡ (if t then xs ++ x ∷ [] else xs)
+      by_test xs x true = refl
+      by_test xs x false = append-nil xs
+
+  pub others_wait : (slots : List Slot) → waiters_in (others_of id slots) ≡ filter (λ (w : Waiter). not (w.want.id == id)) (waiters_in slots)
+  others_wait [] = refl
+  others_wait (s ∷ slots) = by_test (others_of id slots) (is_other s) (others_wait slots)
+    where
+      by_test : (rest : List Slot) (t : Bool) → waiters_in rest ≡ filter (λ (w : Waiter). not (w.want.id == id)) (waiters_in slots) →
+          waiters_in (cond t (s ∷ rest) rest) ≡ cond t (waiter_in s ∷ filter (λ (w : Waiter). not (w.want.id == id)) (waiters_in slots)) (filter (λ (w : Waiter). not (w.want.id == id)) (waiters_in slots))
+      by_test rest true h = ap (λ z. waiter_in s ∷ z) h
+      by_test rest false h = h

@@ -1,6 +1,6 @@
 -- A dispatcher: what is kept of a channel from call to call.
 use Rattle.std.specs.Prelude.{◌≡◌, ◌⊎◌, ℕ, ◌<◌, ◌≤◌, ◌==◌, ◌^◌, nat_lt, not, if◌then◌else◌, Bool, true, false, List, [], ◌∷◌, length, take, Option, Some, None, IfSome, slice_get}
-use Rattle.std.specs.List.{AllByRecursion as Each}
+use Rattle.std.specs.List.{AllByRecursion as Each, filter, list_any}
 use Rattle.onfi_timing.specs.declared.timing.Timing.{Timing}
 use Rattle.onfi_request.specs.declared.want.Want.{Want}
 use Rattle.onfi_problem.specs.declared.lun_state.LunState.{LunState}
@@ -8,17 +8,20 @@ use Rattle.onfi_problem.specs.Problem.{Problem}
 use Rattle.onfi_problem.specs.Moves.{IsMove, placed}
 use Rattle.onfi_steady.specs.declared.dispatcher.Dispatcher.{Dispatcher}
 use Rattle.onfi_steady.specs.declared.fault.AcceptFault.{AcceptFault}
-use Rattle.onfi_steady.specs.declared.fault.AcceptFault.TheVariants.{BadLun, BadOrder, Full}
+use Rattle.onfi_steady.specs.declared.fault.AcceptFault.TheVariants.{BadLun, BadOrder, Full, Waits}
 use Rattle.onfi_steady.specs.declared.fault.RanFault.{RanFault}
 use Rattle.onfi_steady.specs.declared.fault.RanFault.TheVariants.{NothingDue, TooLate, TooSoon}
-use Rattle.onfi_steady.specs.declared.line.Line.{Line}
+use Rattle.onfi_steady.specs.declared.fault.ReadyFault.{ReadyFault}
+use Rattle.onfi_steady.specs.declared.fault.ReadyFault.TheVariants.{BadLun as NoLun, NotInArray}
 use Rattle.onfi_steady.specs.declared.lun_books.LunBooks.{LunBooks}
 use Rattle.onfi_steady.specs.declared.newest.Newest.{Newest}
 use Rattle.onfi_steady.specs.declared.next.NextPhase.{NextPhase}
-use Rattle.onfi_steady.specs.declared.slot.Slot.{Slot}
-use Rattle.onfi_steady.specs.Waiting.{Books, begun, channel}
+use Rattle.onfi_steady.specs.declared.run.Run.{Run}
+use Rattle.onfi_steady.specs.declared.waiter.Waiter.{Waiter}
+use Rattle.onfi_steady.specs.Waiting.{Books, begun, channel, is_on}
+use Rattle.onfi_steady.specs.Offer.{ready_on}
 use Rattle.onfi_steady.specs.Next.{move_by}
-use Rattle.onfi_steady.specs.Slots.{AreSpansOf, is_line_below}
+use Rattle.onfi_steady.specs.Slots.{AreSpansOf, has_number, is_line_below, slots_in}
 use Rattle.onfi_steady.specs.LunBooks.{states_in}
 use Rattle.onfi_steady.specs.Selecting.{AreLuns, begun_at, can_run_at}
 
@@ -95,3 +98,50 @@ pub record IsBut (old new : Dispatcher) : Type 0 where
   pub bus_free : new.bus_free ≡ old.bus_free
   pub newest : newest_of new ≡ newest_of old
   pub luns : luns_of new ≡ luns_of old
+
+-- the array of what a LUN runs works: its next phase is the first post
+abbrev pub in_array : Run → Bool
+in_array r = if r.members == 0 then false else r.next == r.members
+
+abbrev pub array_refusal : Option LunBooks → Option ReadyFault
+array_refusal None = Some NoLun
+array_refusal (Some l) = if in_array l.run then None else Some NotInArray
+
+-- why a LUN isn't found ready: the first of these
+abbrev pub ready_refusal : Dispatcher → ℕ → Option ReadyFault
+ready_refusal d lun = array_refusal (slice_get (luns_of d) lun)
+
+-- a request of that number waits for the LUN
+abbrev pub is_request : ℕ → ℕ → Waiter → Bool
+is_request lun id w = if is_on lun w then w.want.id == id else false
+
+abbrev pub has_id : ℕ → Waiter → Bool
+has_id id w = w.want.id == id
+
+-- it waits no more
+abbrev pub cancelled : Books → ℕ → ℕ → Books
+cancelled books lun id = record { rules = books.rules; waiting = filter (λ w. not (is_request lun id w)) books.waiting; newest = books.newest }
+
+-- a request of that number went out, of one LUN; or none waits, and all is as it was
+abbrev pub IsCancelled : Timing → Books → ℕ → Dispatcher → Dispatcher → Bool → Type 0
+IsCancelled timing books id old new true = (lun : ℕ) × (list_any (is_request lun id) books.waiting ≡ true) × IsOf timing (cancelled books lun id) new
+IsCancelled timing books id old new false = (list_any (has_id id) books.waiting ≡ false) × (new ≡ old)
+
+-- a request waits before all others; no group passed it over
+abbrev pub accepted_again : Books → Want → Books
+accepted_again books want = record { rules = books.rules; waiting = record { want = want; passed = 0 } ∷ books.waiting; newest = books.newest }
+
+abbrev pub head_refusal : LunBooks → ℕ → Option AcceptFault
+head_refusal l id = if nat_lt l.line.count.of 64 then (if has_number (slots_in l.line) id then Some Waits else None) else Some Full
+
+abbrev pub again_line_refusal : ℕ → Option LunBooks → Option AcceptFault
+again_line_refusal id None = Some BadLun
+again_line_refusal id (Some l) = head_refusal l id
+
+-- why a request isn't taken in again: the first of these
+abbrev pub again_refusal : Dispatcher → Want → Option AcceptFault
+again_refusal d want = again_line_refusal want.id (slice_get (luns_of d) want.lun)
+
+-- of a LUN's requests that may begin it is the first
+abbrev pub StandsFirst : Books → Want → Type 0
+StandsFirst books want = slice_get (ready_on want.lun books.waiting) 0 ≡ Some (record { want = want; passed = 0 })

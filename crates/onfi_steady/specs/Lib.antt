@@ -10,3 +10,4 @@ pub mod Slots
 pub mod LunBooks
 pub mod Selecting
 pub mod Dispatcher
+pub mod Fair

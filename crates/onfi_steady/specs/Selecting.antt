@@ -137,3 +137,13 @@ pub record IsHeldChoice (books : Books) (luns : List LunBooks) (from : ℕ) (c :
   pub some : 1 ≤ lun.offer.group.members
   pub start : c.turn.start ≡ max from lun.run.since
   pub lowest : NoneBelow books (states_in luns) c.lun
+
+-- a request of that number waits for the LUN
+pub record IsHolder (luns : List LunBooks) (id lun : ℕ) : Type 0 where
+  pub books : LunBooks
+  pub there : slice_get luns lun ≡ Some books
+  pub has : has_number (slots_in books.line) id ≡ true
+
+-- .. for none of the LUNs below that number
+abbrev pub NoneHolds : List LunBooks → ℕ → ℕ → Type 0
+NoneHolds luns id below = (lun : ℕ) (l : LunBooks) → lun < below → slice_get luns lun ≡ Some l → has_number (slots_in l.line) id ≡ false

@@ -90,3 +90,11 @@ is_above (Some s) id = nat_lt s.id id
 -- a number is above that of the last one that waits
 abbrev pub is_line_below : Line → ℕ → Bool
 is_line_below line id = if line.count.of == 0 then true else is_above (slice_get line.slot (line.count.of - 1)) id
+
+-- those that have another number
+abbrev pub others_of : ℕ → List Slot → List Slot
+others_of id slots = filter (λ s. not (s.id == id)) slots
+
+-- .. with one more looked at
+abbrev pub others_with : ℕ → List Slot → Slot → List Slot
+others_with id list s = if not (s.id == id) then list ++ s ∷ [] else list

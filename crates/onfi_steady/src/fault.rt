@@ -12,6 +12,9 @@ pub enum AcceptFault {
     /// Its number isn't above that of the last request that waits for the LUN.
     #[error("its number isn't above that of the last request that waits for the LUN")]
     BadOrder,
+    /// A request of that number waits for the LUN.
+    #[error("a request of that number waits for the LUN")]
+    Waits,
 }
 
 /// Why no phase ran.
@@ -26,4 +29,15 @@ pub enum RanFault {
     /// The moment is 2^62 ns or later.
     #[error("the moment is 2^62 ns or later")]
     TooLate,
+}
+
+/// Why a LUN isn't found ready.
+#[derive(Clone, Copy, Debug, PartialEq, Eq, Error)]
+pub enum ReadyFault {
+    /// The channel has no such LUN.
+    #[error("the channel has no such LUN")]
+    BadLun,
+    /// Its array doesn't work.
+    #[error("the array of the LUN doesn't work")]
+    NotInArray,
 }

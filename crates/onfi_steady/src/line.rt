@@ -2,7 +2,7 @@
 ghost use Rattle.std.specs.Prelude.{◌≡◌, ◌+◌, ◌<◌, ◌≤◌, ◌∷◌, ◌++◌, [], length, nat_lt, not};
 
 use crate::begin::Begin;
-use crate::line_left::list_left;
+use crate::line_left::{list_left, list_others};
 use crate::slot::Slot;
 use arrayvec::ArrayVec;
 
@@ -23,7 +23,7 @@ pub struct Count {
 }
 
 impl Line {
-    ghost use Rattle.onfi_steady.specs.Slots.{is_line_below, left_of, slots_in};
+    ghost use Rattle.onfi_steady.specs.Slots.{is_line_below, left_of, others_of, slots_in};
 
     /// Nothing waits.
     pub fn new() -> Line
@@ -69,6 +69,26 @@ impl Line {
         self.count = Count {
             of: self.count.of + 1,
         };
+    }
+
+    /// One more waits, before the others.
+    pub fn push_first(&mut self, slot: Slot)
+        requires { self.old.count.of < 64 }
+        ensures { slots_in self.new ≡ slot ∷ slots_in self.old }
+    {
+        let mut list: ArrayVec<Slot, 64> = ArrayVec::new();
+        list.push(slot);
+        let _ = list.try_extend_from_slice(self.as_slice());
+        self.put_back(list.as_slice());
+    }
+
+    /// The one of that number waits no more.
+    pub fn take_out(&mut self, id: u64)
+        ensures { slots_in self.new ≡ others_of id (slots_in self.old) }
+    {
+        let mut others = ArrayVec::new();
+        list_others(&mut others, id, self.as_slice());
+        self.put_back(others.as_slice());
     }
 
     /// What begins on the LUN waits no more, and passes over what was accepted before one of it.

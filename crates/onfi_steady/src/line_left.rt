@@ -17,6 +17,28 @@ pub fn list_left(left: &mut ArrayVec<Slot, 64>, lun: u8, begin: &Begin, slots: &
     }
 }
 
+/// Puts those that have another number, in their order, into the empty list.
+pub fn list_others(others: &mut ArrayVec<Slot, 64>, id: u64, slots: &[Slot])
+    requires none { others.old.items ≡ [] }
+    requires few { length slots.now ≤ 64 }
+    ensures { others.new.items ≡ spec.others_of id slots.now }
+{
+    for slot in slots {
+        put_other(others, id, slot);
+    }
+}
+
+// Appends one to the others, where it has another number.
+fn put_other(others: &mut ArrayVec<Slot, 64>, id: u64, slot: &Slot)
+    requires { length others.old.items < 64 }
+    ensures items { others.new.items ≡ spec.others_with id others.old.items slot.now }
+    ensures few { length others.new.items ≤ length others.old.items + 1 }
+{
+    if slot.id != id {
+        others.push(*slot);
+    }
+}
+
 // Appends one to the others, where it waits on.
 fn put_left(left: &mut ArrayVec<Slot, 64>, lun: u8, begin: &Begin, slot: &Slot)
     requires { length left.old.items < 64 }

@@ -4,15 +4,17 @@ ghost use Rattle.onfi_timing.specs.declared.timing.Timing.{Timing as AnyTiming};
 ghost use Rattle.onfi_request.specs.declared.want.Want.{Want as AnyWant};
 ghost use Rattle.onfi_problem.specs.declared.lun_state.LunState.TheVariants.{Free};
 ghost use Rattle.onfi_group.specs.declared.rules.Rules.{Rules as AnyRules};
-ghost use Rattle.onfi_steady.specs.Slots.{AreSpansOf, IsBegin, slots_in, waiters_in};
+ghost use Rattle.onfi_steady.specs.Slots.{AreSpansOf, IsBegin, others_of, slots_in, waiters_in};
 ghost use Rattle.onfi_steady.specs.LunBooks.{HasBegun, HasGoneOn, IsLun, IsLunOffer, begin_of, state_in};
 ghost use Rattle.onfi_steady.specs.Selecting.{begun_on, can_run};
-ghost use Rattle.onfi_steady.specs.Dispatcher.{lun_refusal};
+ghost use Rattle.onfi_flight.specs.Flight.{ready_by};
+ghost use Rattle.onfi_steady.specs.Dispatcher.{head_refusal, in_array, lun_refusal};
 
 use crate::begin::Begin;
 use crate::fault::AcceptFault;
 use crate::kind_spans::KindSpans;
 use crate::line::Line;
+use crate::line_left::has_number;
 use crate::offer::{group_with, may_grow, oldest_of, pick_request};
 use crate::ready::list_slots;
 use crate::run::Run;
@@ -100,6 +102,26 @@ impl LunBooks {
         None
     }
 
+    /// Why no request of that number may wait before the others, if so.
+    pub fn head_refusal(&self, id: u64) -> Option<AcceptFault>
+        ensures { result ≡ head_refusal self.now id }
+    {
+        if self.line.is_full() {
+            return Some(AcceptFault::Full);
+        }
+        if has_number(self.line.as_slice(), id) {
+            return Some(AcceptFault::Waits);
+        }
+        None
+    }
+
+    /// Whether its array works: the next phase of what it runs is the first post.
+    pub fn is_in_array(&self) -> bool
+        ensures { result ≡ in_array self.now.run }
+    {
+        self.run.members != 0 && self.run.next == self.run.members
+    }
+
     /// Whether it goes on, or what it offers begins.
     pub fn can_run(&self, erase: bool) -> bool
         ensures { result ≡ can_run erase self.now }
@@ -130,6 +152,37 @@ impl LunBooks {
     {
         self.line.push(Slot::of(want));
         self.renew(rules, spans);
+    }
+
+    /// A request waits before the others.
+    pub fn accept_again(&mut self, rules: &Rules, spans: &KindSpans, want: &Want)
+        requires { self.old.line.count.of < 64 }
+        ensures line { waiters_in (slots_in self.new.line) ≡ record { want = want.now; passed = 0 } ∷ waiters_in (slots_in self.old.line) }
+        ensures run { self.new.run ≡ self.old.run }
+        ensures lun { (timing : AnyTiming) → AreSpansOf timing spans.now → IsLun timing rules.now self.old → IsLun timing rules.now self.new }
+    {
+        self.line.push_first(Slot::of(want));
+        self.renew(rules, spans);
+    }
+
+    /// The request of that number waits no more.
+    pub fn cancel(&mut self, rules: &Rules, spans: &KindSpans, id: u64)
+        ensures line { slots_in self.new.line ≡ others_of id (slots_in self.old.line) }
+        ensures run { self.new.run ≡ self.old.run }
+        ensures lun { (timing : AnyTiming) → AreSpansOf timing spans.now → IsLun timing rules.now self.old → IsLun timing rules.now self.new }
+    {
+        self.line.take_out(id);
+        self.renew(rules, spans);
+    }
+
+    /// Its array was done at that moment, in ns.
+    pub fn make_ready(&mut self, moment: u64)
+        requires { 1 ≤ self.old.run.members }
+        ensures line { self.new.line ≡ self.old.line }
+        ensures state { state_in self.new.run ≡ ready_by moment (state_in self.old.run) }
+        ensures lun { (timing : AnyTiming) (rules : AnyRules) → IsLun timing rules self.old → IsLun timing rules self.new }
+    {
+        self.run = self.run.ready_at(moment);
     }
 
     // Makes its offer anew, where it runs nothing.

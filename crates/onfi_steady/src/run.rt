@@ -39,6 +39,7 @@ impl Run {
     ghost use Rattle.onfi_group.specs.Group.{group_spans};
     ghost use Rattle.onfi_problem.specs.Moves.{lun_after};
     ghost use Rattle.onfi_problem.specs.declared.lun_state.LunState.TheVariants.{Free, Running};
+    ghost use Rattle.onfi_flight.specs.Flight.{ready_by};
     ghost use Rattle.onfi_steady.specs.Rule.{oldest as oldest_of};
     ghost use Rattle.onfi_steady.specs.Slots.{AreSpansOf, wants_in};
     ghost use Rattle.onfi_steady.specs.LunBooks.{IsGoing, runs, state_in};
@@ -58,6 +59,26 @@ impl Run {
             next: 0,
             rank: 0,
             erases: false,
+        }
+    }
+
+    /// The same, where its next phase may start at that moment, in ns, if not before.
+    pub fn ready_at(&self, moment: u64) -> Run
+        requires some { 1 ≤ self.now.members }
+        ensures state { state_in result ≡ ready_by moment (state_in self.now) }
+        ensures members { result.members ≡ self.now.members }
+        ensures going { (timing : AnyTiming) → IsGoing timing self.now → IsGoing timing result }
+    {
+        Run {
+            since: self.since.min(moment),
+            span: self.span,
+            gap: self.gap,
+            oldest: self.oldest,
+            member: self.member,
+            members: self.members,
+            next: self.next,
+            rank: self.rank,
+            erases: self.erases,
         }
     }
 
