@@ -9,13 +9,11 @@ pub fn none_starves()
 {}
 
 /// Books stay fair where a request comes whose number is above those that wait for its LUN.
-#[tactic(auto, using(crate::proofs::Fair::accepts_fairly))]
 pub fn accepting_is_fair()
     ensures { AcceptsFairly }
 {}
 
 /// Books stay fair where the phase runs that is next.
-#[tactic(auto, using(crate::proofs::Fair::runs_fairly))]
 pub fn running_is_fair()
     ensures { RunsFairly }
 {}
