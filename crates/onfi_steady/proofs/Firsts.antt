@@ -61,7 +61,7 @@ pushed w x ready true false h k = ap (λ z. w ∷ z) (filter-append (beside w) r
 pushed w x ready false true h k = rw (any_beside w x h ready ∙ k) refl
 pushed w x ready false false h k = rw (any_beside w x h ready ∙ k) (ap (λ z. w ∷ z) (filter-append (beside w) ready (x ∷ []) ∙ ap (λ z. filter (beside w) ready ++ cond (not z) (x ∷ []) []) h))
 
-firsts_push : (ws : List Waiter) (x : Waiter) → firsts (ws ++ x ∷ []) ≡ (if list_any (is_behind x) (firsts ws) then firsts ws else firsts ws ++ x ∷ [])
+pub firsts_push : (ws : List Waiter) (x : Waiter) → firsts (ws ++ x ∷ []) ≡ (if list_any (is_behind x) (firsts ws) then firsts ws else firsts ws ++ x ∷ [])
 firsts_push [] x = refl
 firsts_push (w ∷ ws) x = ap (λ z. w ∷ filter (beside w) z) (firsts_push ws x) ∙ pushed w x (firsts ws) _ _ refl refl
 

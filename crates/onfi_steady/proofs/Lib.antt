@@ -17,3 +17,10 @@ pub mod OneToken
 pub mod EachLun
 pub mod Works
 pub mod Showing
+pub mod Slots
+pub mod Selecting
+pub mod Dispatching
+pub mod KindPlaces
+pub mod LunKept
+pub mod Changing
+pub mod Fair

@@ -13,7 +13,7 @@ use Rattle.onfi_steady.specs.Kept.{IsFirstBelow, IsHeldAt, IsHeldBy, NoneBelow}
 use Rattle.onfi_steady.proofs.NextMove.{first_given, move_given, none_given}
 use Rattle.onfi_steady.proofs.NextHeld.{due_given, due_held, first_held, held_is, idle}
 
-second : (a b s t : ℕ) (xs ys : List ℕ) → a ∷ s ∷ xs ≡ b ∷ t ∷ ys → s ≡ t
+pub second : (a b s t : ℕ) (xs ys : List ℕ) → a ∷ s ∷ xs ≡ b ∷ t ∷ ys → s ≡ t
 second a b s t xs ys h = cc
 
 module _ (books : Books) (small : All (λ w. w.want.plane ≤ 3) books.waiting) (p : Problem) (rules : p.rules ≡ books.rules) (wants : p.wants ≡ wants_of books.waiting) where

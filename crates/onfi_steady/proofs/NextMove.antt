@@ -105,7 +105,7 @@ module _ (books : Books) (small : All (λ w. w.want.plane ≤ 3) books.waiting) 
     given_at : (lun : ℕ) (c : Candidate) → IsGivenBy books p lun c → IsGivenBy books p c.lun c
     given_at lun c is = subst (λ z. IsGivenBy books p z c) (sym is.lun) is
 
-    last_or_earlier : (P : Move → Type 0) (i : ℕ) (m : Move) → given_move books p i ≡ Some m → P m →
+    pub last_or_earlier : (P : Move → Type 0) (i : ℕ) (m : Move) → given_move books p i ≡ Some m → P m →
         ((lun : ℕ) (n : Move) → lun < i → given_move books p lun ≡ Some n → P n) → (lun : ℕ) (n : Move) → lun < i + 1 →
         given_move books p lun ≡ Some n → P n
     last_or_earlier P i m e holds earlier lun n h q = elim (cases_eq lun i) [
@@ -182,7 +182,7 @@ module _ (books : Books) (small : All (λ w. w.want.plane ≤ 3) books.waiting) 
       ],
     )
 
-    past : (group : List Waiter → List Want) (lun : ℕ) (n : Move) → given_by group books lun (slice_get p.luns lun) ≡ Some n → lun < length p.luns
+    pub past : (group : List Waiter → List Want) (lun : ℕ) (n : Move) → given_by group books lun (slice_get p.luns lun) ≡ Some n → lun < length p.luns
     past group lun n h = by_state (slice_get p.luns lun) refl h
       where
         by_state : (o : Option LunState) → slice_get p.luns lun ≡ o → given_by group books lun o ≡ Some n → lun < length p.luns

@@ -50,7 +50,11 @@ pub record AreKnown (books : Books) (luns : List LunState) (offers : List Offer)
   pub latest : newest ≡ books.newest
   pub offered : AreOffered books luns offers
 
--- one more of a LUN's requests that may begin
+-- one more of those that may begin
+abbrev pub firsts_with : List Waiter → Waiter → List Waiter
+firsts_with ready w = if list_any (λ v. on_block v.want w.want) ready then ready else ready ++ w ∷ []
+
+-- .. of a LUN's
 abbrev pub ready_with : ℕ → List Waiter → Waiter → List Waiter
 ready_with lun ready w = if is_on lun w then (if list_any (λ v. on_block v.want w.want) ready then ready else ready ++ w ∷ []) else ready
 

@@ -6,3 +6,8 @@ pub mod Waiting
 pub mod Offer
 pub mod Next
 pub mod Kept
+pub mod Slots
+pub mod LunBooks
+pub mod Selecting
+pub mod Dispatcher
+pub mod Fair

@@ -67,7 +67,8 @@ fn earliest_kept(known: Option<u64>, timing: &Timing, from: u64, state: &LunStat
     }
 }
 
-fn earlier(known: Option<u64>, at: u64) -> u64
+/// The earlier of a time that is known, where there is one, and another one.
+pub fn earlier(known: Option<u64>, at: u64) -> u64
     ensures { result ≡ earlier known at }
 {
     match known {

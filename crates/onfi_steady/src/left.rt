@@ -34,7 +34,8 @@ fn settle(waiting: &mut ArrayVec<Waiter, 64>, at: usize, lun: u8, members: &[Wan
     }
 }
 
-fn greatest_number(members: &[Want]) -> u64
+/// The greatest of the numbers of these members; 0 where there is none.
+pub fn greatest_number(members: &[Want]) -> u64
     ensures { result ≡ greatest_number 0 members.now }
 {
     let mut greatest = 0u64;

@@ -3,12 +3,25 @@
 //! at most; as [`RulePlanner`] it stands under the trait of `onfi_plan`.
 #![tactic(auto)]
 
+mod begin;
 mod below;
 mod bus;
 mod choosing;
 mod dispatch;
+mod dispatcher;
+mod due_phase;
+mod fault;
+mod finding;
+mod first;
 mod given;
+mod group_spans;
+mod kind_spans;
+mod laws;
 mod left;
+mod line;
+mod line_left;
+mod lun_books;
+mod newest;
 mod next;
 mod next_turn;
 mod offer;
@@ -17,12 +30,17 @@ mod phase;
 mod planner;
 mod planning;
 mod ready;
+mod run;
+mod slot;
 mod text;
 mod turn;
 mod waiter;
 mod waiting;
 
 pub use dispatch::run_by_rule;
+pub use dispatcher::Dispatcher;
+pub use fault::{AcceptFault, RanFault, ReadyFault};
+pub use laws::{accepting_is_fair, none_starves, running_is_fair};
 pub use next::{NextPhase, next_phase, next_phase_of};
 pub use planner::RulePlanner;
 pub use planning::plan_by_rule;

@@ -86,9 +86,12 @@ pub fn turn_of_begin(
     }
 }
 
-fn kind_of(members: &[Want]) -> Kind
-    requires { 1 ≤ length members.now }
+/// What a group's members share is that of its first.
+pub fn kind_of(members: &[Want]) -> Kind
     ensures { result ≡ kind_of members.now }
 {
-    members[0].kind
+    match members.first() {
+        Some(member) => member.kind,
+        None => Kind::Read,
+    }
 }

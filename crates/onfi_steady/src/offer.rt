@@ -103,8 +103,8 @@ fn erase_group(rules: &Rules, ready: &[Waiter], is_asked: bool) -> ArrayVec<Want
     }
 }
 
-// The request that a LUN turns to, of those that may begin.
-fn pick_request(ready: &[Waiter]) -> Option<Waiter>
+/// The request that a LUN turns to, of those that may begin.
+pub fn pick_request(ready: &[Waiter]) -> Option<Waiter>
     ensures { result ≡ turned_to ready.now }
 {
     if let Some(waiter) = oldest_due(ready) {
@@ -126,15 +126,15 @@ fn oldest_due(ready: &[Waiter]) -> Option<Waiter>
     ready.iter().copied().find(|waiter| waiter.is_due())
 }
 
-// The oldest of a kind.
-fn oldest_of(ready: &[Waiter], kind: Kind) -> Option<Waiter>
+/// The oldest of a kind.
+pub fn oldest_of(ready: &[Waiter], kind: Kind) -> Option<Waiter>
     ensures { result ≡ find (is_kind_of kind) ready.now }
 {
     ready.iter().copied().find(|waiter| waiter.is_kind(kind))
 }
 
-// A request with its mates, by rising plane.
-fn group_with(rules: &Rules, ready: &[Waiter], head: Option<Waiter>) -> ArrayVec<Want, 4>
+/// A request with its mates, by rising plane.
+pub fn group_with(rules: &Rules, ready: &[Waiter], head: Option<Waiter>) -> ArrayVec<Want, 4>
     ensures { result.items ≡ group_with rules.now ready.now head }
 {
     let mut members = ArrayVec::new();
@@ -221,8 +221,8 @@ fn is_same_row(rules: &Rules, head: &Want, member: &Want) -> bool
     !rules.strict || member.block >> rules.plane_bits == head.block >> rules.plane_bits
 }
 
-// Whether more mates may come.
-fn may_grow(rules: &Rules, head: Option<Waiter>, group: &[Want]) -> bool
+/// Whether more mates may come.
+pub fn may_grow(rules: &Rules, head: Option<Waiter>, group: &[Want]) -> bool
     ensures { result ≡ may_grow rules.now head group.now }
 {
     match head {

@@ -4,9 +4,11 @@ ghost use Rattle.std.specs.Prelude.{◌≡◌, ◌+◌, ◌<◌, ◌≤◌, [], 
 ghost use Rattle.std.specs.List.{list_any};
 ghost use Rattle.onfi_timing.specs.declared.kind.Kind.TheVariants.{Read};
 ghost use Rattle.onfi_group.specs.Group.{on_block};
-ghost use Rattle.onfi_steady.specs.Offer.{is_kind, on_lun, ready_on};
-ghost use Rattle.onfi_steady.specs.Kept.{is_read_on, ready_with};
+ghost use Rattle.onfi_steady.specs.Offer.{firsts, is_kind, on_lun, ready_on};
+ghost use Rattle.onfi_steady.specs.Kept.{firsts_with, is_read_on, ready_with};
+ghost use Rattle.onfi_steady.specs.Slots.{waiters_in};
 
+use crate::slot::Slot;
 use crate::waiter::Waiter;
 use arrayvec::ArrayVec;
 use onfi_request::Want;
@@ -41,6 +43,36 @@ fn put(ready: &mut ArrayVec<Waiter, 64>, lun: u8, waiter: &Waiter) -> bool
     }
     if !has_block(ready.as_slice(), &waiter.want) {
         ready.push(*waiter);
+    }
+    waiter.is_kind(Kind::Read)
+}
+
+/// Puts those of a LUN's requests that may begin, oldest first, into the empty list. Answers whether a read waits, be it ready
+/// or not.
+pub fn list_slots(ready: &mut ArrayVec<Waiter, 64>, waiting: &[Slot]) -> bool
+    requires none { ready.old.items ≡ [] }
+    requires few { length waiting.now ≤ 64 }
+    ensures ready { ready.new.items ≡ firsts (waiters_in waiting.now) }
+    ensures reads { result ≡ list_any (is_kind Read) (waiters_in waiting.now) }
+{
+    let mut reads = false;
+    for slot in waiting {
+        if put_first(ready, slot.waiter()) {
+            reads = true;
+        }
+    }
+    reads
+}
+
+// Appends one to the others, where none of them is on its block. Answers whether it is a read.
+fn put_first(ready: &mut ArrayVec<Waiter, 64>, waiter: Waiter) -> bool
+    requires { length ready.old.items < 64 }
+    ensures items { ready.new.items ≡ firsts_with ready.old.items waiter }
+    ensures few { length ready.new.items ≤ length ready.old.items + 1 }
+    ensures read { result ≡ is_kind Read waiter }
+{
+    if !has_block(ready.as_slice(), &waiter.want) {
+        ready.push(waiter);
     }
     waiter.is_kind(Kind::Read)
 }

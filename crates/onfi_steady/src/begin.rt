@@ -1,0 +1,59 @@
+//! A group that may begin on a LUN, kept as numbers.
+ghost use Rattle.std.specs.Prelude.{◌≡◌, ◌<◌, ◌≤◌, ◌^◌, length};
+
+use crate::kind_spans::KindSpans;
+use crate::left::greatest_number;
+use crate::next_turn::kind_of;
+use crate::own::oldest;
+use crate::slot::{Slot, slots_of};
+use crate::turn::start_rank;
+use onfi_request::Want;
+
+/// What begins, and what of its first command stays while it waits; without members nothing begins.
+#[repr(C)]
+#[derive(Clone, Copy)]
+pub struct Begin {
+    pub member: [Slot; 4],
+    /// How long its first command takes, in ns.
+    pub cmd: u64,
+    /// The least number of its requests.
+    pub oldest: u64,
+    /// The greatest number of its requests.
+    pub last: u64,
+    pub members: u8,
+    /// Where it stands by what it does.
+    pub rank: u8,
+    ghost four: { length member ≡ 4 },
+    ghost few: { members ≤ 4 },
+    ghost short: { cmd < 2 ^ 50 },
+}
+
+impl Begin {
+    ghost use Rattle.onfi_timing.specs.declared.timing.Timing.{Timing as AnyTiming};
+    ghost use Rattle.onfi_steady.specs.Slots.{AreSpansOf, IsBegin, begins};
+
+    /// Of these members, by rising plane.
+    pub fn of(spans: &KindSpans, members: &[Want]) -> Begin
+        requires { length members.now ≤ 4 }
+        ensures begin { (timing : AnyTiming) → AreSpansOf timing spans.now → IsBegin timing members.now result }
+        ensures count { result.members ≡ length members.now }
+    {
+        let kind = kind_of(members);
+        Begin {
+            member: slots_of(members),
+            cmd: spans.of_kind(kind).cmd,
+            oldest: oldest(members),
+            last: greatest_number(members),
+            members: members.len() as u8,
+            rank: start_rank(kind.operation()),
+        }
+    }
+
+    /// Its members.
+    pub fn members(&self) -> &[Slot]
+        ensures value { result.now ≡ begins self.now }
+        ensures few { length result.now ≤ 4 }
+    {
+        &self.member[..usize::from(self.members)]
+    }
+}
