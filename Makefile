@@ -2,7 +2,7 @@
 #                       so that after a change rt check proves what changed; it takes a third more
 # make try              builds bin/onfi_sim-unproved in two minutes, and runs it: SCRIPT=FILE is its input, WORDS=".." its command
 #                       line; else it plans the same
-# make try-library      builds lib/unproved/libonfi.a and libonfi.so in two minutes, which those of make library replace without a change
+# make try-library      builds lib/unproved/libonfi.a and libonfi.so in a minute, which those of make library replace without a change
 # make try-test         builds these and the tests unproved, and plays all cases, worked rows, tests, examples and messages, in ten
 #                       minutes on four processors; make test proves
 # make library          proves and builds lib/libonfi.a and lib/libonfi.so, for C and for Python
