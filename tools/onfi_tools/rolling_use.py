@@ -15,7 +15,7 @@ from onfi_tools.rolling_ways import PLANS
 ROOT = Path(__file__).resolve().parent.parent.parent
 SOURCES = ROOT / "examples/simulator/rolling"
 # What it shares with the driver of examples/c; and what of both calls the library.
-SHARED = ("firmware_board.c", "firmware_choice.c", "firmware_host.c", "firmware_rule.c")
+SHARED = ("firmware_choice.c", "firmware_host.c", "firmware_rule.c")
 OF_THE_LIBRARY = ("firmware_choice.c", "library.c")
 STRICT = ("-std=c99", "-O2", "-Wall", "-Wextra", "-Werror", "-pedantic")
 
@@ -153,9 +153,11 @@ def sources_of(is_with_library: bool) -> List[Path]:
     return [source for source in sources if is_with_library or source.name not in OF_THE_LIBRARY]
 
 
-def build(made: Path, library: Optional[Path]) -> Path:
-    """The simulator; without a library it has greedy ways alone. ValueError says what the compiler said."""
+def build(made: Path, library: Optional[Path], own: Optional[Path] = None) -> Path:
+    """The simulator, with a way of one's own where a file has one; without a library it has greedy ways alone. ValueError says what the compiler said."""
     line = [os.environ.get("CC", "cc"), *STRICT, f"-I{ROOT / 'include'}"]
+    if own:
+        line += ["-Wno-error", "-DWITH_OWN_WAY", f"-I{SOURCES}", str(own)]
     if library is None:
         line.append("-DWITHOUT_LIBRARY")
     elif not (library / "libonfi.a").is_file():
@@ -165,6 +167,11 @@ def build(made: Path, library: Optional[Path]) -> Path:
     if ran.returncode:
         raise ValueError(ran.stderr)
     return made
+
+
+def ways_of(program: Path) -> List[str]:
+    """All ways that a built simulator has; one's own comes first."""
+    return subprocess.run([str(program), "ways"], capture_output=True, text=True, check=True).stdout.split()
 
 
 def output_of(program: Path, of: Configuration, requests: int, asked: Asked, *words: str) -> str:
@@ -179,14 +186,14 @@ def output_of(program: Path, of: Configuration, requests: int, asked: Asked, *wo
 def run_way(program: Path, of: Configuration, way: str, asked: Asked) -> Figures:
     """What comes of a configuration by a way."""
     lines = output_of(program, of, asked.requests_of(of), asked, "way", way).splitlines()
-    return {name: float(number) for name, number in (line.split() for line in lines)}
+    return {name: float(number) for name, number, _ in (line.split() for line in lines)}
 
 
 @lru_cache(maxsize=None)
 def bounds_there(program: Path, of: Configuration, asked: Asked) -> Dict[str, float]:
     """The throughputs that no scheduler passes there, of a run of the same requests."""
     answers = asked.requests_of(of)
-    text = output_of(program, of, requests_for(answers, of.depth), asked, "source", "yes")
+    text = output_of(program, of, requests_for(answers, of.depth), asked, "print", "requests")
     array = float(of.array.split("-")[0]) if of.told else 1
     return bounds_of(*read_source(text, of.luns, of.depth, array), answers)
 
