@@ -476,6 +476,16 @@ class Tables(unittest.TestCase):
         self.assertEqual(path.read_text().splitlines()[:-1], lines)
         self.assertEqual(Rows(path).found[key_of(of[1], BASE, ASKED)], both[1].by_way[BASE])
 
+    def test_a_file_keeps_its_columns(self) -> None:
+        """Of a run what the file has columns for; of a way of one's own nothing, since it may be another one the next time."""
+        path = Path(ROOM.name) / "columns.csv"
+        head = ",".join([*Configuration._fields, "way", "requests", "seed", "limit", "answered", "rate"])
+        path.write_text(head + "\n")
+        figures: Figures = {"rate": 2, "read_50": 3, "answered": 1}
+        for way in ("fifo", "oldest"):
+            Rows(path).keep(key_of(TWELVE[0], way, ASKED), figures)
+        self.assertEqual([line.split(",")[8:] for line in path.read_text().splitlines()[1:]], [["fifo", "200", "3", "0", "1", "2"]])
+
     def test_the_tool(self) -> None:
         for words, count in ((["--quick"], 9), (["--workload", "erases"], 9), (["--quick", "--workload", "reads-4k"], 2)):
             ran = support.run_tool("bench", "rolling", *words, "--ways", "fifo", "--requests", "50")

@@ -10,7 +10,7 @@ from pathlib import Path
 from typing import Dict, Iterable, List, NamedTuple, Optional, Sequence, Tuple
 
 from onfi_tools.channel_bound import bounds_of, read_source, requests_for
-from onfi_tools.rolling_ways import PLANS
+from onfi_tools.rolling_ways import PLANS, WAYS
 
 ROOT = Path(__file__).resolve().parent.parent.parent
 SOURCES = ROOT / "examples/simulator/rolling"
@@ -82,25 +82,31 @@ def key_of(of: Configuration, way: str, asked: Asked) -> Key:
 
 
 class Rows:
-    """All figures in a file, a run a line, written as they come. A run that stands there already isn't run again."""
+    """All figures in a file, a run a line, written as they come, in the columns that it has. A run that stands there already isn't run again.
+
+    Ways of one's own aren't kept: what they do may be another thing the next time.
+    """
 
     def __init__(self, path: Optional[Path]) -> None:
         self.path = path
         self.found: Dict[Key, Figures] = {}  # also where there is no file: what is asked for twice is run once
+        self.names: List[str] = []
         if path and path.is_file():
             names, *rows = csv.reader(path.read_text().splitlines())
             start = names.index("answered")
-            self.found = {tuple(row[:start]): dict(zip(names[start:], map(float, row[start:]))) for row in rows}
+            self.names = names[start:]
+            self.found = {tuple(row[:start]): dict(zip(self.names, map(float, row[start:]))) for row in rows}
 
     def keep(self, key: Key, figures: Figures) -> None:
-        if key in self.found:
+        if key in self.found or key[len(Configuration._fields)] not in WAYS:
             return
-        head = "" if self.found else ",".join([*Configuration._fields, "way", "requests", "seed", "limit", *figures]) + "\n"
+        head = "" if self.names else ",".join([*Configuration._fields, "way", "requests", "seed", "limit", *figures]) + "\n"
+        self.names = self.names or list(figures)
         self.found[key] = figures
         if not self.path:
             return
         with open(self.path, "a") as file:
-            file.write(head + ",".join([*key, *(f"{number:.12g}" for number in figures.values())]) + "\n")
+            file.write(head + ",".join([*key, *(f"{figures[name]:.12g}" for name in self.names)]) + "\n")
 
 
 TWELVE = [

@@ -34,14 +34,20 @@ static void cut(row *row)
     }
 }
 
-/* The next row that isn't empty; false where the file ends. */
+static void skip_line(FILE *file)
+{
+    int byte = fgetc(file);
+    while (byte != '\n' && byte != EOF)
+        byte = fgetc(file);
+}
+
+/* The next row that isn't empty; false where the file ends. What a line has past the room for its text isn't looked at. */
 static bool read_row(FILE *file, row *row, uint64_t *line)
 {
     while (fgets(row->text, sizeof row->text, file)) {
-        bool is_whole = strchr(row->text, '\n') != NULL;
         ++*line;
-        for (int rest = is_whole ? '\n' : fgetc(file); rest != '\n' && rest != EOF;)
-            rest = fgetc(file);
+        if (!strchr(row->text, '\n'))
+            skip_line(file);
         cut(row);
         if (row->fields > 1 || *row->field[0])
             return true;
@@ -70,13 +76,12 @@ static bool put_fields(const row *row, size_t from, size_t count, uint64_t most,
 /* Of its words or their first letters. */
 static bool put_kind(const char *text, uint8_t *kind)
 {
-    static const char *const names[KINDS] = {[ONFI_READ] = "read", [ONFI_PROGRAM] = "program", [ONFI_ERASE] = "erase"};
     char small[MOST_LINE];
     size_t length = strlen(text);
     for (size_t at = 0; at <= length; at++)
         small[at] = (char)tolower((unsigned char)text[at]);
     for (*kind = 0; *kind < KINDS; ++*kind)
-        if (!strcmp(names[*kind], small) || (length == 1 && names[*kind][0] == *small))
+        if (!strcmp(KIND_NAMES[*kind], small) || (length == 1 && KIND_NAMES[*kind][0] == *small))
             return true;
     return false;
 }

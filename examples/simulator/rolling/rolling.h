@@ -55,6 +55,8 @@ typedef struct {
     uint16_t slack; /* by how many thousandths plans in which requests end early may end later; OF_THE_WAY: as its way says */
 } setup;
 
+/* read, program, erase. */
+extern const char *const KIND_NAMES[KINDS];
 /* The workload of that name; false where there is none. */
 bool put_workload(const char *name, unsigned *workload);
 /* Puts timing and rules of a device by name, at so many ns a byte, for the workload; false where there is no such device. */

@@ -45,8 +45,6 @@ static uint64_t next_event(const run *r)
     return told < arrival ? told : arrival;
 }
 
-static const char *const KIND_NAMES[KINDS] = {[ONFI_READ] = "read", [ONFI_PROGRAM] = "program", [ONFI_ERASE] = "erase"};
-
 static void print_answer(const run *r, const request *answered, uint64_t end)
 {
     const onfi_want *want = &answered->want;

@@ -79,7 +79,7 @@ onfi_want next_want(source *s)
     return want;
 }
 
-static const char *const KIND_NAMES[KINDS] = {[ONFI_READ] = "read", [ONFI_PROGRAM] = "program", [ONFI_ERASE] = "erase"};
+const char *const KIND_NAMES[KINDS] = {[ONFI_READ] = "read", [ONFI_PROGRAM] = "program", [ONFI_ERASE] = "erase"};
 
 void print_source(const setup *setup, FILE *out)
 {
