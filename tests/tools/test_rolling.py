@@ -384,6 +384,16 @@ class Plans(Greedy):
             for way in self.ways:
                 self.assertEqual(len(run_load(self.program, Path(ROOM.name), load, way).answers), len(load.operations), way)
 
+    def test_the_line_of_the_page(self) -> None:
+        """By which a C compiler alone makes the simulator with a way of one's own."""
+        line = re.search(r"^    (cc .*) lib/libonfi.a -lm -o rolling$", (SOURCES / "README.md").read_text(), re.MULTILINE)
+        archive = support.library(Path(ROOM.name))
+        assert line and archive
+        made = Path(ROOM.name) / "by-hand"
+        subprocess.run(f"{line[1]} {archive}/libonfi.a -lm -o {made}", shell=True, cwd=support.ROOT, check=True)
+        for way in ("oldest", *self.ways):
+            self.assertEqual(run_way(made, TWELVE[0], way, ASKED._replace(requests=20))["answered"], 18, way)
+
     def test_plans_fill_the_planes_by_hand(self) -> None:
         for way in self.ways:
             figures = run_way(self.program, Configuration("tlc", "sequential", 2, luns=1), way, ASKED)
@@ -487,7 +497,9 @@ class Tables(unittest.TestCase):
         self.assertEqual([line.split(",")[8:] for line in path.read_text().splitlines()[1:]], [["fifo", "200", "3", "0", "1", "2"]])
 
     def test_the_tool(self) -> None:
-        for words, count in ((["--quick"], 9), (["--workload", "erases"], 9), (["--quick", "--workload", "reads-4k"], 2)):
+        """Each table has each way, also one of one's own."""
+        own = ["--own", str(SOURCES / "own/oldest.c")]
+        for words, count in ((["--quick", *own], 9), (["--workload", "erases"], 9), (["--quick", "--workload", "reads-4k"], 2)):
             ran = support.run_tool("bench", "rolling", *words, "--ways", "fifo", "--requests", "50")
             self.assertEqual((ran.returncode, ran.stderr), (0, ""))
             tables = [part.splitlines() for part in ran.stdout.split("\n\n")][:-1]
@@ -495,6 +507,7 @@ class Tables(unittest.TestCase):
             for rows in tables:
                 self.assertEqual(len({row.count("|") for row in rows}), 1, rows[0])
                 self.assertGreater(len(rows), 2)
+                self.assertTrue("oldest" in "\n".join(rows) or "--own" not in words, rows)
 
 
 def channel(luns: int = 1, depth: int = 1, planes: int = 4) -> Channel:

@@ -100,6 +100,13 @@ static void note_step(run *r, const step *step)
     r->mind.plan.at++;
 }
 
+/* Notes what is wrong otherwise than with a step: of the oldest request that waits. */
+static void note_wrong(run *r, const char *what)
+{
+    const request *oldest = r->machine.waiting_count ? &r->machine.waiting[0] : NULL;
+    *r->wrong = (fault){.what = what, .time = r->machine.now, .lun = oldest ? oldest->want.lun : 0, .request = oldest ? oldest->want.id : NEVER};
+}
+
 /* Runs a legal step, and counts what came of it. */
 static void run_next(run *r, const step *step)
 {
@@ -119,13 +126,8 @@ static void run_next(run *r, const step *step)
         print_answer(r, &answered, p.end);
         count_answer(r, &answered, p.end);
     }
-}
-
-/* Notes what is wrong otherwise than with a step: of the oldest request that waits. */
-static void note_wrong(run *r, const char *what)
-{
-    const request *oldest = r->machine.waiting_count ? &r->machine.waiting[0] : NULL;
-    *r->wrong = (fault){.what = what, .time = r->machine.now, .lun = oldest ? oldest->want.lun : 0, .request = oldest ? oldest->want.id : NEVER};
+    if (r->judge.bus_free != p.end || r->judge.answered != r->answered)
+        note_wrong(r, "the judge has another end of the phase, or counts other answers");
 }
 
 /* Runs what is next, or waits for what comes to be known before it could start. */
@@ -151,13 +153,6 @@ static void turn(run *r)
         note_wrong(r, "requests are left, and nothing is done");
 }
 
-/* What the judge has kept, and the machine, is the same. */
-static void compare_books(run *r)
-{
-    if (r->judge.answered != r->answered || r->judge.bus_free != r->machine.bus_free)
-        note_wrong(r, "the judge has counted other answers, or another end");
-}
-
 bool simulate(const setup *setup, const way *way, const printed *to, figures *figures, fault *wrong)
 {
     run *r = malloc(sizeof *r);
@@ -171,8 +166,6 @@ bool simulate(const setup *setup, const way *way, const printed *to, figures *fi
     r->machine.setup = setup;
     while (!wrong->what && r->answered < setup->requests)
         turn(r);
-    if (!wrong->what)
-        compare_books(r);
     figures->busy = r->busy - figures->busy;
     figures->planning = r->mind.planning;
     free(r);
