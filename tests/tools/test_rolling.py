@@ -305,7 +305,7 @@ class OwnLoads(unittest.TestCase):
     def test_what_may_join_by_hand(self) -> None:
         """Of page 3 of LUN 0: plane 0, the same plane, plane 1, plane 2 of a page more, plane 2, and an erase."""
         blocks = [("read", 0, 0, 3), ("read", 0, 4, 3), ("read", 0, 1, 3), ("read", 0, 2, 4), ("read", 0, 2, 3), ("erase", 0, 5, 0)]
-        load = Load(first_form(DEVICE), SHAPE, [Operation(at, 0, kind, Place(0, *place)) for at, (kind, *place) in enumerate(blocks)], 64, True)
+        load = Load([], first_form(DEVICE), SHAPE, [Operation(at, 0, kind, Place(0, *place)) for at, (kind, *place) in enumerate(blocks)], 64, True)
         self.assertEqual(list(load.distances()), [0, 0, 1, 0, 2, 0])
         few = [Request("read", 0, distance=far) for far in (1, 2, 3, 3)]
         self.assertEqual([most_joins(channel(depth=depth)._replace(pages=0), few, "read") for depth in (1, 2, 3, 64)], [0, 2, 3, 3])
@@ -327,6 +327,22 @@ class OwnLoads(unittest.TestCase):
         self.assertAlmostEqual(done, 14, 3)
         root = ET.parse(self.room / "out/over-time.svg").getroot()
         self.assertEqual(len([it for it in root.iter() if it.tag.endswith("polyline")]), 6)
+
+    @unittest.skipUnless(support.program(), "no built program")
+    def test_the_sequencer_beside_it(self) -> None:
+        """One request alone takes what it takes by any way; of some that come at once the sequencer answers each, and ends no sooner than the bound says."""
+        device = self.file("page.onfi", "sector,4608\n" + (support.ROOT / "examples/devices/tlc.onfi").read_text())
+        words = ["--device", device, "--ways", "rfirst:all", "--run", str(support.program()), "--into", str(self.room)]
+        for load, same in (("7,read,1,5,3,1,2\n", True), ("0,program,1,4,0,0,0\n", True), ("0,read,1,5,3\n0,R,0,8,3,0,1\n9,P,3,4,0\n9,E,2,4,0\n", False)):
+            ran = support.run_tool("bench", "rolling", "--trace", self.file("trace.csv", HEADING + load), *words)
+            self.assertEqual((ran.returncode, ran.stderr), (0, ""))
+            rows = list(csv.DictReader((self.room / "latencies.csv").read_text().splitlines()))
+            found = {way: [row["end_ns"] for row in rows if row["way"] == way] for way in ("rfirst:all", "run")}
+            self.assertEqual({len(ends) for ends in found.values()}, {load.count("\n")})
+            self.assertTrue(not same or found["run"] == found["rfirst:all"], found)
+            self.assertTrue(all(float(row.split("|")[4]) <= 100 for row in ran.stdout.splitlines()[2:4]), ran.stdout)
+        ran = support.run_tool("bench", "rolling", "--trace", self.file("trace.csv", HEADING + load), *words, "--closed")
+        self.assertEqual((ran.returncode, ran.stderr[:31]), (1, "bench rolling: `run` takes requ"))
 
     def test_faults_that_are_planted(self) -> None:
         """Each is refused with its time, LUN, request and line, and a status."""
@@ -355,7 +371,7 @@ def drawn_load(rng: random.Random, closed: bool) -> Load:
         place = Place(0, rng.randrange(2), rng.randrange(12), 0 if kind == "erase" else rng.randrange(2))
         operations.append(Operation(at, time, kind, place, 0, rng.choice((0, 0, 1, 3)) if kind == "read" else 0))
         time += rng.choice((0, 0, 30, 400))
-    return Load(first_form(DEVICE), SHAPE, operations, rng.choice((1, 2, 5, 64)), closed)
+    return Load([], first_form(DEVICE), SHAPE, operations, rng.choice((1, 2, 5, 64)), closed)
 
 
 class Plans(Greedy):

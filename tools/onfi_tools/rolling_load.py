@@ -2,6 +2,8 @@
 
 import csv
 import io
+import itertools
+import re
 import subprocess
 from pathlib import Path
 from typing import Dict, Iterator, List, NamedTuple, Sequence, Tuple
@@ -11,7 +13,7 @@ from onfi_tools.channel_bound import Channel, Request, bounds_to_the_end
 from onfi_tools.device import KINDS, Spans
 from onfi_tools.rolling_ways import title_of
 from onfi_tools.script import lengths_of
-from onfi_tools.workload import Operation, Shape, paged_rows
+from onfi_tools.workload import MOST_OPERATIONS, Operation, Shape, paged_rows
 
 # Into how many equal parts the time is cut, from the first arrival to the last end of all ways.
 WINDOWS = 100
@@ -19,8 +21,9 @@ SHARES = {"50 %": 0.5, "95 %": 0.95, "99 %": 0.99, "99.9 %": 0.999}
 
 
 class Load(NamedTuple):
-    """The rows of the device in the first form, how its drive looks, and the operations as they arrive; so many may be outstanding."""
+    """The rows of the device in its own form and in the first, how its drive looks, and the operations as they arrive; so many may be outstanding."""
 
+    script: List[str]
     device: List[str]
     shape: Shape
     operations: List[Operation]
@@ -107,6 +110,24 @@ def run_load(program: Path, folder: Path, load: Load, way: str) -> Outcome:
         raise ValueError(ran.stderr.strip())
     rows = sorted(csv.DictReader(io.StringIO(ran.stdout)), key=lambda row: int(row["request"]))
     return Outcome(way, [Answer(int(row["line"]), row["op"], int(row["arrived_ns"]), int(row["end_ns"])) for row in rows])
+
+
+def script_of(load: Load) -> str:
+    """The load as one host's operations on one channel. ValueError where a script can't have them."""
+    if load.closed or len(load.operations) > MOST_OPERATIONS:
+        raise ValueError(f"`run` takes requests at their times, and at most {MOST_OPERATIONS:,} operations")
+    moments = itertools.groupby(load.operations, key=lambda it: it.time)
+    rows = (row for time, own in moments for row in (f"at,{time}", *(it.row() for it in own)))
+    return "\n".join([*load.script, "submitcap,1024", "postcap,1024", "choice,whole-groups", *rows, "end", ""])
+
+
+def run_sequencer(program: Path, load: Load) -> Outcome:
+    """What `onfi_sim run` makes of a load. ValueError where it doesn't answer all."""
+    ran = subprocess.run([str(program), "run", "--clock", "simulated", "--rule"], input=script_of(load), capture_output=True, text=True)
+    ends = re.findall(r"^reply,0,0,\d+,(\d+),", ran.stdout, re.MULTILINE)
+    if ran.returncode:
+        raise ValueError(f"{program} run: status {ran.returncode}: {ran.stderr.strip() or ran.stdout[-80:]}")
+    return Outcome("run", [Answer(it.line, it.kind, it.time, int(end)) for it, end in zip(load.operations, ends)])
 
 
 def throughput_table(load: Load, outcomes: Sequence[Outcome]) -> List[str]:

@@ -2,8 +2,8 @@
 
     tools/bench rolling [--quick] [--library FOLDER] [--requests N] [--seed N] [--limit N] [--jobs N] [--rows FILE] [--ways NAMES]
                         [--own FILE.c] [--workload NAME]
-    tools/bench rolling --trace TRACE.csv --device SCRIPT [--own FILE.c] [--ways NAMES] [--closed] [--depth N] [--into FOLDER]
-                        [--unit us] [--page-bytes N] [--from-zero] [--wrap] [--fresh] [--library FOLDER]
+    tools/bench rolling --trace TRACE.csv --device SCRIPT [--own FILE.c] [--ways NAMES] [--run PROGRAM] [--closed] [--depth N]
+                        [--into FOLDER] [--unit us] [--page-bytes N] [--from-zero] [--wrap] [--fresh] [--library FOLDER]
 
 It builds the simulator of a channel (examples/simulator/rolling) with the library of FOLDER (lib; greedy ways alone need none), and runs
 216 configurations by each way, JOBS at a time (one for each processor), until N requests are answered (4,000; with erases at least
@@ -21,7 +21,8 @@ all figures of all runs in a file, each as it comes; a run that the file has isn
 
 --trace takes a load of your own, of bytes or of pages, on the device of SCRIPT in place of all that (docs/WORKLOADS.md has both forms,
 and what --unit to --fresh mean), by `fifo`, `rfirst:all`, with the library `steady`, and your own way, or by those of --ways. Requests come at their
-times, or --closed with answers, at most 64 or --depth of them outstanding. It prints operations and bytes a second, beside the bound,
+times, or --closed with answers, at most 64 or --depth of them outstanding. --run adds `run --clock simulated --rule` of onfi_sim, with
+batches by whole groups, of up to 10,000 operations: there one host sends all as they come. It prints operations and bytes a second, beside the bound,
 and latencies of lines, from arrival to the end of all that a line asks for. --into puts into FOLDER `latencies.csv`, with each line by
 each way, `over-time.csv` and its picture `over-time.svg`, with operations and bytes a second, and the simulator `rolling` with its
 `device.onfi` and `load.csv`.
@@ -38,12 +39,12 @@ from typing import List, Optional
 
 from onfi_tools.bench.runs import ROOT, add_numbers, processor_time
 from onfi_tools.rates_svg import Panel, picture
-from onfi_tools.rolling_load import Load, Outcome, latency_rows, run_load, tables_of, window_rows, windows_of, write_load
+from onfi_tools.rolling_load import Load, Outcome, latency_rows, run_load, run_sequencer, tables_of, window_rows, windows_of, write_load
 from onfi_tools.rolling_tables import apart, gain_table, quick_tables, sector_table, whole_tables
 from onfi_tools.rolling_use import ALL, OF_SECTORS, TWELVE, WORKLOADS, Asked, Rows, all_of, build, measure, open_loops, readiness, six_of, ways_of
 from onfi_tools.rolling_ways import BASE, GREEDY, PLAIN, QUICK, WAYS, WAYS_OF_SECTORS, title_of
 from onfi_tools.script import first_form, rows_of
-from onfi_tools.workload import Mapping, add_trace_words, operations_of, positive, read_requests, shape_of
+from onfi_tools.workload import DEVICE_ROWS, Mapping, add_trace_words, operations_of, positive, read_requests, shape_of
 
 
 def quick(program: Path, ways: List[str], asked: Asked, rows: Rows) -> List[str]:
@@ -78,6 +79,7 @@ def words(parser: argparse.ArgumentParser) -> None:
     parser.add_argument("--workload", choices=WORKLOADS)
     parser.add_argument("--trace", type=Path, metavar="TRACE.csv")
     parser.add_argument("--device", type=Path, metavar="SCRIPT")
+    parser.add_argument("--run", type=Path, metavar="PROGRAM")
     parser.add_argument("--closed", action="store_true")
     parser.add_argument("--depth", type=positive, default=64)
     parser.add_argument("--into", type=Path, metavar="FOLDER")
@@ -94,7 +96,8 @@ def load_of(asked: argparse.Namespace) -> Load:
         operations = list(operations_of(read_requests(lines, asked.unit), Mapping(shape, asked.wrap, not asked.fresh), asked.from_zero))
     if not operations:
         raise ValueError(f"{asked.trace}: nothing is asked for")
-    return Load(first_form(text), shape, operations, asked.depth, asked.closed)
+    script = [",".join(row) for row in rows_of(text) if row and row[0] in DEVICE_ROWS]
+    return Load(script, first_form(text), shape, operations, asked.depth, asked.closed)
 
 
 def write_outcomes(load: Load, outcomes: List[Outcome], folder: Path) -> None:
@@ -115,7 +118,7 @@ def own_load(asked: argparse.Namespace, room: Path) -> List[str]:
     write_load(load, folder)
     program, own = built(asked, folder, asked.ways or [])
     ways = [*own, *(asked.ways or [way for way in PLAIN if way in ways_of(program)])]
-    outcomes = [run_load(program, folder, load, way) for way in ways]
+    outcomes = [*(run_load(program, folder, load, way) for way in ways), *([run_sequencer(asked.run, load)] if asked.run else [])]
     if asked.into:
         write_outcomes(load, outcomes, folder)
     return apart(*tables_of(load, outcomes))
