@@ -31,11 +31,13 @@ static bool is_after_another(const waiting *w, size_t place)
     return false;
 }
 
-/* Whether a request is of the LUN, kind and page of another one, on another plane. */
+/* Whether a request is of the LUN, kind and page of another one, on another plane; on strict devices of the same block but for that. */
 static bool goes_with(const waiting *w, const onfi_want *one, const onfi_want *other)
 {
-    bool is_alike = one->lun == other->lun && one->kind == other->kind && (one->kind == ONFI_ERASE || one->page == other->page);
-    return is_alike && one->block % w->planes != other->block % w->planes;
+    uint8_t kind = operation_of(one->kind);
+    bool is_alike = one->lun == other->lun && kind == operation_of(other->kind) && (kind == ONFI_ERASE || one->page == other->page);
+    bool may_join = !w->rules->strict || one->block / w->planes == other->block / w->planes;
+    return is_alike && may_join && one->block % w->planes != other->block % w->planes;
 }
 
 static bool joins(const waiting *w, const candidate *c, size_t place)
@@ -49,7 +51,7 @@ static bool joins(const waiting *w, const candidate *c, size_t place)
 /* Makes the group of a request, with all that can join it. */
 static void put_group(const waiting *w, candidate *c, size_t first)
 {
-    size_t most = (w->want[first].kind == ONFI_READ ? w->rules->read : w->rules->write) ? w->planes : 1;
+    size_t most = (operation_of(w->want[first].kind) == ONFI_READ ? w->rules->read : w->rules->write) ? w->planes : 1;
     c->members = 1;
     c->place[0] = first;
     for (size_t place = 0; place < w->count && c->members < most; place++)
@@ -61,7 +63,7 @@ static void put_group(const waiting *w, candidate *c, size_t first)
 static bool find_oldest(const waiting *w, candidate *c, unsigned kind)
 {
     for (size_t place = 0; place < w->count; place++)
-        if (w->want[place].lun == c->lun && w->want[place].kind == kind && !is_after_another(w, place)) {
+        if (w->want[place].lun == c->lun && operation_of(w->want[place].kind) == kind && !is_after_another(w, place)) {
             put_group(w, c, place);
             return true;
         }
@@ -87,13 +89,13 @@ static bool find_candidate(const waiting *w, const onfi_lun *lun, const rule *by
     c->members = 0;
     if (lun->members) {
         c->oldest = lun->member[0].id;
-        c->rank = by->rank(lun->next < lun->members ? GOES_ON : ANSWERS, lun->member[0].kind);
+        c->rank = by->rank(lun->next < lun->members ? GOES_ON : ANSWERS, operation_of(lun->member[0].kind));
         return true;
     }
     bool any = by->largest ? find_largest(w, c) : find_oldest(w, c, ONFI_READ) || find_oldest(w, c, ONFI_PROGRAM) || find_oldest(w, c, ONFI_ERASE);
     if (any) {
         c->oldest = w->want[c->place[0]].id;
-        c->rank = by->rank(BEGINS, w->want[c->place[0]].kind);
+        c->rank = by->rank(BEGINS, operation_of(w->want[c->place[0]].kind));
     }
     return any;
 }

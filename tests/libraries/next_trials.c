@@ -153,12 +153,14 @@ int main(int count, char **texts)
     if (count != 12)
         return 2;
     setup setup = setup_of(texts);
-    if (!put_device(texts[2], strtod(texts[4], NULL), &setup) || !put_workload(texts[3], &setup.workload))
+    if (!put_workload(texts[3], &setup.workload) || !put_device(texts[2], strtod(texts[4], NULL), &setup))
         return 2;
     print_setup(&setup);
-    const char *wrong = figures_begin(&figures, &setup) ? simulate(&setup, strcmp(texts[1], "plans") ? &phases : &plans, NULL, &figures) : "no memory";
+    const printed nothing = {NULL, NULL};
+    fault wrong = {.what = "no memory"};
+    bool is_done = figures_begin(&figures, &setup) && simulate(&setup, strcmp(texts[1], "plans") ? &phases : &plans, &nothing, &figures, &wrong);
     figures_end(&figures);
-    if (wrong)
-        fprintf(stderr, "%s\n", wrong);
-    return wrong ? EXIT_FAILURE : EXIT_SUCCESS;
+    if (!is_done)
+        fprintf(stderr, "%s\n", wrong.what);
+    return is_done ? EXIT_SUCCESS : EXIT_FAILURE;
 }

@@ -27,12 +27,12 @@ def page_rows(script: Path) -> List[str]:
     return [line for line in script.read_text().splitlines() if line.startswith("page,")]
 
 
-def commands_of(page: Path) -> List[Tuple[str, str]]:
-    """The commands of a page's shell blocks that are followed by what they print, each of its lines after `# `."""
+def commands_of(page: Path, with_silent: bool = False) -> List[Tuple[str, str]]:
+    """The commands of a page's shell blocks that are followed by what they print, each of its lines after `# `; or also those that print nothing."""
     found: List[Tuple[str, str]] = []
     for block in re.findall(r"^```sh\n(.*?)^```$", page.read_text(), re.MULTILINE | re.DOTALL):
         for command, written in re.findall(r"^((?!#).+)\n((?:#.*\n)*)", block, re.MULTILINE):
-            if written:
+            if written or with_silent:
                 found.append((command, re.sub("^# ?", "", written, flags=re.MULTILINE)))
     return found
 

@@ -1,20 +1,28 @@
 """The simulator of channels in rolling use: worked runs, its judge on broken phases, its choices, its tables; and what no scheduler passes."""
 
+import csv
 import itertools
+import random
+import re
 import subprocess
 import tempfile
 import unittest
+import xml.etree.ElementTree as ET
 from pathlib import Path
 from typing import Dict, List, NamedTuple
 
 import support
 from onfi_tools.bench.runs import quantile
-from onfi_tools.channel_bound import Channel, Request, bounds_of, bus_bound, dies_bound, found_mates, loop_bound, most_outstanding
+from onfi_tools.channel_bound import Channel, Request, bounds_of, bus_bound, dies_bound, found_mates, loop_bound, most_joins, most_outstanding
 from onfi_tools.device import Spans
+from onfi_tools.rolling_load import WINDOWS, Load, run_load, write_load
 from onfi_tools.rolling_tables import gain_table, of_bound, room_table, sector_table, spread_table
 from onfi_tools.rolling_use import (ALL, OF_SECTORS, SOURCES, STRICT, TWELVE, WITH_ERASES, Asked, Configuration, Figures, Measured, Rows, bounds_there,
                                     build, key_of, measure, run_way, six_of, sources_of)
 from onfi_tools.rolling_ways import BASE, GREEDY, PLANS, QUICK, SETTINGS, WAYS, WITHOUT_SEARCH
+from onfi_tools.script import first_form
+from onfi_tools.workload import Operation, Place, Shape
+from test_devices import commands_of
 
 ASKED = Asked(requests=200, seed=3, limit=2000, jobs=1)
 LONG = Asked(requests=2000, seed=1, limit=1, jobs=1)
@@ -26,18 +34,31 @@ PROCESSOR_TIME = ("planning_us", "planning_longest_us")
 EXACT = ("plan", "plan-by-lun", "plan-reads-first")
 PARTS = """\
 nothing spoilt: legal
-data output 1 ns sooner: the bus isn't free
-command 1 ns sooner: the LUN isn't ready
-array 1 ns sooner: the LUN isn't ready
-longer: a phase of another length than its kind has
-another request: a post of another page than comes next
-another kind: a phase of another length than its kind has
-later on a block: a request begins before an earlier one on its block
-once more: a request begins that doesn't wait
-accepted later: a request begins before it is accepted
+data output 1 ns sooner: the bus isn't free (113088 ns, LUN 0, request 0, earliest 113089)
+gap 1 ns sooner: the LUN isn't ready (774 ns, LUN 0, request 1, earliest 775)
+array 1 ns sooner: the LUN isn't ready (75449 ns, LUN 1, request 2, earliest 75450)
+another LUN: there is no such LUN (175 ns, LUN 2, request -1, earliest 0)
+nothing to go on with: a LUN goes on that runs nothing (175 ns, LUN 1, request -1, earliest 0)
+a group in a group: a group begins while its LUN runs another one (775 ns, LUN 0, request 2, earliest 0)
+five members: a group of more requests than the device has planes (175 ns, LUN 1, request 2, earliest 0)
+once more: a request begins that doesn't wait (188367 ns, LUN 1, request 2, earliest 0)
+never accepted: a request begins that doesn't wait (175 ns, LUN 1, request 9, earliest 0)
+twice at once: a request begins twice (175 ns, LUN 1, request 2, earliest 0)
+of LUN 1 on LUN 0: a request begins on another LUN than its own (0 ns, LUN 0, request 2, earliest 0)
+later on a block: a request begins before an earlier one on its block (175 ns, LUN 1, request 3, earliest 0)
+accepted later: a request begins before it is accepted (0 ns, LUN 0, request 1, earliest 0)
+two planes one by one: a group of a kind that the device runs one by one (0 ns, LUN 0, request 0, earliest 0)
+planes of one block: legal
+a sector and a page: legal
+another kind: a group of several kinds (0 ns, LUN 0, request 1, earliest 0)
+another page: a group of several pages (0 ns, LUN 0, request 1, earliest 0)
+the same plane: a group with two requests of one plane (0 ns, LUN 0, request 1, earliest 0)
+other blocks: legal
+other blocks of a strict device: a group of blocks that a strict device doesn't take together (0 ns, LUN 0, request 1, earliest 0)
 as it should be: legal
-too soon on the bus: the bus isn't free
-never: requests are left, and nothing is done
+too soon on the bus: the bus isn't free (174 ns, LUN 2, request 1, earliest 175)
+one twice: a request begins twice (0 ns, LUN 5, request 0, earliest 0)
+never: requests are left, and nothing is done (0 ns, LUN 5, request 0, earliest 0)
 everything: 15 up to 14
 first eight: 8 up to 7
 """
@@ -49,7 +70,6 @@ class Phase(NamedTuple):
     lun: int
     part: str
     want: int
-    opens: int
 
 
 ROOM = tempfile.TemporaryDirectory(prefix="rolling-")
@@ -62,10 +82,10 @@ def setUpModule() -> None:
 
 
 def phases(program: Path, of: Configuration, way: str, requests: int) -> List[Phase]:
-    words = [*of.words(), "way", way, "requests", str(requests), "limit", "2000", "trace", "yes"]
+    words = [*of.words(), "way", way, "requests", str(requests), "limit", "2000", "print", "phases"]
     ran = subprocess.run([str(program), *words], capture_output=True, text=True, check=True)
     rows = [line.split() for line in ran.stdout.splitlines()]
-    return [Phase(int(row[0]), int(row[1]), int(row[2]), row[3], int(row[4]), int(row[5])) for row in rows]
+    return [Phase(int(row[0]), int(row[1]), int(row[2]), row[4], int(row[9])) for row in rows]
 
 
 def but_for_time(figures: Figures) -> Figures:
@@ -145,7 +165,7 @@ class ByHand(unittest.TestCase):
         output = 7 * 25 + 500 + 4608 * 2 + 100
         self.assertAlmostEqual(self.rate(Configuration("tlc", "reads-4k", 2, luns=1, depth=1), "fifo"), 1e9 / (READ + ARRAY + output), 2)
         for sectors, pages in OF_SECTORS.items():
-            words = [[*Configuration("slc", name, 2).words(), "source", "yes"] for name in (sectors, pages)]
+            words = [[*Configuration("slc", name, 2).words(), "print", "requests"] for name in (sectors, pages)]
             one, other = (subprocess.run([str(GREEDY_ALONE), *each], capture_output=True, text=True, check=True).stdout.splitlines() for each in words)
             self.assertEqual([(at, line) for at, line in enumerate(one) if line != other[at]], [(2, "read 175 600 25100 2935")])
 
@@ -166,10 +186,192 @@ class ByHand(unittest.TestCase):
         self.assertEqual(run_way(GREEDY_ALONE, TWELVE[0], "rfirst:all", ASKED)["erasing"], 0)
 
     def test_words_that_cant_be_read(self) -> None:
-        for words in (["way", "best"], ["device", "mlc"], ["luns", "9"], ["depth"], ["array", "0.9-0.4"], ["size", "3"]):
+        for words in (["way", "best"], ["device", "mlc"], ["luns", "9"], ["depth"], ["array", "0.9-0.4"], ["size", "3"], ["print", "all"]):
             ran = subprocess.run([str(GREEDY_ALONE), *words], capture_output=True, text=True)
             self.assertEqual((ran.returncode, ran.stdout), (2, ""), words)
             self.assertRegex(ran.stderr, r"^rolling: (can't read|no way|no device) ")
+
+    def test_help_and_units(self) -> None:
+        """Each word that there is stands in the help, and each figure has its unit."""
+        told = subprocess.run([str(GREEDY_ALONE), "--help"], capture_output=True, text=True, check=True).stdout
+        named = re.findall(r'strcmp\(name, "(\w+)"\)', (SOURCES / "main.c").read_text())
+        self.assertEqual((set(re.findall(r"^  (\w+)  ", told, re.MULTILINE)), len(named)), (set(named), 15))
+        figures = subprocess.run([str(GREEDY_ALONE), "requests", "50"], capture_output=True, text=True, check=True).stdout.splitlines()
+        self.assertEqual({len(line.split()) for line in figures}, {3})
+        self.assertIn("reads 45 requests", figures)
+        self.assertEqual({line.split()[2] for line in figures if re.match(r"\w+_(mean|50|95|99|999|most) ", line)}, {"us"})
+
+
+# Four planes on each of two LUNs; pages of 400 bytes in four sectors, of which up to three have lengths of their own.
+DEVICE = """\
+geometry,64,16,400,0
+shape,2,2,1,1
+spans,read,10,2,100,40
+spans,program,50,2,500,5
+spans,erase,10,2,1000,5
+sectorpost,1,10
+sectorpost,2,20
+sectorpost,3,30
+sectorpost,4,40
+end
+"""
+HEADING = "time,op,lun,block,page,first sector,sectors\n"
+
+
+class OwnLoads(unittest.TestCase):
+    """Devices and requests of files, and a scheduler in a file of its own."""
+
+    def setUp(self) -> None:
+        self.room = support.room_of(self)
+        self.device = self.file("device.onfi", DEVICE)
+
+    def file(self, name: str, text: str) -> str:
+        (self.room / name).write_text(text)
+        return str(self.room / name)
+
+    def told(self, load: str, *words: str, device: str = "", program: Path = GREEDY_ALONE) -> "subprocess.CompletedProcess[str]":
+        line = [str(program), "device", device or self.device, "workload", self.file("load.csv", load), *words]
+        return subprocess.run(line, capture_output=True, text=True)
+
+    def answers(self, load: str, *words: str, device: str = "") -> List[List[int]]:
+        """Request, line, arrival and end of each answer."""
+        ran = self.told(load, *words, "print", "answers", device=device)
+        self.assertEqual((ran.returncode, ran.stderr), (0, ""))
+        head, *rows = ran.stdout.splitlines()
+        self.assertEqual(head, "request,line,op,lun,arrived_ns,end_ns")
+        return [[int(cell) for at, cell in enumerate(row.split(",")) if at not in (2, 3)] for row in rows]
+
+    def test_sectors_arrivals_and_lines_by_hand(self) -> None:
+        """A read of a page, and one of two sectors which comes while the first's array works; the eighth field is a line, else its own is."""
+        load = HEADING + "1000,read,0,0,3,0,0\n\n1005,R,1,4,3,1,2,77\n"
+        self.assertEqual(self.answers(load, "way", "fifo"), [[0, 2, 1000, 1150], [1, 77, 1005, 1170]])
+        self.assertEqual(self.answers(load, "way", "fifo", "closed", "yes"), [[0, 2, 0, 150], [1, 77, 0, 170]])
+        self.assertEqual(self.answers(load, "way", "fifo", "closed", "yes", "depth", "1"), [[0, 2, 0, 150], [1, 77, 150, 150 + 130]])
+        self.assertEqual(self.answers(load, "way", "fifo", "depth", "1"), [[0, 2, 1000, 1150], [1, 77, 1005, 1150 + 130]])
+
+    def test_reads_of_sectors_and_pages_run_as_one(self) -> None:
+        """Two planes of a page: commands of 10 with a gap of 2, an array of 100, posts of 40 and 10; not on a device that runs reads one by one."""
+        load = "0,read,0,0,3\n0,read,0,1,3,0,1\n"
+        self.assertEqual(self.answers(load, "way", "rfirst:all"), [[0, 1, 0, 162], [1, 2, 0, 172]])
+        one_by_one = self.file("one.onfi", DEVICE.replace("shape,2,2,1,1", "shape,2,2,0,1"))
+        self.assertEqual(self.answers(load, "way", "rfirst:all", device=one_by_one), [[0, 1, 0, 150], [1, 2, 0, 150 + 120]])
+
+    def test_strict_devices(self) -> None:
+        """Blocks 0 and 5 are of two planes, and agree above the plane bits with none."""
+        load, strict = "0,read,0,0,3\n0,read,0,5,3\n", self.file("strict.onfi", "strict,1\n" + DEVICE)
+        self.assertEqual(self.answers(load, "way", "rfirst:all")[1][3], 12 + 10 + 100 + 2 * 40)
+        self.assertEqual(self.answers(load, "way", "rfirst:all", device=strict)[1][3], 2 * 150)
+
+    def test_all_is_measured(self) -> None:
+        told = self.told("5,read,0,0,3\n5,erase,1,4,0\n", "way", "fifo").stdout
+        self.assertIn("answered 2 requests\nrate 1951219.512 requests/s\n", told)  # from 5 to 1,030, when the status of the erase ends
+        self.assertIn("reads 1 requests\nread_mean 0.150 us\nread_50 0.150 us\n", told)
+
+    def test_phases_are_a_trace(self) -> None:
+        ran = self.told("0,program,0,0,0\n0,read,0,5,3,0,1\n0,read,0,6,3,0,1\n", "way", "rfirst:all", "print", "phases")
+        self.assertEqual(ran.stdout.splitlines()[:4], ["0 10 0 read cmd 5 3 00 32 1", "12 22 0 read cmd 6 3 00 30 2", "122 132 0 read post 5 3 06 E0 1",
+                                                       "132 142 0 read post 6 3 06 E0 2"])
+        self.assertEqual(ran.stdout.splitlines()[-1], "692 697 0 program post 0 0 78 - 0")
+        self.assertEqual(support.run_tool("draw-trace", "--script", self.device, given=ran.stdout).returncode, 0)
+
+    def test_loads_and_devices_that_cant_be_read(self) -> None:
+        rows = {"1,read,0,0": "not time,op,lun,block,page", "x,read,0,0,0": "not time", "1,trim,0,0,0": "not time", "1,read,2,0,0": "a LUN that",
+                "1,read,0,65536,0": "not time", "1,read,0,0,4096": "not time", "1,erase,0,0,1": "an erase of another page", "0,read,0,0,0": "a time before",
+                "1,program,0,0,0,0,1": "sectors of what is no read", "1,read,0,0,0,0,5": "sectors of what", "1,read,0,0,0,0": "not time"}
+        for row, said in rows.items():
+            ran = self.told(f"{HEADING}1,read,0,0,0\n{row}\n")
+            self.assertEqual((ran.returncode, ran.stdout), (2, ""), row)
+            self.assertIn(f"load.csv:3: {said}", ran.stderr)
+        self.assertEqual(self.told(HEADING).stderr, f"rolling: no workload {self.room / 'load.csv'}: there is no request\n")
+        for text, said in (("shape,9,0,0,0\nend\n", ":1: not a row shape"), ("shape,1,0,0,0\nspans,read,1,1,1,0\n", ":2: not a row"),
+                           ("page,00\nend\n", "rows shape and spans of each kind are asked for"), (DEVICE.replace("sectorpost,1", "sectorpost,8"), ":6: not a row")):
+            ran = self.told("1,read,0,0,0\n", device=self.file("wrong.onfi", text))
+            self.assertEqual((ran.returncode, ran.stdout), (2, ""), text)
+            self.assertIn(said, ran.stderr)
+
+    def test_no_way_passes_the_bound(self) -> None:
+        """On drawn loads of few pages, open and closed; and one at a time each way reaches it."""
+        rng = random.Random(5)
+        for at in range(40):
+            load = drawn_load(rng, at % 2 == 1)
+            write_load(load, self.room)
+            for way in GREEDY:
+                outcome = run_load(GREEDY_ALONE, self.room, load, way)
+                rate = len(outcome.answers) * 1e9 / (outcome.end() - outcome.begin())
+                self.assertLessEqual(rate, load.bound() * (1 + 1e-9), (at, way))
+                if load.depth == 1 and load.closed:
+                    self.assertAlmostEqual(rate / load.bound(), 1, 9)
+
+    def test_what_may_join_by_hand(self) -> None:
+        """Of page 3 of LUN 0: plane 0, the same plane, plane 1, plane 2 of a page more, plane 2, and an erase."""
+        blocks = [("read", 0, 0, 3), ("read", 0, 4, 3), ("read", 0, 1, 3), ("read", 0, 2, 4), ("read", 0, 2, 3), ("erase", 0, 5, 0)]
+        load = Load([], first_form(DEVICE), SHAPE, [Operation(at, 0, kind, Place(0, *place)) for at, (kind, *place) in enumerate(blocks)], 64, True)
+        self.assertEqual(list(load.distances()), [0, 0, 1, 0, 2, 0])
+        few = [Request("read", 0, distance=far) for far in (1, 2, 3, 3)]
+        self.assertEqual([most_joins(channel(depth=depth)._replace(pages=0), few, "read") for depth in (1, 2, 3, 64)], [0, 2, 3, 3])
+
+    def test_the_commands_of_the_page(self) -> None:
+        """As a stranger gives them: own trace, device and scheduler; a planted fault; a picture. No file of the project is changed."""
+        for name in ("examples", "include", "tools"):
+            (self.room / name).symlink_to(support.ROOT / name)
+        found = commands_of(SOURCES / "README.md", with_silent=True)
+        for command, written in found:
+            ran = subprocess.run(command, shell=True, capture_output=True, text=True, cwd=self.room)
+            self.assertEqual((ran.stdout, ran.stderr), (written, ""), command)
+        self.assertEqual(len(found), 5)
+        made = {path.name for path in (self.room / "out").iterdir()}
+        self.assertEqual(made, {"rolling", "device.onfi", "load.csv", "latencies.csv", "over-time.csv", "over-time.svg"})
+        rows = list(csv.DictReader((self.room / "out/over-time.csv").read_text().splitlines()))
+        self.assertEqual([len([row for row in rows if row["way"] == way]) for way in ("oldest", "fifo", "rfirst:all")], [WINDOWS] * 3)
+        done = sum(float(row["operations_per_s"]) * (int(row["to_ns"]) - int(row["from_ns"])) / 1e9 for row in rows if row["way"] == "fifo")
+        self.assertAlmostEqual(done, 14, 3)
+        root = ET.parse(self.room / "out/over-time.svg").getroot()
+        self.assertEqual(len([it for it in root.iter() if it.tag.endswith("polyline")]), 6)
+
+    @unittest.skipUnless(support.program(), "no built program")
+    def test_the_sequencer_beside_it(self) -> None:
+        """One request alone takes what it takes by any way; of some that come at once the sequencer answers each, and ends no sooner than the bound says."""
+        device = self.file("page.onfi", "sector,4608\n" + (support.ROOT / "examples/devices/tlc.onfi").read_text())
+        words = ["--device", device, "--ways", "rfirst:all", "--run", str(support.program()), "--into", str(self.room)]
+        for load, same in (("7,read,1,5,3,1,2\n", True), ("0,program,1,4,0,0,0\n", True), ("0,read,1,5,3\n0,R,0,8,3,0,1\n9,P,3,4,0\n9,E,2,4,0\n", False)):
+            ran = support.run_tool("bench", "rolling", "--trace", self.file("trace.csv", HEADING + load), *words)
+            self.assertEqual((ran.returncode, ran.stderr), (0, ""))
+            rows = list(csv.DictReader((self.room / "latencies.csv").read_text().splitlines()))
+            found = {way: [row["end_ns"] for row in rows if row["way"] == way] for way in ("rfirst:all", "run")}
+            self.assertEqual({len(ends) for ends in found.values()}, {load.count("\n")})
+            self.assertTrue(not same or found["run"] == found["rfirst:all"], found)
+            self.assertTrue(all(float(row.split("|")[4]) <= 100 for row in ran.stdout.splitlines()[2:4]), ran.stdout)
+        ran = support.run_tool("bench", "rolling", "--trace", self.file("trace.csv", HEADING + load), *words, "--closed")
+        self.assertEqual((ran.returncode, ran.stderr[:31]), (1, "bench rolling: `run` takes requ"))
+
+    def test_faults_that_are_planted(self) -> None:
+        """Each is refused with its time, LUN, request and line, and a status."""
+        plain = (SOURCES / "own/oldest.c").read_text()
+        faults = [("{want->id}", "{want->id + 999}", "at 0 ns, LUN 0, request 999: a request begins that doesn't wait"),
+                  (".members = 1, .member = {want->id}", ".members = 2, .member = {want->id, want->id}", "at 0 ns, LUN 0, request 0 (line 2): a request begins twice"),
+                  (".lun = want->lun", ".lun = 1", "at 0 ns, LUN 1, request 0 (line 2): a request begins on another LUN than its own"),
+                  ("return step->start < NEVER", "step->start -= step->start > 0 && !step->members;\n    return step->start < NEVER",
+                   "at 109 ns, LUN 0, request 0 (line 2): the LUN isn't ready before 110 ns"),
+                  ("return step->start < NEVER", "return false", "at 0 ns, LUN 0, request 0 (line 2): requests are left, and nothing is done")]
+        for before, after, said in faults:
+            self.assertEqual(plain.count(before), 1, before)
+            program = build(self.room / "wrong", None, Path(self.file("wrong.c", plain.replace(before, after))))
+            ran = self.told(HEADING + "0,read,0,0,3,0,0\n0,program,1,0,0,0,0\n", "way", "oldest", program=program)
+            self.assertEqual((ran.returncode, ran.stdout, ran.stderr), (1, "", f"rolling: oldest: {said}\n"))
+
+
+SHAPE = Shape(1, 2, 4, 64, 16, 400, 4)
+
+
+def drawn_load(rng: random.Random, closed: bool) -> Load:
+    """Some requests of few pages and blocks, some of them reads of sectors."""
+    operations, time = [], 0
+    for at in range(rng.randint(1, 60)):
+        kind = rng.choices(("read", "program", "erase"), (6, 3, 1))[0]
+        place = Place(0, rng.randrange(2), rng.randrange(12), 0 if kind == "erase" else rng.randrange(2))
+        operations.append(Operation(at, time, kind, place, 0, rng.choice((0, 0, 1, 3)) if kind == "read" else 0))
+        time += rng.choice((0, 0, 30, 400))
+    return Load([], first_form(DEVICE), SHAPE, operations, rng.choice((1, 2, 5, 64)), closed)
 
 
 class Plans(Greedy):
@@ -189,6 +391,24 @@ class Plans(Greedy):
             figures = run_way(self.program, TWELVE[0], way, ASKED._replace(limit=1))
             self.assertEqual(figures["over"] > 0, way in EXACT, way)
             self.assertEqual(figures["answered"], 180, way)
+
+    def test_loads_of_sectors_and_pages(self) -> None:
+        """Each answers all requests, by lengths of sectors or as if all reads were as long as the shortest."""
+        for closed in (False, True):
+            load = drawn_load(random.Random(11), closed)._replace(depth=16)
+            write_load(load, Path(ROOM.name))
+            for way in self.ways:
+                self.assertEqual(len(run_load(self.program, Path(ROOM.name), load, way).answers), len(load.operations), way)
+
+    def test_the_line_of_the_page(self) -> None:
+        """By which a C compiler alone makes the simulator with a way of one's own."""
+        line = re.search(r"^    (cc .*) lib/libonfi.a -lm -o rolling$", (SOURCES / "README.md").read_text(), re.MULTILINE)
+        archive = support.library(Path(ROOM.name))
+        assert line and archive
+        made = Path(ROOM.name) / "by-hand"
+        subprocess.run(f"{line[1]} {archive}/libonfi.a -lm -o {made}", shell=True, cwd=support.ROOT, check=True)
+        for way in ("oldest", *self.ways):
+            self.assertEqual(run_way(made, TWELVE[0], way, ASKED._replace(requests=20))["answered"], 18, way)
 
     def test_plans_fill_the_planes_by_hand(self) -> None:
         for way in self.ways:
@@ -282,8 +502,20 @@ class Tables(unittest.TestCase):
         self.assertEqual(path.read_text().splitlines()[:-1], lines)
         self.assertEqual(Rows(path).found[key_of(of[1], BASE, ASKED)], both[1].by_way[BASE])
 
+    def test_a_file_keeps_its_columns(self) -> None:
+        """Of a run what the file has columns for; of a way of one's own nothing, since it may be another one the next time."""
+        path = Path(ROOM.name) / "columns.csv"
+        head = ",".join([*Configuration._fields, "way", "requests", "seed", "limit", "answered", "rate"])
+        path.write_text(head + "\n")
+        figures: Figures = {"rate": 2, "read_50": 3, "answered": 1}
+        for way in ("fifo", "oldest"):
+            Rows(path).keep(key_of(TWELVE[0], way, ASKED), figures)
+        self.assertEqual([line.split(",")[8:] for line in path.read_text().splitlines()[1:]], [["fifo", "200", "3", "0", "1", "2"]])
+
     def test_the_tool(self) -> None:
-        for words, count in ((["--quick"], 9), (["--workload", "erases"], 9), (["--quick", "--workload", "reads-4k"], 2)):
+        """Each table has each way, also one of one's own."""
+        own = ["--own", str(SOURCES / "own/oldest.c")]
+        for words, count in ((["--quick", *own], 9), (["--workload", "erases"], 9), (["--quick", "--workload", "reads-4k"], 2)):
             ran = support.run_tool("bench", "rolling", *words, "--ways", "fifo", "--requests", "50")
             self.assertEqual((ran.returncode, ran.stderr), (0, ""))
             tables = [part.splitlines() for part in ran.stdout.split("\n\n")][:-1]
@@ -291,6 +523,7 @@ class Tables(unittest.TestCase):
             for rows in tables:
                 self.assertEqual(len({row.count("|") for row in rows}), 1, rows[0])
                 self.assertGreater(len(rows), 2)
+                self.assertTrue("oldest" in "\n".join(rows) or "--own" not in words, rows)
 
 
 def channel(luns: int = 1, depth: int = 1, planes: int = 4) -> Channel:

@@ -8,7 +8,8 @@ from pathlib import Path
 from typing import Dict, List, Set, Tuple
 
 import support
-from onfi_tools.workload import MOST_OPERATIONS, Mapping, Request, Shape, lane_of, read_requests, workload_of
+from onfi_tools.script import first_form, rows_of
+from onfi_tools.workload import MOST_OPERATIONS, Mapping, Operation, Place, Request, Shape, lane_of, paged_rows, read_requests, shape_of, workload_of
 
 DEVICE = "examples/firmware/batch.onfi"
 TRACE = "examples/workload.csv"
@@ -126,8 +127,8 @@ class Places(unittest.TestCase):
             erased: Set[Tuple[int, ...]] = set()
             for line in range(1, 200):
                 kind, logical = rng.choice(("read", "write")), rng.randrange(24)
-                for row in mapping.operations(Request(line, line, kind, logical * 100, 100)):
-                    fields = row.split(",")
+                for operation in mapping.operations(Request(line, line, kind, logical * 100, 100)):
+                    fields = operation.row().split(",")
                     place = tuple(int(fields[at]) for at in (2, 4, 5, 6))
                     self.assertEqual(fields[1], fields[2])
                     if fields[3] == "erase":
@@ -147,6 +148,77 @@ class Places(unittest.TestCase):
         last = SMALL.logical_pages() * 100
         rows = [Mapping(SMALL, True, True).operations(Request(1, 0, "read", at, 100)) for at in (0, last, 5 * last)]
         self.assertEqual(rows, [rows[0]] * 3)
+
+
+class Sectors(unittest.TestCase):
+    """Pages of 400 bytes, of which a read takes the sectors of 100 that it touches."""
+
+    def test_reads_of_some_sectors(self) -> None:
+        shape = SMALL._replace(page_bytes=400, sectors=4)
+        for (address, size), told in {(0, 400): [(0, 0)], (0, 100): [(0, 1)], (199, 2): [(1, 2)], (350, 200): [(3, 1), (0, 2)], (1, 399): [(0, 0)],
+                                      (300, 901): [(3, 1), (0, 0), (0, 0), (0, 1)]}.items():
+            made = Mapping(shape, False, True).operations(Request(1, 0, "read", address, size))
+            self.assertEqual([(it.first, it.sectors) for it in made], told, (address, size))
+        last = shape.logical_pages() * 400
+        self.assertEqual([(it.place.block, it.first, it.sectors) for it in Mapping(shape, True, True).operations(Request(1, 0, "read", last + 100, 100))], [(0, 1, 1)])
+
+    def test_more_than_a_read_can_take(self) -> None:
+        """Of sixteen sectors a read takes up to seven, else the page."""
+        shape = SMALL._replace(page_bytes=1600, sectors=16)
+        made = [Mapping(shape, False, True).operations(Request(1, 0, "read", 100, size))[0] for size in (700, 701)]
+        self.assertEqual([(it.first, it.sectors) for it in made], [(1, 7), (0, 0)])
+
+    def test_the_device_says_how_many(self) -> None:
+        """By a row `sector` of a page with spare bytes, or by rows `sectorpost`."""
+        profile = (support.ROOT / "examples/devices/tlc.onfi").read_text()
+        for size, sectors in ((4608, 4), (4096, 4), (9216, 2), (20000, 1)):
+            self.assertEqual(shape_of(rows_of(f"sector,{size}\n{profile}"), 1, None).sectors, sectors)
+        self.assertEqual(shape_of(rows_of(profile), 1, None).sectors, 1)
+        rows = rows_of("geometry,8,4,100,0\nshape,2,1,1,1\nspans,read,140,600,25100,11000\nsectorpost,2,9\nsectorpost,1,5\nend\n")
+        self.assertEqual(shape_of(rows, 1, None).sectors, 2)
+
+    def test_a_script_keeps_them(self) -> None:
+        """Where the device has a row `sector`, as the script then has."""
+        with tempfile.TemporaryDirectory() as room:
+            path = Path(room) / "device.onfi"
+            path.write_text("sector,4608\n" + (support.ROOT / "examples/devices/tlc.onfi").read_text())
+            _, rows, said = made("0,R,4096,8192\n0,R,0,16384\n", device=str(path))
+        self.assertEqual((operations(rows), "sector,4608" in rows.splitlines(), said), (["op,0,0,read,0,0,0"], True, ""))
+        self.assertIn("opread,0,0,0,0,0,1,2\n", rows)
+
+    def test_a_device_in_rows_of_the_first_form(self) -> None:
+        """As the simulator of channels reads it: of a page with strobes and sectors, and of rows that are of that form already."""
+        profile = (support.ROOT / "examples/devices/tlc.onfi").read_text()
+        found = first_form("sector,4608\n" + profile)
+        self.assertEqual(found[:2], ["shape,4,2,1,1", "spans,read,175,600,75100,16095"])
+        self.assertEqual(found[4:], ["sectorpost,1,4572", "sectorpost,2,8413", "sectorpost,3,12254", "sectorpost,4,16095"])
+        self.assertEqual(first_form("\n".join([*found, "strict,1", "want,read,0,0,0", "end"])), [*found, "strict,1"])
+
+
+class Pages(unittest.TestCase):
+    """Traces of pages, as an FTL gives them."""
+
+    TRACE = "time,op,lun,block,page,first sector,sectors\n0,read,1,5,3,2,1\n0.5,P,0,8,0\n\n2,erase,0,12,0,0,0\n"
+    OPERATIONS = [Operation(2, 0, "read", Place(0, 1, 5, 3), 2, 1), Operation(3, 500, "program", Place(0, 0, 8, 0)), Operation(5, 2000, "erase", Place(0, 0, 12, 0))]
+
+    def test_its_lines(self) -> None:
+        self.assertEqual(list(read_requests(self.TRACE.splitlines(), "us")), self.OPERATIONS)
+        for line in ("0,read,1,5", "0,trim,1,5,3", "0,read,1,5,-3", "0,read,1,5,3,x,1", "x,read,1,5,3"):
+            with self.assertRaisesRegex(ValueError, "^line 2: not time,op,lun,block,page,first sector,sectors: "):
+                list(read_requests([self.TRACE.splitlines()[0], line], "us"))
+
+    def test_a_script_of_it(self) -> None:
+        _, rows, _ = made(self.TRACE, "--unit", "us")
+        self.assertEqual(rows.splitlines()[4:], ["at,0", "opread,0,0,1,5,3,2,1", "at,500", "op,0,0,program,0,8,0,*03", "at,2000", "op,0,0,erase,0,12,0", "end"])
+
+    def test_operations_alone(self) -> None:
+        """Those of bytes, each with the line that it is of; what is printed is read back."""
+        status, rows, said = made("7,W,0,16384\n9,R,0,16384\n", "--pages", "--from-zero")
+        told = ["time,op,lun,block,page,first sector,sectors,line", "0,erase,0,768,0,0,0,1", "0,program,0,768,0,0,0,1", "2,read,0,768,0,0,0,2"]
+        self.assertEqual((status, rows.splitlines(), said), (0, told, ""))
+        again = [it._replace(line=0) for it in read_requests(paged_rows(self.OPERATIONS), "ns") if isinstance(it, Operation)]
+        self.assertEqual(again, [it._replace(line=0) for it in self.OPERATIONS])
+        self.assertEqual(made("7,W,0,1\n", "--pages", "--channels", "2")[0], 2)
 
 
 class Refused(unittest.TestCase):

@@ -23,9 +23,16 @@ LUNs have answered as many by then. For when the j-th member of a group is answe
 parts; of all orders the one that goes on with what has the least left has served the most at any time; and what comes sooner is answered
 no later. So, answer by answer, that loop is never later.
 
-Reads are of random pages, and two of one LUN run as one only where they are of one page on two planes. Whichever reads a scheduler holds
-back for that, not knowing which will come, of those that come at most `found_mates` find one such in the mean, and each of them saves an
-array. That much is taken from the part of each.
+Random reads of pages run as one only where two of a LUN are of one page on two planes. Whichever reads a scheduler holds back for that, not
+knowing which will come, of those that come at most `found_mates` find one such in the mean, and each of them saves an array. That much is
+taken from the part of each.
+
+A load of one's own is run to its end, and all of it counts: from the first arrival to the last answer it takes at least what the bus, the
+dies and the loop do, in which no request comes before it arrives. In a group of m, m - 1 members join one of the same LUN, kind and page on
+another plane, which came before and waits for them. While it waits it has one of the rooms; at each arrival at most all rooms but one are
+taken; so the distances from each to the one that joins it, counted in arrivals, are together at most the rooms but one times the arrivals.
+The shortest that fit give the most that may join, and each saves at most the best of all sizes of groups. Reads of some sectors are a kind
+of their own; who stays for the posts of others does so at least for the shortest of their kind.
 """
 
 import heapq
@@ -45,10 +52,12 @@ class Request(NamedTuple):
     kind: str
     lun: int
     is_mate: bool = False
+    arrival: int = 0
+    distance: int = 0  # of a load of one's own: how many arrivals before it the last one came that it may join; 0: there is none
 
 
 class Channel(NamedTuple):
-    """What serves the requests. `depth` may be outstanding; reads are of so many pages of a block, evenly."""
+    """What serves the requests. `depth` may be outstanding; reads are of so many pages of a block, evenly; of a load of one's own 0."""
 
     spans: Dict[str, Spans]
     planes: int
@@ -62,9 +71,9 @@ def group_time(spans: Spans, members: int) -> float:
     return members * spans.cmd + (members - 1) * spans.gap + spans.array + members * spans.post
 
 
-def stay(spans: Spans, members: int) -> float:
-    """How long a member of a group stays, in the mean of its members, where it was accepted as the group began."""
-    return members * spans.cmd + (members - 1) * spans.gap + spans.array + (members + 1) / 2 * spans.post
+def stay(spans: Spans, members: int, other: int) -> float:
+    """How long a member of a group stays, in the mean of its members, where it was accepted as the group began; posts of others take so long."""
+    return members * spans.cmd + (members - 1) * spans.gap + spans.array + spans.post + (members - 1) / 2 * other
 
 
 def most_outstanding(channel: Channel, requests: Sequence[Request]) -> int:
@@ -82,12 +91,14 @@ Size = Tuple[float, float]
 
 def sizes_of(channel: Channel, outstanding: int) -> Dict[str, List[Size]]:
     """Of each kind a member's part of its LUN's time, and its stay, for each size that its group may have."""
-    spans = channel.spans[READ]
-    part = group_time(spans, 1) - found_mates(channel, outstanding) * (spans.array - spans.gap)
-    sizes = {READ: [(part, stay(spans, 1))]}
-    for kind in (PROGRAM, ERASE):
-        spans = channel.spans[kind]
-        sizes[kind] = [(group_time(spans, members) / members, stay(spans, members)) for members in range(1, channel.planes + 1)]
+    sizes = {}
+    for kind, spans in channel.spans.items():
+        other = min(each.post for name, each in channel.spans.items() if name.split()[0] == kind.split()[0])
+        sizes[kind] = [(group_time(spans, members) / members, stay(spans, members, other)) for members in range(1, channel.planes + 1)]
+    if channel.pages:
+        spans = channel.spans[READ]
+        part = group_time(spans, 1) - found_mates(channel, outstanding) * (spans.array - spans.gap)
+        sizes[READ] = [(part, stay(spans, 1, spans.post))]
     return sizes
 
 
@@ -145,23 +156,31 @@ class Loop:
         sizes = sizes_of(channel, most_outstanding(channel, requests))
         self.depth = channel.depth
         self.parts = {kind: min(part for part, _ in sizes[kind]) for kind in sizes}
-        self.stays = {kind: stay(channel.spans[kind], 1) for kind in sizes}
+        self.stays = {kind: stay(spans, 1, spans.post) for kind, spans in channel.spans.items()}
         self.dies = [Die() for _ in range(channel.luns)]
         self.staying: List[Tuple[float, int]] = []  # until when each stays at least, and on which LUN
         self.coming = deque(requests)
         self.now, self.accepted, self.answered = 0.0, 0, 0
 
+    def next_arrival(self) -> float:
+        """When the next request may be accepted, as far as is known."""
+        has_room = self.coming and (self.accepted - self.answered < self.depth or self.coming[0].is_mate)
+        return self.coming[0].arrival if has_room else float("inf")
+
     def accept_all(self) -> None:
-        while self.coming and (self.accepted - self.answered < self.depth or self.coming[0].is_mate):
-            kind, lun, _ = self.coming.popleft()
+        while self.next_arrival() <= self.now:
+            kind, lun = self.coming.popleft()[:2]
             self.dies[lun].accept(self.parts[kind], self.now)
             heapq.heappush(self.staying, (self.now + self.stays[kind], lun))
             self.accepted += 1
 
     def go_on(self) -> None:
-        """Up to when the next one is served, or has stayed long enough."""
+        """Up to when the next one arrives, is served, or has stayed long enough."""
         die = min(self.dies, key=Die.serves_at)
-        if self.staying and self.staying[0][0] < die.serves_at():
+        stayed = self.staying[0][0] if self.staying else float("inf")
+        if self.next_arrival() < min(stayed, die.serves_at()):
+            self.now = self.next_arrival()
+        elif stayed < die.serves_at():
             self.now, lun = heapq.heappop(self.staying)
             self.dies[lun].stayed += 1
         else:
@@ -190,6 +209,43 @@ def bounds_of(channel: Channel, requests: Sequence[Request], answers: int) -> Di
     measured = range(max(1, answers // 10), answers)
     own = requests[measured.start : measured.stop]
     return {"bus": bus_bound(channel, own), "dies": dies_bound(channel, own), "loop": loop_bound(channel, requests, measured)}
+
+
+def most_joins(channel: Channel, requests: Sequence[Request], kind: str) -> int:
+    """How many requests of a kind join others at most."""
+    distances = sorted(each.distance for each in requests if each.distance and each.kind.split()[0] == kind)
+    room, members = (channel.depth - 1) * len(requests), sum(each.kind.split()[0] == kind for each in requests)
+    return min(sum(taken <= room for taken in itertools.accumulate(distances)), members * (channel.planes - 1) // channel.planes)
+
+
+def saving(spans: Spans, other: int, planes: int, weight: float) -> float:
+    """What one who joins saves at most, of the weighted sum of times and stays."""
+
+    def cost(members: int) -> float:
+        return weight * group_time(spans, members) + (1 - weight) * members * stay(spans, members, other)
+
+    return max((max(0, members * cost(1) - cost(members)) / (members - 1) for members in range(2, planes + 1)), default=0)
+
+
+def dies_to_the_end(channel: Channel, requests: Sequence[Request]) -> float:
+    """The bound of dies and outstanding requests of a load that is run to its end."""
+    joins, counts = {kind: most_joins(channel, requests, kind) for kind in KINDS}, Counter(each.kind for each in requests)
+    shortest = {kind: min(spans.post for name, spans in channel.spans.items() if name.split()[0] == kind) for kind in KINDS}
+
+    def least_time(weight: float) -> float:
+        alone = sum(count * (weight * group_time(spans, 1) + (1 - weight) * stay(spans, 1, 0))
+                    for count, spans in ((count, channel.spans[kind]) for kind, count in counts.items()))
+        saved = sum(joins[kind] * saving(channel.spans[kind], shortest[kind], channel.planes, weight) for kind in KINDS)
+        return (alone - saved) / (weight * channel.luns + (1 - weight) * channel.depth)
+
+    return len(requests) * 1e9 / max(least_time(weight / 20) for weight in range(21))
+
+
+def bounds_to_the_end(channel: Channel, requests: Sequence[Request]) -> Dict[str, float]:
+    """The three of a load that is run to its end, from the first arrival on."""
+    last = list(itertools.islice(Loop(channel, requests).answers(), len(requests)))[-1]
+    loop = len(requests) * 1e9 / (last - requests[0].arrival)
+    return {"bus": bus_bound(channel, requests), "dies": dies_to_the_end(channel, requests), "loop": loop}
 
 
 def requests_for(answers: int, channel_depth: int) -> int:

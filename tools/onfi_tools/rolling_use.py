@@ -10,12 +10,12 @@ from pathlib import Path
 from typing import Dict, Iterable, List, NamedTuple, Optional, Sequence, Tuple
 
 from onfi_tools.channel_bound import bounds_of, read_source, requests_for
-from onfi_tools.rolling_ways import PLANS
+from onfi_tools.rolling_ways import PLANS, WAYS
 
 ROOT = Path(__file__).resolve().parent.parent.parent
 SOURCES = ROOT / "examples/simulator/rolling"
 # What it shares with the driver of examples/c; and what of both calls the library.
-SHARED = ("firmware_board.c", "firmware_choice.c", "firmware_host.c", "firmware_rule.c")
+SHARED = ("firmware_choice.c", "firmware_host.c", "firmware_rule.c")
 OF_THE_LIBRARY = ("firmware_choice.c", "library.c")
 STRICT = ("-std=c99", "-O2", "-Wall", "-Wextra", "-Werror", "-pedantic")
 
@@ -82,25 +82,31 @@ def key_of(of: Configuration, way: str, asked: Asked) -> Key:
 
 
 class Rows:
-    """All figures in a file, a run a line, written as they come. A run that stands there already isn't run again."""
+    """All figures in a file, a run a line, written as they come, in the columns that it has. A run that stands there already isn't run again.
+
+    Ways of one's own aren't kept: what they do may be another thing the next time.
+    """
 
     def __init__(self, path: Optional[Path]) -> None:
         self.path = path
         self.found: Dict[Key, Figures] = {}  # also where there is no file: what is asked for twice is run once
+        self.names: List[str] = []
         if path and path.is_file():
             names, *rows = csv.reader(path.read_text().splitlines())
             start = names.index("answered")
-            self.found = {tuple(row[:start]): dict(zip(names[start:], map(float, row[start:]))) for row in rows}
+            self.names = names[start:]
+            self.found = {tuple(row[:start]): dict(zip(self.names, map(float, row[start:]))) for row in rows}
 
     def keep(self, key: Key, figures: Figures) -> None:
-        if key in self.found:
+        if key in self.found or key[len(Configuration._fields)] not in WAYS:
             return
-        head = "" if self.found else ",".join([*Configuration._fields, "way", "requests", "seed", "limit", *figures]) + "\n"
+        head = "" if self.names else ",".join([*Configuration._fields, "way", "requests", "seed", "limit", *figures]) + "\n"
+        self.names = self.names or list(figures)
         self.found[key] = figures
         if not self.path:
             return
         with open(self.path, "a") as file:
-            file.write(head + ",".join([*key, *(f"{number:.12g}" for number in figures.values())]) + "\n")
+            file.write(head + ",".join([*key, *(f"{figures[name]:.12g}" for name in self.names)]) + "\n")
 
 
 TWELVE = [
@@ -153,9 +159,11 @@ def sources_of(is_with_library: bool) -> List[Path]:
     return [source for source in sources if is_with_library or source.name not in OF_THE_LIBRARY]
 
 
-def build(made: Path, library: Optional[Path]) -> Path:
-    """The simulator; without a library it has greedy ways alone. ValueError says what the compiler said."""
+def build(made: Path, library: Optional[Path], own: Optional[Path] = None) -> Path:
+    """The simulator, with a way of one's own where a file has one; without a library it has greedy ways alone. ValueError says what the compiler said."""
     line = [os.environ.get("CC", "cc"), *STRICT, f"-I{ROOT / 'include'}"]
+    if own:
+        line += ["-Wno-error", "-DWITH_OWN_WAY", f"-I{SOURCES}", str(own)]
     if library is None:
         line.append("-DWITHOUT_LIBRARY")
     elif not (library / "libonfi.a").is_file():
@@ -165,6 +173,11 @@ def build(made: Path, library: Optional[Path]) -> Path:
     if ran.returncode:
         raise ValueError(ran.stderr)
     return made
+
+
+def ways_of(program: Path) -> List[str]:
+    """All ways that a built simulator has; one's own comes first."""
+    return subprocess.run([str(program), "ways"], capture_output=True, text=True, check=True).stdout.split()
 
 
 def output_of(program: Path, of: Configuration, requests: int, asked: Asked, *words: str) -> str:
@@ -179,14 +192,14 @@ def output_of(program: Path, of: Configuration, requests: int, asked: Asked, *wo
 def run_way(program: Path, of: Configuration, way: str, asked: Asked) -> Figures:
     """What comes of a configuration by a way."""
     lines = output_of(program, of, asked.requests_of(of), asked, "way", way).splitlines()
-    return {name: float(number) for name, number in (line.split() for line in lines)}
+    return {name: float(number) for name, number, _ in (line.split() for line in lines)}
 
 
 @lru_cache(maxsize=None)
 def bounds_there(program: Path, of: Configuration, asked: Asked) -> Dict[str, float]:
     """The throughputs that no scheduler passes there, of a run of the same requests."""
     answers = asked.requests_of(of)
-    text = output_of(program, of, requests_for(answers, of.depth), asked, "source", "yes")
+    text = output_of(program, of, requests_for(answers, of.depth), asked, "print", "requests")
     array = float(of.array.split("-")[0]) if of.told else 1
     return bounds_of(*read_source(text, of.luns, of.depth, array), answers)
 

@@ -30,11 +30,19 @@ WITHOUT_SEARCH = {
     "steady": "phase by phase",
 }
 WAYS = {**GREEDY, **PLANS, **WITHOUT_SEARCH}
+
+
+def title_of(way: str) -> str:
+    """That of a way; one's own has its name."""
+    return WAYS.get(way, way)
+
+
 # The best plain way, with which each is compared.
 BASE = "rfirst:all"
 SETTINGS = ["plan-near-by-lun", "plan-near-reads-first", "plan-near-heavy-reads", "plan-near-one-kind"]
 # The ways of the short measurement.
 QUICK = [*GREEDY, "plan", "plan-early", "plan-by-lun", *SETTINGS, *WITHOUT_SEARCH]
-SOME = ["rfirst:8", BASE, "plan", *SETTINGS, *WITHOUT_SEARCH]
+# Those of one's own load, where none are named.
+PLAIN = ["fifo", BASE, "steady"]
 # The ways by which sectors are measured beside pages.
 WAYS_OF_SECTORS = [BASE, "steady", "rule-whole-groups", "plan", "plan-near-by-lun", "plan-near-one-kind"]

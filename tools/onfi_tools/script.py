@@ -36,6 +36,28 @@ def lengths_of(text: str) -> Dict[str, Spans]:
     return told if all(kind in told for kind in KINDS) else paged_spans(text, page_numbers(text))
 
 
+def sectors_of(rows: List[List[str]]) -> int:
+    """How many sectors a page has: by a row `sector`, or the most of a row `sectorpost`; else 1."""
+    size = next((int(row[1]) for row in rows if row[:1] == ["sector"] and len(row) == 2), 0)
+    if not size:
+        return max((int(row[1]) for row in rows if row[:1] == ["sectorpost"] and len(row) == 3), default=1)
+    numbers = numbers_of(first_copy(bytes.fromhex("".join(row[1] for row in rows if row[:1] == ["page"]))))
+    return max(1, (numbers["data_bytes"] + numbers["spare_bytes"]) // size)
+
+
+def first_form(text: str) -> List[str]:
+    """The device of a script, of either form, in rows of the first form: `shape`, `spans`, `sectorpost` and `strict`."""
+    rows, lengths = rows_of(text), lengths_of(text)
+    shapes = [",".join(row) for row in rows if row[:1] == ["shape"]]
+    if not shapes:
+        numbers = page_numbers(text)
+        shapes = [",".join(map(str, ("shape", *(numbers[name] for name in ("luns", "plane_bits", "multi_plane_reads", "multi_plane_writes")))))]
+    spans = [",".join(map(str, ("spans", kind, *lengths[kind]))) for kind in KINDS]
+    posts = {int(row[1]): int(row[2]) for row in rows if row[:1] == ["sectorpost"]} or dict(enumerate(outputs_of(text), 1))
+    strict = [",".join(row) for row in rows if row[:1] == ["strict"]]
+    return [*shapes, *spans, *(f"sectorpost,{count},{post}" for count, post in sorted(posts.items())), *strict]
+
+
 def outputs_of(text: str) -> List[int]:
     """How long outputs of some sectors hold the bus in ns, by the rows of a script."""
     rows = rows_of(text)

@@ -45,10 +45,14 @@ static void print_latencies(const figures *figures, unsigned kind, const char *n
 {
     size_t count = figures->answered[kind];
     qsort(figures->latency[kind], count, sizeof **figures->latency, by_size);
-    fprintf(out, "%ss %zu\n", name, count);
-    fprintf(out, "%s_mean %.3f\n", name, mean(figures->latency[kind], count));
-    fprintf(out, "%s_99 %.3f\n", name, not_passed(figures->latency[kind], count, 990));
-    fprintf(out, "%s_999 %.3f\n", name, not_passed(figures->latency[kind], count, 999));
+    static const struct {
+        const char *name;
+        size_t in_a_thousand;
+    } shares[] = {{"50", 500}, {"95", 950}, {"99", 990}, {"999", 999}, {"most", 1000}};
+    fprintf(out, "%ss %zu requests\n", name, count);
+    fprintf(out, "%s_mean %.3f us\n", name, mean(figures->latency[kind], count));
+    for (size_t at = 0; at < sizeof shares / sizeof *shares; at++)
+        fprintf(out, "%s_%s %.3f us\n", name, shares[at].name, not_passed(figures->latency[kind], count, shares[at].in_a_thousand));
 }
 
 void figures_print(const figures *figures, FILE *out)
@@ -56,16 +60,16 @@ void figures_print(const figures *figures, FILE *out)
     const costs *planning = &figures->planning;
     double span = (double)(figures->to - figures->from), plans = planning->plans ? (double)planning->plans : 1;
     size_t answered = figures->answered[ONFI_READ] + figures->answered[ONFI_PROGRAM] + figures->answered[ONFI_ERASE];
-    fprintf(out, "answered %zu\n", answered);
-    fprintf(out, "rate %.3f\n", (double)answered * 1e9 / span);
-    fprintf(out, "bus %.5f\n", (double)figures->busy / span);
-    fprintf(out, "group %.4f\n", figures->groups ? (double)figures->grouped / (double)figures->groups : 0);
-    fprintf(out, "erasing %.4f\n", figures->erasing ? (double)figures->erases / (double)figures->erasing : 0);
+    fprintf(out, "answered %zu requests\n", answered);
+    fprintf(out, "rate %.3f requests/s\n", (double)answered * 1e9 / span);
+    fprintf(out, "bus %.5f share\n", (double)figures->busy / span);
+    fprintf(out, "group %.4f requests\n", figures->groups ? (double)figures->grouped / (double)figures->groups : 0);
+    fprintf(out, "erasing %.4f LUNs\n", figures->erasing ? (double)figures->erases / (double)figures->erasing : 0);
     print_latencies(figures, ONFI_READ, "read", out);
     print_latencies(figures, ONFI_PROGRAM, "program", out);
     print_latencies(figures, ONFI_ERASE, "erase", out);
-    fprintf(out, "plans %" PRIu64 "\nover %" PRIu64 "\n", planning->plans, planning->over);
-    fprintf(out, "nodes %.3f\n", (double)planning->nodes / plans);
-    fprintf(out, "planning_us %.3f\n", planning->seconds * 1e6 / plans);
-    fprintf(out, "planning_longest_us %.3f\n", planning->longest * 1e6);
+    fprintf(out, "plans %" PRIu64 " plans\nover %" PRIu64 " plans\n", planning->plans, planning->over);
+    fprintf(out, "nodes %.3f nodes/plan\n", (double)planning->nodes / plans);
+    fprintf(out, "planning_us %.3f us/plan\n", planning->seconds * 1e6 / plans);
+    fprintf(out, "planning_longest_us %.3f us\n", planning->longest * 1e6);
 }

@@ -1,6 +1,6 @@
 /*
- * Whether a phase is legal. The judge sees acceptances and phases alone: which requests wait it keeps itself, and the mock of a board has
- * each phase on its bus by its bytes and row.
+ * Whether a step is legal. The judge sees acceptances and steps alone: what waits, what each LUN runs, and from when on bus and LUNs may
+ * have a phase, it keeps itself, so that a step is judged before anything is made of it.
  */
 #include "rolling.h"
 
@@ -9,11 +9,7 @@
 void judge_open(judge *j, const setup *setup)
 {
     memset(j, 0, sizeof *j);
-    j->of = (simulation){.made_of = setup->made_of, .byte = setup->byte, .luns = setup->luns, .seed = setup->seed};
-    j->of.least_array = setup->least_array;
-    j->of.most_array = setup->most_array;
-    board_open(&j->board, &j->of);
-    j->sectors = sectors_of(setup->workload);
+    j->setup = setup;
 }
 
 void judge_acceptance(judge *j, const onfi_want *want, uint64_t since)
@@ -21,28 +17,25 @@ void judge_acceptance(judge *j, const onfi_want *want, uint64_t since)
     j->waiting[j->waiting_count++] = (accepted){.want = *want, .since = since};
 }
 
-static bool is_same(const onfi_want *one, const onfi_want *other)
-{
-    bool is_one_page = one->lun == other->lun && one->block == other->block && one->page == other->page;
-    return one->id == other->id && one->kind == other->kind && is_one_page;
-}
-
-/* The place of a want among those that wait, the same in all; else their number. */
-static size_t waiting_place(const judge *j, const onfi_want *want)
+/* The place of a request among those that wait; their number where it doesn't. */
+static size_t waiting_place(const judge *j, uint64_t id)
 {
     size_t place = 0;
-    while (place < j->waiting_count && !is_same(&j->waiting[place].want, want))
+    while (place < j->waiting_count && j->waiting[place].want.id != id)
         place++;
     return place;
 }
 
-/* Whether a want may begin: it was accepted by then and hasn't begun, and nothing earlier on its block waits. */
-static const char *breach_of_member(const judge *j, const phase *p, const onfi_want *member)
+/* Whether a request may begin: it is of the LUN, it was accepted by then and hasn't begun, and nothing earlier on its block waits. */
+static const char *breach_of_member(const judge *j, const step *step, uint64_t id)
 {
-    size_t place = waiting_place(j, member);
+    size_t place = waiting_place(j, id);
     if (place == j->waiting_count)
         return "a request begins that doesn't wait";
-    if (j->waiting[place].since > p->start)
+    const onfi_want *member = &j->waiting[place].want;
+    if (member->lun != step->lun)
+        return "a request begins on another LUN than its own";
+    if (j->waiting[place].since > step->start)
         return "a request begins before it is accepted";
     for (size_t earlier = 0; earlier < place; earlier++)
         if (j->waiting[earlier].want.lun == member->lun && j->waiting[earlier].want.block == member->block)
@@ -50,53 +43,108 @@ static const char *breach_of_member(const judge *j, const phase *p, const onfi_w
     return NULL;
 }
 
-/* Takes a group for begun: its members wait no more. */
-static void begin(judge *j, const phase *p)
+/* Whether two requests of a LUN may run as one. */
+static const char *breach_of_pair(const judge *j, const onfi_want *one, const onfi_want *other)
 {
-    for (size_t at = 0; at < p->opens; at++) {
-        size_t place = waiting_place(j, &p->member[at]);
+    const onfi_rules *rules = &j->setup->channel.rules;
+    uint8_t kind = operation_of(one->kind);
+    if (one->id == other->id)
+        return "a request begins twice";
+    if (operation_of(other->kind) != kind)
+        return "a group of several kinds";
+    if (!(kind == ONFI_READ ? rules->read : rules->write))
+        return "a group of a kind that the device runs one by one";
+    if (kind != ONFI_ERASE && one->page != other->page)
+        return "a group of several pages";
+    if (plane_of(rules, one->block) == plane_of(rules, other->block))
+        return "a group with two requests of one plane";
+    if (rules->strict && one->block >> rules->plane_bits != other->block >> rules->plane_bits)
+        return "a group of blocks that a strict device doesn't take together";
+    return NULL;
+}
+
+/* Whether the member of a new group at that place may begin, and run as one with those before it. */
+static const char *breach_of_place(const judge *j, const step *step, size_t at)
+{
+    const char *breach = breach_of_member(j, step, step->member[at]);
+    for (size_t before = 0; !breach && before < at; before++)
+        breach = breach_of_pair(j, &j->waiting[waiting_place(j, step->member[before])].want, &j->waiting[waiting_place(j, step->member[at])].want);
+    return breach;
+}
+
+/* Whether the LUN may go on, or begin so many, then: bus and LUN are free of others. */
+static const char *breach_of_turn(const judge *j, const step *step, fault *wrong)
+{
+    const running *lun = &j->lun[step->lun];
+    if (step->members > planes_of(j->setup))
+        return "a group of more requests than the device has planes";
+    if (step->members && lun->members)
+        return "a group begins while its LUN runs another one";
+    if (!step->members && !lun->members)
+        return "a LUN goes on that runs nothing";
+    wrong->earliest = later_of(j->bus_free, lun->may);
+    if (step->start < j->bus_free)
+        return "the bus isn't free";
+    return step->start < lun->may ? "the LUN isn't ready" : NULL;
+}
+
+static const char *breach_of(const judge *j, const step *step, fault *wrong)
+{
+    if (step->lun >= j->setup->luns)
+        return "there is no such LUN";
+    const running *lun = &j->lun[step->lun];
+    if (lun->members)
+        wrong->request = lun->member[lun->next % lun->members].id;
+    if (step->members)
+        wrong->request = step->member[0];
+    const char *breach = breach_of_turn(j, step, wrong);
+    if (breach)
+        return breach;
+    wrong->earliest = 0;
+    for (size_t at = 0; !breach && at < step->members; at++) {
+        wrong->request = step->member[at];
+        breach = breach_of_place(j, step, at);
+    }
+    return breach;
+}
+
+/* Has the members of a legal step begin: they wait no more, and stand by plane. */
+static void begin(judge *j, const step *step)
+{
+    running *lun = &j->lun[step->lun];
+    for (size_t at = 0; at < step->members; at++) {
+        size_t place = waiting_place(j, step->member[at]);
+        onfi_want want = j->waiting[place].want;
+        unsigned to = lun->members++;
+        for (; to > 0 && plane_of(&j->setup->channel.rules, lun->member[to - 1].block) > plane_of(&j->setup->channel.rules, want.block); to--)
+            lun->member[to] = lun->member[to - 1];
+        lun->member[to] = want;
         j->waiting_count--;
         memmove(j->waiting + place, j->waiting + place + 1, (j->waiting_count - place) * sizeof *j->waiting);
     }
 }
 
-/* What goes over the wires. */
-static onfi_phase wires_of(const phase *p)
+/* Has the next phase of a LUN run: bus and LUN may have another one from then on. */
+static void run_phase(judge *j, running *lun, uint64_t start)
 {
-    onfi_phase made = {.want = p->want.id, .kind = p->want.kind, .is_post = p->is_post, .row_cycles = ROW_CYCLES};
-    made.row = row_of(p->want.lun, p->want.block, p->want.page);
-    made.number = (uint8_t)p->number;
-    made.members = (uint8_t)p->members;
-    put_bytes(&made);
-    return made;
+    const onfi_want *want = &lun->member[lun->next % lun->members];
+    onfi_spans spans = lengths_for(j->setup, want);
+    bool is_post = lun->next >= lun->members, is_last_command = lun->next + 1 == lun->members;
+    uint64_t array = j->setup->told ? real_array(j->setup, &lun->member[0], spans.array) : spans.array;
+    j->bus_free = start + (is_post ? spans.post : spans.cmd);
+    lun->may = j->bus_free + (is_post ? 0 : is_last_command ? array : spans.gap);
+    j->answered += is_post;
+    if (++lun->next == 2 * lun->members)
+        lun->members = lun->next = 0;
 }
 
-/* Has a phase on the bus; gives its end. Which sectors a read puts out makes no difference: they are the first ones. */
-static uint64_t end_on_bus(judge *j, const phase *p)
+bool judge_step(judge *j, const step *step, fault *wrong)
 {
-    struct onfi_bus bus = board_bus(&j->board);
-    onfi_phase wires = wires_of(p);
-    onfi_output output = {.bytes = (uint16_t)(j->sectors ? j->sectors * j->board.sector : j->board.page)};
-    uint8_t data[PAGE_BYTES], byte;
-    if (p->is_post)
-        return p->want.kind == ONFI_READ ? bus.data_out(bus.board, p->start, &wires, &output, data) : bus.status(bus.board, p->start, &wires, &byte);
-    if (p->want.kind != ONFI_PROGRAM)
-        return bus.command(bus.board, p->start, &wires);
-    put_bytes_of_page(data, wires.row, 0, j->board.page);
-    return bus.data_in(bus.board, p->start, &wires, data);
-}
-
-const char *judge_phase(judge *j, const phase *p)
-{
-    const char *breach = NULL;
-    for (size_t at = 0; !breach && at < p->opens; at++)
-        breach = breach_of_member(j, p, &p->member[at]);
-    if (breach)
-        return breach;
-    begin(j, p);
-    j->answered += p->is_post;
-    uint64_t end = end_on_bus(j, p);
-    if (j->board.wrong)
-        return j->board.wrong;
-    return end == p->end ? NULL : "a phase of another length than its kind has";
+    *wrong = (fault){.time = step->start, .lun = step->lun, .request = NEVER};
+    wrong->what = breach_of(j, step, wrong);
+    if (wrong->what)
+        return false;
+    begin(j, step);
+    run_phase(j, &j->lun[step->lun], step->start);
+    return true;
 }

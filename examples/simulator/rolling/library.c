@@ -1,27 +1,37 @@
 /* Ways by the library's calls: the choice of a batch, plans, and phase by phase as a firmware has it, by a queue kept from turn to turn. */
 #include "rolling.h"
 
-/* All reads are pages here, whose posts are those of the channel's timing. */
-static const onfi_lengths NO_LENGTHS;
+/* The same to calls that take no lengths of sectors: all reads are pages, as long as the shortest; a longer one makes what follows late. */
+static void make_pages(said *s, size_t wants)
+{
+    s->channel.timing.read.post = s->setup->shortest;
+    for (size_t at = 0; at < wants; at++)
+        s->want[at].kind = operation_of(s->want[at].kind);
+    for (unsigned lun = 0; lun < s->setup->luns; lun++)
+        for (unsigned at = 0; at < s->lun[lun].members; at++)
+            s->lun[lun].member[at].kind = operation_of(s->lun[lun].member[at].kind);
+}
 
 static void choose_by(const machine *m, uint8_t order, batch *chosen)
 {
     said s;
     say(m, NULL, m->waiting_count, &s);
-    chosen->refused = onfi_choose(&s.channel, s.lun, m->setup->luns, s.want, m->waiting_count, m->accepted, order, ONFI_WANTS, chosen->place, &chosen->count);
+    chosen->refused = onfi_choose_by(&m->setup->lengths, &s.channel, s.lun, m->setup->luns, s.want, m->waiting_count, m->accepted, order, ONFI_WANTS,
+                                     chosen->place, &chosen->count);
 }
 
 void by_lun_one_kind(const machine *m, batch *chosen)
 {
     said s;
     say(m, NULL, m->waiting_count, &s);
-    chosen->refused = choose_one_kind(&NO_LENGTHS, &s.channel, s.lun, m->setup->luns, s.want, m->waiting_count, chosen->place, &chosen->count);
+    chosen->refused = choose_one_kind(&m->setup->lengths, &s.channel, s.lun, m->setup->luns, s.want, m->waiting_count, chosen->place, &chosen->count);
 }
 
 void whole_groups(const machine *m, batch *chosen)
 {
     said s;
     say(m, NULL, m->waiting_count, &s);
+    make_pages(&s, m->waiting_count);
     chosen->refused = onfi_choose_whole(&s.channel, s.lun, m->setup->luns, s.want, m->waiting_count, s.passed, m->waiting_count, m->has_newest, m->newest,
                                         ONFI_WANTS, chosen->place, &chosen->count);
 }
@@ -40,7 +50,9 @@ uint32_t plan_known(const problem *problem, uint32_t limit, onfi_planned *plan)
 {
     uint8_t no_room;
     size_t bytes;
-    return onfi_plan_known(&problem->now.channel, problem->now.lun, problem->luns, problem->now.want, problem->wants, limit, plan, &no_room, 0, &bytes);
+    said now = problem->now;
+    make_pages(&now, problem->wants);
+    return onfi_plan_known(&now.channel, now.lun, problem->luns, now.want, problem->wants, limit, plan, &no_room, 0, &bytes);
 }
 
 uint32_t plan_rule(const problem *problem, uint32_t limit, onfi_planned *plan)
@@ -49,7 +61,8 @@ uint32_t plan_rule(const problem *problem, uint32_t limit, onfi_planned *plan)
     uint8_t no_room;
     size_t bytes;
     (void)limit;
-    uint32_t status = onfi_plan_rule(&problem->now.channel, problem->now.lun, problem->luns, problem->now.want, problem->wants, &within, &no_room, 0, &bytes);
+    const said *now = &problem->now;
+    uint32_t status = onfi_plan_rule_by(&now->setup->lengths, &now->channel, now->lun, problem->luns, now->want, problem->wants, &within, &no_room, 0, &bytes);
     if (status == ONFI_DONE)
         *plan = (onfi_planned){.schedule = within.schedule, .finish = within.finish};
     return status;
@@ -70,7 +83,7 @@ static double mean_age(const problem *problem)
 /* Eight times 1 + 4 (age / mean age)^2, of reads so many times as much. */
 static uint16_t weight_by(double age, double mean, unsigned kind, double reads)
 {
-    double weight = (8 + 32 * (age / mean) * (age / mean)) * (kind == ONFI_READ ? reads : 1);
+    double weight = (8 + 32 * (age / mean) * (age / mean)) * (operation_of(kind) == ONFI_READ ? reads : 1);
     return weight < UINT16_MAX ? (uint16_t)weight : UINT16_MAX;
 }
 
@@ -103,8 +116,9 @@ static uint32_t plan_by(const problem *problem, uint32_t limit, const onfi_weigh
     onfi_within within;
     uint8_t no_room;
     size_t bytes;
-    uint32_t status = onfi_plan_early(&problem->now.channel, problem->now.lun, problem->luns, problem->now.want, problem->wants, limit, weights, problem->slack,
-                                      &within, &no_room, 0, &bytes);
+    const said *now = &problem->now;
+    uint32_t status = onfi_plan_early_by(&now->setup->lengths, &now->channel, now->lun, problem->luns, now->want, problem->wants, limit, weights,
+                                         problem->slack, &within, &no_room, 0, &bytes);
     if (status == ONFI_DONE)
         *plan = (onfi_planned){.schedule = within.schedule, .finish = within.finish};
     return status;
@@ -145,7 +159,7 @@ static uint32_t begin(mind *mind, const setup *setup)
     if (mind->has_begun)
         return ONFI_DONE;
     mind->has_begun = true;
-    mind->now.channel = setup->channel;
+    mind->now.channel = channel_of_pages(setup);
     mind->now.channel.bus_free = 0;
     return onfi_queue_begin(&mind->now.queue);
 }
@@ -156,18 +170,20 @@ static uint32_t accept_new(const machine *m, kept *now)
     uint32_t status = ONFI_DONE;
     for (size_t at = 0; at < m->waiting_count && now->queue.count < ONFI_WAITERS && !status; at++)
         if (m->waiting[at].want.id >= now->accepted) {
-            status = onfi_queue_accept(&now->queue, &m->waiting[at].want);
-            now->accepted = m->waiting[at].want.id + 1;
+            onfi_want page = m->waiting[at].want;
+            page.kind = operation_of(page.kind);
+            status = onfi_queue_accept(&now->queue, &page);
+            now->accepted = page.id + 1;
         }
     return status;
 }
 
-/* LUNs that are ready before the stated time. */
+/* LUNs that are ready before the stated time, or after a read that was longer than the shortest. */
 static void note_ready(const machine *m, kept *now)
 {
+    now->channel.bus_free = m->bus_free;
     for (unsigned lun = 0; lun < m->setup->luns; lun++)
-        if (m->lun[lun].ready < now->lun[lun].since)
-            now->lun[lun].since = m->lun[lun].ready;
+        now->lun[lun].since = m->lun[lun].ready;
 }
 
 /* Makes of what stands what will stand after the phase, if it starts when it may. */

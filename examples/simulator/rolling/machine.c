@@ -84,6 +84,7 @@ static onfi_lun lun_of(const lun_state *lun)
 
 void say(const machine *m, const size_t *place, size_t count, said *said)
 {
+    said->setup = m->setup;
     said->channel = m->setup->channel;
     said->channel.bus_free = later_of(m->now, m->bus_free);
     for (unsigned at = 0; at < m->setup->luns; at++)
@@ -129,22 +130,17 @@ static void note_passed(machine *m, unsigned lun, const step *step)
     }
 }
 
-/* Begins a new group. What doesn't wait is left out; the judge finds that. */
 static void begin_group(machine *m, lun_state *lun, const step *step)
 {
-    for (size_t at = 0; at < step->members && lun->members < ONFI_MEMBERS; at++) {
-        size_t place = place_of(m, step->member[at]);
-        if (place == m->waiting_count)
-            continue;
-        request begins = take(m, place);
+    for (size_t at = 0; at < step->members; at++) {
+        request begins = take(m, place_of(m, step->member[at]));
         join_group(m, lun, &begins);
     }
 }
 
-/* How long the array of a group takes in truth. */
-static uint64_t real_array(const setup *setup, const lun_state *lun, uint64_t stated)
+uint64_t real_array(const setup *setup, const onfi_want *first, uint64_t stated)
 {
-    double share = setup->least_array + (setup->most_array - setup->least_array) * share_of(setup->seed, lun->member[0].want.id);
+    double share = setup->least_array + (setup->most_array - setup->least_array) * share_of(setup->seed, first->id);
     return (uint64_t)((double)stated * share);
 }
 
@@ -154,28 +150,26 @@ static phase next_phase(const machine *m, unsigned number, uint64_t start)
     const lun_state *lun = &m->lun[number];
     bool is_post = lun->next >= lun->members;
     const onfi_want *want = &lun->member[is_post ? lun->next - lun->members : lun->next].want;
-    const onfi_spans *spans = spans_of(&m->setup->channel.timing, want->kind);
-    phase p = {.start = start, .end = start + (is_post ? spans->post : spans->cmd), .lun = number, .is_post = is_post, .want = *want};
+    onfi_spans spans = lengths_for(m->setup, want);
+    phase p = {.start = start, .end = start + (is_post ? spans.post : spans.cmd), .lun = number, .is_post = is_post, .want = *want};
     p.number = lun->next;
     p.members = lun->members;
     p.opens = lun->next ? 0 : lun->members;
-    for (size_t at = 0; at < p.opens; at++)
-        p.member[at] = lun->member[at].want;
     if (lun->next + 1 == lun->members)
-        p.array = real_array(m->setup, lun, spans->array);
+        p.array = real_array(m->setup, &lun->member[0].want, spans.array);
     return p;
 }
 
 /* What a LUN is after a phase. */
 static void pass_phase(const setup *setup, lun_state *lun, const phase *p)
 {
-    const onfi_spans *spans = spans_of(&setup->channel.timing, p->want.kind);
+    onfi_spans spans = lengths_for(setup, &p->want);
     lun->next++;
     lun->ready = lun->real = p->end;
     if (lun->next < lun->members)
-        lun->ready = lun->real = p->end + spans->gap;
+        lun->ready = lun->real = p->end + spans.gap;
     if (lun->next == lun->members) {
-        lun->ready = p->end + spans->array;
+        lun->ready = p->end + spans.array;
         lun->real = p->end + p->array;
     }
     if (lun->next == 2 * lun->members)

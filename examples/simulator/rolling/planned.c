@@ -111,6 +111,6 @@ bool by_plan(const way *way, mind *mind, const machine *m, const batch *batch, s
     if (mind->plan.at == mind->plan.steps)
         return false;
     *step = mind->plan.step[mind->plan.at];
-    step->start = later_of(step->start, m->now);
+    step->start = later_of(step->start, soonest(m, step->lun));
     return true;
 }

@@ -1,23 +1,24 @@
 /*
- * One channel in rolling use: requests come while others run, and a way says again and again what has the bus next. Devices, requests and
- * the greedy way are those of the driver of examples/c (firmware_channel.h), and its mock of a board judges each phase.
+ * One channel in rolling use: requests come while others run, and a way says again and again what has the bus next. Devices and requests
+ * are those of files, or those of the driver of examples/c by their names (firmware_channel.h), whose greedy way is one here.
  *
+ *   files.c     devices and requests of files
  *   source.c    words of devices and requests, and all requests of a run
  *   machine.c   the channel as it stands, and what a phase changes of it
- *   judge.c     whether a phase is legal: what waits, by books of its own, and the board
+ *   judge.c     whether a step is legal, by books of its own
  *   greedy.c    ways that take of what can start soonest what ranks first
  *   planned.c   ways that plan a batch, and follow the plan until there is something new
  *   library.c   the library's choices, planners, and phase by phase
- *   ways.c      all ways by name: to compare a scheduler of your own, add its line there
+ *   ways.c      all ways by name, one of your own among them
  *   figures.c   what came of it
  *   simulate.c  the loop
  *
- * Times are simulated, in ns. Where nothing is said a pointer isn't null.
+ * Times are simulated, in ns. Where nothing is said a pointer isn't null. Bytes of a bus aren't simulated, lengths are.
  */
 #ifndef ROLLING_H
 #define ROLLING_H
 
-#include "../../c/firmware_board.h"
+#include "../../c/firmware_channel.h"
 
 #include <stdio.h>
 
@@ -25,29 +26,65 @@ enum { OF_THE_WAY = UINT16_MAX, PLAN_STEPS = ONFI_LUNS * ONFI_STARTS + 2 * ONFI_
 
 /* What is simulated. */
 
+/* A request of a file: the line that is reported of it, and when it comes. */
 typedef struct {
-    onfi_channel channel; /* its timing is what is stated; its bus_free isn't looked at */
-    device made_of;       /* what that is stated of, and how long a byte has the bus */
-    double byte;
+    onfi_want want;
+    uint64_t line, time;
+} arrival;
+
+/* Those of a file, by rising time. */
+typedef struct {
+    arrival *arrival;
+    size_t count;
+} load;
+
+typedef struct {
+    onfi_channel channel; /* its timing is what is stated, of whole pages; its bus_free isn't looked at */
+    onfi_lengths lengths; /* of reads of some sectors */
+    uint64_t shortest; /* the post of the shortest read of all */
     unsigned luns, workload;
+    load own; /* requests of a file; where there are none, by the workload */
+    bool closed; /* those of a file come with answers too, whatever their times */
     size_t outstanding; /* how many requests may be accepted and not answered */
-    double load; /* the share of the bus that arriving requests ask for; 0: a new one comes with each answer */
+    double load; /* the share of the bus that requests by a workload ask for as they arrive; 0: a new one comes with each answer */
     double least_array, most_array; /* how long arrays take in truth, in shares of what is stated */
     bool told; /* LUNs say when they are ready; else they count as ready at the stated time */
-    size_t requests; /* how many are answered before it ends; the first tenth isn't measured */
+    size_t requests; /* how many are answered before it ends; the first tenth isn't measured, but of a file all are */
     uint64_t seed;
     uint32_t limit; /* of nodes in a search */
     uint16_t slack; /* by how many thousandths plans in which requests end early may end later; OF_THE_WAY: as its way says */
 } setup;
 
-/* Puts timing and rules of a device by name, at so many ns a byte, for the workload; false where there is no such device. */
-bool put_device(const char *name, double byte, setup *setup);
+/* read, program, erase. */
+extern const char *const KIND_NAMES[KINDS];
 /* The workload of that name; false where there is none. */
 bool put_workload(const char *name, unsigned *workload);
+/* Puts timing and rules of a device by name, at so many ns a byte, for the workload; false where there is no such device. */
+bool put_device(const char *name, double byte, setup *setup);
+/* Puts those of a device of a file, and its LUNs; null, or what is wrong, of which line (0: of the whole). */
+const char *read_device(FILE *file, setup *setup, uint64_t *line);
+/* Puts the requests of a file for the device; null, or what is wrong, of which line. They are freed by free(setup->own.arrival). */
+const char *read_load(FILE *file, setup *setup, uint64_t *line);
+/* How long the phases of a request take. */
+onfi_spans lengths_for(const setup *setup, const onfi_want *want);
+/* The channel to calls that take no lengths of sectors: all reads count as long as the shortest. */
+onfi_channel channel_of_pages(const setup *setup);
 
-host host_of(const setup *setup);
-/* The next request. Where reads want some sectors all do so many, so that they are reads whose posts are as long. */
-onfi_want next_want(host *host);
+/* Where requests come from. */
+typedef struct {
+    const setup *setup;
+    host host;
+    size_t given; /* how many of a file's have come */
+} source;
+
+source source_of(const setup *setup);
+/* Whether requests arrive by themselves; else one comes with each answer. */
+bool is_open(const setup *setup);
+/* When the next request comes: 0 where it comes with an answer, NEVER where none does. */
+uint64_t next_arrival(const source *s);
+/* Whether the next one comes with the one before it, room or not. */
+bool comes_along(const source *s);
+onfi_want next_want(source *s);
 /*
  * Prints how many planes and pages there are, how long the phases of each kind take, and the requests in their order, by kind and
  * LUN: those that come with the one before them, room or not, as mates.
@@ -97,7 +134,6 @@ typedef struct {
     onfi_want want; /* whose command or post it is */
     unsigned number, members; /* its number in a group of so many */
     size_t opens; /* of how many members the group is that it begins; 0: it begins none */
-    onfi_want member[ONFI_MEMBERS];
     uint64_t array; /* where it is a group's last command: how long the array takes in truth */
 } phase;
 
@@ -115,8 +151,11 @@ void accept_request(machine *m, onfi_want want, uint64_t arrived);
 bool tell_ready(machine *m);
 /* When the next LUN becomes so; NEVER where none does. */
 uint64_t next_told(const machine *m);
+/* How long the array of a group with that first member takes in truth, where so much is stated. */
+uint64_t real_array(const setup *setup, const onfi_want *first, uint64_t stated);
 /* The channel now, and requests that wait on it, as the library takes them. */
 typedef struct {
+    const setup *setup;
     onfi_channel channel;
     onfi_lun lun[ONFI_LUNS];
     onfi_want want[MOST_WAITING];
@@ -125,20 +164,36 @@ typedef struct {
 
 /* Those at so many places; all where there are no places. */
 void say(const machine *m, const size_t *place, size_t count, said *said);
-/* Runs a step: what is on the bus, and of which request it was where it is a post. */
+/* Runs a legal step: what is on the bus, and of which request it was where it is a post. */
 phase run_step(machine *m, const step *step, request *answered);
 
 /* Legality. */
+
+/* What is wrong, null: nothing; at which time, of which LUN and request. */
+typedef struct {
+    const char *what;
+    uint64_t time;
+    uint64_t earliest; /* where a step comes too soon: from when on it may */
+    unsigned lun;
+    uint64_t request; /* its id; NEVER: of none */
+} fault;
 
 typedef struct {
     onfi_want want;
     uint64_t since;
 } accepted;
 
+/* What a LUN runs; no members: nothing. */
 typedef struct {
-    simulation of;
-    board board;
-    unsigned sectors; /* how many of them reads put out; 0: their pages */
+    onfi_want member[ONFI_MEMBERS]; /* planes rising */
+    unsigned members, next;
+    uint64_t may; /* from when on it may have a phase */
+} running;
+
+typedef struct {
+    const setup *setup;
+    uint64_t bus_free;
+    running lun[ONFI_LUNS];
     accepted waiting[MOST_WAITING]; /* in order of acceptance */
     size_t waiting_count;
     uint64_t answered;
@@ -146,8 +201,8 @@ typedef struct {
 
 void judge_open(judge *j, const setup *setup);
 void judge_acceptance(judge *j, const onfi_want *want, uint64_t since);
-/* Null where the phase is legal, which it is taken for then; else what it breaks. */
-const char *judge_phase(judge *j, const phase *p);
+/* Whether a step is legal, which then counts as run; else *wrong says what it breaks. */
+bool judge_step(judge *j, const step *step, fault *wrong);
 
 /* Ways. */
 
@@ -228,6 +283,8 @@ bool by_rule(const way *way, mind *mind, const machine *m, const batch *batch, s
 bool phase_by_phase(const way *way, mind *mind, const machine *m, const batch *batch, step *step);
 bool by_plan(const way *way, mind *mind, const machine *m, const batch *batch, step *step);
 
+/* A way of a file of your own, which is compiled with -DWITH_OWN_WAY. */
+extern const way own_way;
 /* The way of that name; null where there is none. */
 const way *way_of(const char *name);
 void print_ways(FILE *out);
@@ -248,10 +305,13 @@ bool figures_begin(figures *figures, const setup *setup);
 void figures_end(figures *figures);
 void figures_print(const figures *figures, FILE *out);
 
-/*
- * Runs the channel by a way until so many requests are answered; prints its phases where there is a trace. Null where all
- * went well, else what went wrong.
- */
-const char *simulate(const setup *setup, const way *way, FILE *trace, figures *figures);
+/* What is printed of a run. */
+typedef struct {
+    FILE *phases;  /* each phase, as a line of `onfi_sim plan --requests`; null: none */
+    FILE *answers; /* each answer: its request, the line that is reported of it, its kind and LUN, when it arrived and ended; null: none */
+} printed;
+
+/* Runs the channel by a way until so many requests are answered; false where something is wrong. */
+bool simulate(const setup *setup, const way *way, const printed *to, figures *figures, fault *wrong);
 
 #endif

@@ -6,21 +6,23 @@
 
 typedef struct {
     const way *way;
-    FILE *trace; /* null: none */
+    const printed *to;
     machine machine;
-    host host;
+    source source;
     judge judge;
     mind mind;
     figures *figures;
+    size_t unmeasured; /* how many of the first answers aren't measured */
     uint64_t answered, busy;
-    const char *wrong;
+    fault *wrong;
 } run;
 
-static void accept_next(run *r, uint64_t arrived)
+static void accept_next(run *r)
 {
-    onfi_want want = next_want(&r->host);
+    uint64_t arrived = next_arrival(&r->source);
+    onfi_want want = next_want(&r->source);
     want.id = r->machine.accepted;
-    accept_request(&r->machine, want, arrived);
+    accept_request(&r->machine, want, is_open(r->machine.setup) ? arrived : r->machine.now);
     judge_acceptance(&r->judge, &want, r->machine.now);
 }
 
@@ -32,35 +34,35 @@ static bool has_room(const run *r)
 /* Accepts what has come by now. */
 static void accept_all(run *r)
 {
-    if (r->machine.setup->load == 0) {
-        while (has_room(r) || r->host.mates)
-            accept_next(r, r->machine.now);
-        return;
-    }
-    while (has_room(r) && r->host.next_arrival <= r->machine.now) {
-        accept_next(r, r->host.next_arrival);
-        host_arrival(&r->host);
-    }
+    while (next_arrival(&r->source) <= r->machine.now && (has_room(r) || comes_along(&r->source)))
+        accept_next(r);
 }
 
 /* When something comes to be known next. */
 static uint64_t next_event(const run *r)
 {
-    uint64_t told = next_told(&r->machine);
-    if (r->machine.setup->load == 0 || !has_room(r))
-        return told;
-    return told < r->host.next_arrival ? told : r->host.next_arrival;
+    uint64_t told = next_told(&r->machine), arrival = has_room(r) ? next_arrival(&r->source) : NEVER;
+    return told < arrival ? told : arrival;
 }
 
-/* Counts an answer; the first tenth isn't measured. */
+static void print_answer(const run *r, const request *answered, uint64_t end)
+{
+    const onfi_want *want = &answered->want;
+    const load *own = &r->machine.setup->own;
+    uint64_t line = own->count ? own->arrival[want->id].line : want->id + 1;
+    if (r->to->answers)
+        fprintf(r->to->answers, "%" PRIu64 ",%" PRIu64 ",%s,%u,%" PRIu64 ",%" PRIu64 "\n", want->id, line, KIND_NAMES[operation_of(want->kind)],
+                (unsigned)want->lun, answered->arrived, end);
+}
+
+/* Counts an answer that is measured. */
 static void count_answer(run *r, const request *answered, uint64_t end)
 {
     figures *f = r->figures;
-    size_t unmeasured = r->machine.setup->requests / 10;
-    unsigned kind = answered->want.kind;
+    unsigned kind = operation_of(answered->want.kind);
     r->answered++;
     f->to = end;
-    if (r->answered <= unmeasured) {
+    if (r->answered <= r->unmeasured) {
         f->from = end;
         f->busy = r->busy;
         return;
@@ -70,9 +72,15 @@ static void count_answer(run *r, const request *answered, uint64_t end)
 
 static void print_phase(const run *r, const phase *p)
 {
-    const char *part = p->is_post ? "post" : "cmd";
-    if (r->trace)
-        fprintf(r->trace, "%" PRIu64 " %" PRIu64 " %u %s %" PRIu64 " %zu\n", p->start, p->end, p->lun, part, p->want.id, p->opens);
+    onfi_phase wires = {.kind = operation_of(p->want.kind), .number = (uint8_t)p->number, .members = (uint8_t)p->members, .is_post = p->is_post};
+    put_bytes(&wires);
+    if (!r->to->phases)
+        return;
+    fprintf(r->to->phases, "%" PRIu64 " %" PRIu64 " %u %s %s %u %u %02X ", p->start, p->end, p->lun, KIND_NAMES[wires.kind], p->is_post ? "post" : "cmd",
+            (unsigned)p->want.block, (unsigned)p->want.page, (unsigned)wires.opener);
+    if (wires.closer)
+        fprintf(r->to->phases, "%02X", (unsigned)wires.closer);
+    fprintf(r->to->phases, "%s %" PRIu64 "\n", wires.closer ? "" : "-", p->want.id);
 }
 
 /* Counts an erase that has begun: how long it takes, and how much of that no other one does. */
@@ -92,24 +100,34 @@ static void note_step(run *r, const step *step)
     r->mind.plan.at++;
 }
 
+/* Notes what is wrong otherwise than with a step: of the oldest request that waits. */
+static void note_wrong(run *r, const char *what)
+{
+    const request *oldest = r->machine.waiting_count ? &r->machine.waiting[0] : NULL;
+    *r->wrong = (fault){.what = what, .time = r->machine.now, .lun = oldest ? oldest->want.lun : 0, .request = oldest ? oldest->want.id : NEVER};
+}
+
+/* Runs a legal step, and counts what came of it. */
 static void run_next(run *r, const step *step)
 {
     request answered;
     phase p = run_step(&r->machine, step, &answered);
+    bool is_measured = r->answered >= r->unmeasured;
     print_phase(r, &p);
-    r->wrong = judge_phase(&r->judge, &p);
-    if (r->wrong)
-        return;
     note_step(r, step);
     r->busy += p.end - p.start;
-    if (p.opens && r->answered >= r->machine.setup->requests / 10) {
+    if (p.opens && is_measured) {
         r->figures->groups++;
         r->figures->grouped += p.opens;
     }
-    if (p.array && p.want.kind == ONFI_ERASE && r->answered >= r->machine.setup->requests / 10)
+    if (p.array && operation_of(p.want.kind) == ONFI_ERASE && is_measured)
         count_erase(r->figures, &p);
-    if (p.is_post)
+    if (p.is_post) {
+        print_answer(r, &answered, p.end);
         count_answer(r, &answered, p.end);
+    }
+    if (r->judge.bus_free != p.end || r->judge.answered != r->answered)
+        note_wrong(r, "the judge has another end of the phase, or counts other answers");
 }
 
 /* Runs what is next, or waits for what comes to be known before it could start. */
@@ -123,32 +141,33 @@ static void turn(run *r)
     bool any = r->way->decide(r->way, &r->mind, &r->machine, &batch, &step);
     uint64_t event = next_event(r);
     if (batch.refused)
-        r->wrong = "the library refuses to choose";
+        note_wrong(r, "the library refuses to choose");
     else if (r->mind.refused)
-        r->wrong = "the planner refuses a problem";
-    else if (any && step.start <= event)
-        run_next(r, &step);
-    else if (event < NEVER)
+        note_wrong(r, "the planner refuses a problem");
+    else if (any && step.start <= event) {
+        if (judge_step(&r->judge, &step, r->wrong))
+            run_next(r, &step);
+    } else if (event < NEVER)
         r->machine.now = later_of(event, r->machine.now);
     else
-        r->wrong = "requests are left, and nothing is done";
+        note_wrong(r, "requests are left, and nothing is done");
 }
 
-const char *simulate(const setup *setup, const way *way, FILE *trace, figures *figures)
+bool simulate(const setup *setup, const way *way, const printed *to, figures *figures, fault *wrong)
 {
     run *r = malloc(sizeof *r);
+    *wrong = (fault){.what = r ? NULL : "no memory", .request = NEVER};
     if (!r)
-        return "no memory";
-    *r = (run){.way = way, .trace = trace, .host = host_of(setup), .figures = figures};
+        return false;
+    *r = (run){.way = way, .to = to, .source = source_of(setup), .figures = figures, .wrong = wrong};
+    r->unmeasured = setup->own.count ? 0 : setup->requests / 10;
+    figures->from = r->unmeasured ? 0 : next_arrival(&r->source);
     judge_open(&r->judge, setup);
     r->machine.setup = setup;
-    while (!r->wrong && r->answered < setup->requests)
+    while (!wrong->what && r->answered < setup->requests)
         turn(r);
-    if (!r->wrong && r->judge.answered != r->answered)
-        r->wrong = "the judge has counted other answers";
     figures->busy = r->busy - figures->busy;
     figures->planning = r->mind.planning;
-    const char *wrong = r->wrong;
     free(r);
-    return wrong;
+    return !wrong->what;
 }

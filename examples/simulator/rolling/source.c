@@ -9,9 +9,9 @@ bool put_device(const char *name, double byte, setup *setup)
     const device *device = device_of(name);
     if (!device)
         return false;
-    setup->made_of = *device;
-    setup->byte = byte;
-    setup->channel = channel_for(device, byte, setup->workload);
+    setup->channel = channel_of(device, byte);
+    setup->lengths = lengths_of(device, byte);
+    setup->shortest = channel_for(device, byte, setup->workload).timing.read.post;
     return true;
 }
 
@@ -25,33 +25,74 @@ bool put_workload(const char *name, unsigned *workload)
     return false;
 }
 
-onfi_want next_want(host *host)
+onfi_spans lengths_for(const setup *setup, const onfi_want *want)
 {
-    onfi_want want = host_want(host);
-    want.kind = operation_of(want.kind);
-    return want;
+    unsigned sectors = want->kind >> 5;
+    onfi_spans spans = *spans_of(&setup->channel.timing, operation_of(want->kind));
+    if (sectors)
+        spans.post = setup->lengths.sectors[sectors - 1];
+    return spans;
 }
 
-host host_of(const setup *setup)
+onfi_channel channel_of_pages(const setup *setup)
 {
-    host made;
-    host_open(&made, setup->workload, setup->luns, &setup->channel, setup->load, setup->seed);
+    onfi_channel channel = setup->channel;
+    channel.timing.read.post = setup->shortest;
+    return channel;
+}
+
+source source_of(const setup *setup)
+{
+    onfi_channel channel = channel_of_pages(setup);
+    source made = {.setup = setup};
+    host_open(&made.host, setup->workload, setup->luns, &channel, setup->load, setup->seed);
     return made;
 }
 
-static const char *const KIND_NAMES[KINDS] = {[ONFI_READ] = "read", [ONFI_PROGRAM] = "program", [ONFI_ERASE] = "erase"};
+bool is_open(const setup *setup)
+{
+    return setup->own.count ? !setup->closed : setup->load > 0;
+}
+
+uint64_t next_arrival(const source *s)
+{
+    const load *own = &s->setup->own;
+    if (own->count && s->given == own->count)
+        return NEVER;
+    if (!is_open(s->setup))
+        return 0;
+    return own->count ? own->arrival[s->given].time : s->host.next_arrival;
+}
+
+bool comes_along(const source *s)
+{
+    return !s->setup->own.count && !is_open(s->setup) && s->host.mates > 0;
+}
+
+onfi_want next_want(source *s)
+{
+    if (s->setup->own.count)
+        return s->setup->own.arrival[s->given++].want;
+    onfi_want want = host_want(&s->host);
+    if (s->setup->load > 0)
+        host_arrival(&s->host);
+    return want;
+}
+
+const char *const KIND_NAMES[KINDS] = {[ONFI_READ] = "read", [ONFI_PROGRAM] = "program", [ONFI_ERASE] = "erase"};
 
 void print_source(const setup *setup, FILE *out)
 {
-    host host = host_of(setup);
+    source source = source_of(setup);
+    onfi_channel channel = channel_of_pages(setup);
     fprintf(out, "planes %u\npages %u\n", planes_of(setup), (unsigned)PAGES);
     for (unsigned kind = 0; kind < KINDS; kind++) {
-        const onfi_spans *spans = spans_of(&setup->channel.timing, kind);
+        const onfi_spans *spans = spans_of(&channel.timing, kind);
         fprintf(out, "%s %" PRIu64 " %" PRIu64 " %" PRIu64 " %" PRIu64 "\n", KIND_NAMES[kind], spans->cmd, spans->gap, spans->array, spans->post);
     }
-    for (size_t at = 0; at < setup->requests; at++) {
-        bool is_mate = host.mates > 0;
-        onfi_want want = next_want(&host);
-        fprintf(out, "%s %s %u\n", is_mate ? "mate" : "request", KIND_NAMES[want.kind], want.lun);
+    for (size_t at = 0; at < setup->requests && next_arrival(&source) < NEVER; at++) {
+        bool is_mate = source.host.mates > 0;
+        onfi_want want = next_want(&source);
+        fprintf(out, "%s %s %u\n", is_mate ? "mate" : "request", KIND_NAMES[operation_of(want.kind)], want.lun);
     }
 }

@@ -1,4 +1,4 @@
-/* The ways by name. */
+/* The ways by name, and one of your own where it is compiled beside (-DWITH_OWN_WAY). */
 #include "rolling.h"
 
 #include <string.h>
@@ -32,6 +32,10 @@ static const way WAYS[] = {
 
 const way *way_of(const char *name)
 {
+#ifdef WITH_OWN_WAY
+    if (!strcmp(own_way.name, name))
+        return &own_way;
+#endif
     for (size_t at = 0; at < sizeof WAYS / sizeof *WAYS; at++)
         if (!strcmp(WAYS[at].name, name))
             return &WAYS[at];
@@ -40,6 +44,9 @@ const way *way_of(const char *name)
 
 void print_ways(FILE *out)
 {
+#ifdef WITH_OWN_WAY
+    fprintf(out, "%s\n", own_way.name);
+#endif
     for (size_t at = 0; at < sizeof WAYS / sizeof *WAYS; at++)
         fprintf(out, "%s\n", WAYS[at].name);
 }

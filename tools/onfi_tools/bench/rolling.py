@@ -1,20 +1,31 @@
-"""What a channel gets done where requests come while others run: greedy ways, plans, and phase by phase.
+"""What a channel gets done where requests come while others run: greedy ways, plans, phase by phase, and one of your own.
 
     tools/bench rolling [--quick] [--library FOLDER] [--requests N] [--seed N] [--limit N] [--jobs N] [--rows FILE] [--ways NAMES]
-                        [--workload NAME]
+                        [--own FILE.c] [--workload NAME]
+    tools/bench rolling --trace TRACE.csv --device SCRIPT [--own FILE.c] [--ways NAMES] [--run PROGRAM] [--closed] [--depth N]
+                        [--into FOLDER] [--unit us] [--page-bytes N] [--from-zero] [--wrap] [--fresh] [--library FOLDER]
 
 It builds the simulator of a channel (examples/simulator/rolling) with the library of FOLDER (lib; greedy ways alone need none), and runs
 216 configurations by each way, JOBS at a time (one for each processor), until N requests are answered (4,000; with erases at least
-10,000, since a shorter run gains by leaving them undone); the first tenth isn't measured. Each phase is judged by code of its own, and
-an illegal one ends the run with status 1. A search opens at most LIMIT nodes (100,000); where it is over, round robin decides until
-there is something new, and that is counted. Beside each throughput stands a bound that no scheduler passes, of the same requests
-(tools/onfi_tools/channel_bound.py says why).
+10,000, since a shorter run gains by leaving them undone); the first tenth isn't measured. Each step is judged by code of its own, and
+an illegal one ends all with status 1, and a line that says when, on which LUN and of which request. A search opens at most LIMIT nodes
+(100,000); where it is over, round robin decides until there is something new, and that is counted. Beside each throughput stands a bound
+that no scheduler passes, of the same requests (tools/onfi_tools/channel_bound.py says why).
 
 --quick takes twelve of the configurations, and of two of them early arrays and open loops, and 1,000 requests where no N is named:
 within ten minutes of processor time. --ways takes these ways alone, with commas between them, beside the one that each is compared
-with; --workload takes the 54 configurations of one workload, also of those beside the 216: `random-programs`, the next page of a plane of
-any LUN; `reads-4k` and `mixed-4k`, whose reads put out one sector of four, 4 KiB of tlc and qlc. Of these two --quick takes six, beside
-whole pages. --rows keeps all figures of all runs in a file, each as it comes; a run that the file has isn't run again.
+with; --own compiles FILE.c, which has a way `own_way` (examples/simulator/rolling/README.md), and takes it too; --workload takes the 54
+configurations of one workload, also of those beside the 216: `random-programs`, the next page of a plane of any LUN; `reads-4k` and
+`mixed-4k`, whose reads put out one sector of four, 4 KiB of tlc and qlc. Of these two --quick takes six, beside whole pages. --rows keeps
+all figures of all runs in a file, each as it comes; a run that the file has isn't run again.
+
+--trace takes a load of your own, of bytes or of pages, on the device of SCRIPT in place of all that (docs/WORKLOADS.md has both forms,
+and what --unit to --fresh mean), by `fifo`, `rfirst:all`, with the library `steady`, and your own way, or by those of --ways. Requests come at their
+times, or --closed with answers, at most 64 or --depth of them outstanding. --run adds `run --clock simulated --rule` of onfi_sim, with
+batches by whole groups, of up to 10,000 operations: there one host sends all as they come. It prints operations and bytes a second, beside the bound,
+and latencies of lines, from arrival to the end of all that a line asks for. --into puts into FOLDER `latencies.csv`, with each line by
+each way, `over-time.csv` and its picture `over-time.svg`, with operations and bytes a second, and the simulator `rolling` with its
+`device.onfi` and `load.csv`.
 
 All that is random comes from the seed, the same for all ways: which requests come and when, and how long arrays take. Devices, buses,
 requests and ways are in docs/WORTH.md.
@@ -24,19 +35,22 @@ import argparse
 import os
 import tempfile
 from pathlib import Path
-from typing import List
+from typing import List, Optional
 
 from onfi_tools.bench.runs import ROOT, add_numbers, processor_time
+from onfi_tools.rates_svg import Panel, picture
+from onfi_tools.rolling_load import Load, Outcome, latency_rows, run_load, run_sequencer, tables_of, window_rows, windows_of, write_load
 from onfi_tools.rolling_tables import apart, gain_table, quick_tables, sector_table, whole_tables
-from onfi_tools.rolling_use import ALL, OF_SECTORS, TWELVE, WORKLOADS, Asked, Rows, all_of, build, measure, open_loops, readiness, six_of
-from onfi_tools.rolling_ways import BASE, GREEDY, QUICK, SOME, WAYS, WAYS_OF_SECTORS
+from onfi_tools.rolling_use import ALL, OF_SECTORS, TWELVE, WORKLOADS, Asked, Rows, all_of, build, measure, open_loops, readiness, six_of, ways_of
+from onfi_tools.rolling_ways import BASE, GREEDY, PLAIN, QUICK, WAYS, WAYS_OF_SECTORS, title_of
+from onfi_tools.script import first_form, rows_of
+from onfi_tools.workload import DEVICE_ROWS, Mapping, add_trace_words, operations_of, positive, read_requests, shape_of
 
 
 def quick(program: Path, ways: List[str], asked: Asked, rows: Rows) -> List[str]:
     """The twelve configurations, early arrays of two, open loops of one."""
-    some = [way for way in ways if way in SOME or way not in QUICK]
     early, loops = [*readiness(TWELVE[0]), *readiness(TWELVE[10])], open_loops(TWELVE[1])
-    return quick_tables([measure(program, of, by, asked, rows) for of, by in ((TWELVE, ways), (early, some), (loops, some))], ways, some)
+    return quick_tables([measure(program, of, ways, asked, rows) for of in (TWELVE, early, loops)], ways)
 
 
 def beside_pages(program: Path, workload: str, ways: List[str], asked: Asked, rows: Rows) -> List[str]:
@@ -47,12 +61,11 @@ def beside_pages(program: Path, workload: str, ways: List[str], asked: Asked, ro
 
 
 def ways_named(names: str) -> List[str]:
-    """Ways by their names, after the one that each is compared with."""
     found = names.split(",")
     wrong = [name for name in found if name not in WAYS]
     if wrong:
         raise argparse.ArgumentTypeError(f"no way {wrong[0]}; there are {', '.join(WAYS)}")
-    return [BASE, *(name for name in found if name != BASE)]
+    return found
 
 
 def words(parser: argparse.ArgumentParser) -> None:
@@ -62,22 +75,81 @@ def words(parser: argparse.ArgumentParser) -> None:
     add_numbers(parser, seed=1, limit=100_000, jobs=os.cpu_count() or 1)
     parser.add_argument("--rows", type=Path)
     parser.add_argument("--ways", type=ways_named)
+    parser.add_argument("--own", type=Path, metavar="FILE.c")
     parser.add_argument("--workload", choices=WORKLOADS)
+    parser.add_argument("--trace", type=Path, metavar="TRACE.csv")
+    parser.add_argument("--device", type=Path, metavar="SCRIPT")
+    parser.add_argument("--run", type=Path, metavar="PROGRAM")
+    parser.add_argument("--closed", action="store_true")
+    parser.add_argument("--depth", type=positive, default=64)
+    parser.add_argument("--into", type=Path, metavar="FOLDER")
+    add_trace_words(parser)
+
+
+def load_of(asked: argparse.Namespace) -> Load:
+    """ValueError names the first line of the trace that can't be read."""
+    if not asked.device:
+        raise ValueError("--trace asks for --device")
+    text = asked.device.read_text()
+    shape = shape_of(rows_of(text), 1, asked.page_bytes)
+    with asked.trace.open(newline="") as lines:
+        operations = list(operations_of(read_requests(lines, asked.unit), Mapping(shape, asked.wrap, not asked.fresh), asked.from_zero))
+    if not operations:
+        raise ValueError(f"{asked.trace}: nothing is asked for")
+    script = [",".join(row) for row in rows_of(text) if row and row[0] in DEVICE_ROWS]
+    return Load(script, first_form(text), shape, operations, asked.depth, asked.closed)
+
+
+def write_outcomes(load: Load, outcomes: List[Outcome], folder: Path) -> None:
+    """Latencies, what is done over time, and a picture of it."""
+    windows = windows_of(load, outcomes)
+    (folder / "latencies.csv").write_text("\n".join([*latency_rows(outcomes), ""]))
+    (folder / "over-time.csv").write_text("\n".join([*window_rows(windows), ""]))
+    own = {one.way: [it for it in windows if it.way == one.way] for one in outcomes}
+    moved = {title_of(way): [(it.end, it.bytes_a_second / 1e6) for it in its] for way, its in own.items()}
+    done = {title_of(way): [(it.end, it.operations_a_second) for it in its] for way, its in own.items()}
+    (folder / "over-time.svg").write_text(picture([Panel("MB a second", moved), Panel("operations a second", done)]))
+
+
+def own_load(asked: argparse.Namespace, room: Path) -> List[str]:
+    """A trace of one's own by each way; what isn't to be kept is put into the room."""
+    load, folder = load_of(asked), asked.into or room
+    folder.mkdir(parents=True, exist_ok=True)
+    write_load(load, folder)
+    program, own = built(asked, folder, asked.ways or [])
+    ways = [*own, *(asked.ways or [way for way in PLAIN if way in ways_of(program)])]
+    outcomes = [*(run_load(program, folder, load, way) for way in ways), *([run_sequencer(asked.run, load)] if asked.run else [])]
+    if asked.into:
+        write_outcomes(load, outcomes, folder)
+    return apart(*tables_of(load, outcomes))
+
+
+def built(asked: argparse.Namespace, folder: Path, ways: List[str]) -> "tuple[Path, List[str]]":
+    """The simulator, with the library where one of the ways needs it, or it is there; and one's own way, if any."""
+    is_asked = bool(set(ways) - set(GREEDY))
+    library: Optional[Path] = asked.library if is_asked or (asked.library / "libonfi.a").is_file() else None
+    program = build(folder / "rolling", library, asked.own)
+    return program, ways_of(program)[:1] if asked.own else []
+
+
+def configurations(asked: argparse.Namespace, room: Path) -> List[str]:
+    """The configurations that are asked for, by the ways that are."""
+    how = Asked(asked.requests or (1000 if asked.quick else 4000), asked.seed, asked.limit, asked.jobs)
+    is_beside = asked.quick and asked.workload in OF_SECTORS
+    named = asked.ways or (WAYS_OF_SECTORS if is_beside else QUICK if asked.quick else list(WAYS))
+    program, own = built(asked, room, named)
+    ways, rows = [BASE, *own, *(name for name in named if name != BASE)], Rows(asked.rows)
+    if is_beside:
+        lines = beside_pages(program, asked.workload, ways, how, rows)
+    elif asked.quick:
+        lines = quick(program, ways, how, rows)
+    else:
+        chosen = all_of([asked.workload]) if asked.workload else ALL
+        lines = whole_tables(measure(program, chosen, ways, how, rows), ways)
+    return [*lines, "", f"seed {how.seed}, {how.requests:,} requests a run, at most {how.limit:,} nodes a search; {processor_time():,.0f} s of processor time"]
 
 
 def main(asked: argparse.Namespace) -> int:
-    how = Asked(asked.requests or (1000 if asked.quick else 4000), asked.seed, asked.limit, asked.jobs)
-    is_beside = asked.quick and asked.workload in OF_SECTORS
-    ways, rows = asked.ways or (WAYS_OF_SECTORS if is_beside else QUICK if asked.quick else ways_named(",".join(WAYS))), Rows(asked.rows)
     with tempfile.TemporaryDirectory(prefix="rolling-") as room:
-        program = build(Path(room) / "rolling", asked.library if set(ways) - set(GREEDY) else None)
-        if is_beside:
-            lines = beside_pages(program, asked.workload, ways, how, rows)
-        elif asked.quick:
-            lines = quick(program, ways, how, rows)
-        else:
-            chosen = all_of([asked.workload]) if asked.workload else ALL
-            lines = whole_tables(measure(program, chosen, ways, how, rows), ways)
-    print("\n".join([*lines, "", f"seed {how.seed}, {how.requests:,} requests a run, at most {how.limit:,} nodes a search; "
-                                 f"{processor_time():,.0f} s of processor time"]))
+        print("\n".join(own_load(asked, Path(room)) if asked.trace else configurations(asked, Path(room))))
     return 0
