@@ -135,10 +135,11 @@ class Judge:
         """That phase of these members runs."""
         cmd, gap, array, _ = self.spans[members[0].kind]
         count = len(members)
-        self.bus = line.start + (cmd if phase < count else self.post_of(members[phase - count]))
+        ended = line.start + (cmd if phase < count else self.post_of(members[phase - count]))
+        self.bus = max(self.bus, ended)
         lun.members, lun.over, lun.is_open = members, phase + 1, may_join
-        lun.more = self.bus + gap
-        lun.ready = self.bus + (gap if lun.over < count else array if lun.over == count else 0)
+        lun.more = ended + gap
+        lun.ready = ended + (gap if lun.over < count else array if lun.over == count else 0)
         if lun.over == 2 * count:
             lun.members, lun.over, lun.is_open = (), 0, False
 

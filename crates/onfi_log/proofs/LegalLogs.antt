@@ -139,7 +139,7 @@ given_phase readies j k line text more said may e rest =
     ]
 
 -- nothing is amiss with a report of a LUN that is there, when the bus is free
-in_order : (a : Audit) (lun moment : ℕ) → None ≡ misreported a lun moment → (lun < length a.luns) × (a.bus_free ≤ moment)
+pub in_order : (a : Audit) (lun moment : ℕ) → None ≡ misreported a lun moment → (lun < length a.luns) × (a.bus_free ≤ moment)
 in_order a lun moment e = elim (cases_Bool (nat_le (length a.luns) lun)) [
   | inl b ↦ (let q : None ≡ Some (NoLun lun) = rw b at e in absurd (cc))
   | inr b ↦ (elim (cases_Bool (nat_lt moment a.bus_free)) [
