@@ -7,17 +7,17 @@ use Rattle.onfi_request.specs.declared.want.Want.{Want}
 use Rattle.onfi_group.specs.Words.{Pairs}
 use Rattle.onfi_group.proofs.Lists.{All-weaker}
 use Rattle.onfi_audit.specs.Audit.{Audit, MayCome, MayComeOn, after_line, readied_on}
-use Rattle.onfi_audit.specs.declared.breach.LogBreach.{LogBreach}
 use Rattle.onfi_audit.specs.declared.line.Line.{Line}
 use Rattle.onfi_audit.specs.declared.stage.LunStage.{LunStage}
 use Rattle.onfi_audit.specs.declared.stage.LunStage.TheVariants as stage
 use Rattle.onfi_audit.proofs.Bus.{bus_law}
+use Rattle.onfi_log.specs.declared.breach.LineBreach.{LineBreach}
 use Rattle.onfi_log.specs.declared.entry.LogEntry.{LogEntry}
 use Rattle.onfi_log.specs.declared.entry.LogEntry.TheVariants as says
 use Rattle.onfi_log.specs.declared.line.LogLine.{LogLine}
 use Rattle.onfi_log.specs.declared.readies.Readies.{Readies}
 use Rattle.onfi_log.specs.Entry.{entry_of, lun_in, phases_in}
-use Rattle.onfi_log.specs.Judging.{Judged, Takes, after_report, brings, ran, with_brought}
+use Rattle.onfi_log.specs.Judging.{Judged, Takes, after_report, brings, ran, unclosed, with_brought}
 use Rattle.onfi_log.specs.Laws.{AreLines, EachLaw, Follow, Found, IsEach, Overlaps, found_text, found_texts, moment_of}
 use Rattle.onfi_log.specs.Parts.{parts}
 use Rattle.onfi_log.specs.Text.{Answer, AnswersFrom, OnBreach, OnEntry, breach_text, ended, ended_by, wrong}
@@ -44,14 +44,14 @@ free_readied : (a : Audit) (lun moment : ℕ) (o : Option LunStage) → (readied
 free_readied a lun moment None = refl
 free_readied a lun moment (Some x) = refl
 
-report_later : (j k : Judged) (lun moment : ℕ) (b : Option LogBreach) → k ≡ after_report j lun moment b → bus j ≤ bus k
+report_later : (j k : Judged) (lun moment : ℕ) (b : Option LineBreach) → k ≡ after_report j lun moment b → bus j ≤ bus k
 report_later j k lun moment None e =
     let same : bus k ≡ bus j = ap (λ (x : Judged). bus x) e ∙ free_readied j.audit lun moment (slice_get j.audit.luns lun) in
     omega (arith, same)
 report_later j k lun moment (Some b) e = let same : bus k ≡ bus j = ap (λ (x : Judged). bus x) e in omega (arith, same)
 
 -- the bus never goes back
-taken_later : (j k : Judged) (entry : LogEntry) (b : Option LogBreach) → Takes j entry b k → bus j ≤ bus k
+taken_later : (j k : Judged) (entry : LogEntry) (b : Option LineBreach) → Takes j entry b k → bus j ≤ bus k
 taken_later j k (says.Phase line) None (right, e) = ran_later j k line e
 taken_later j k (says.Phase line) (Some b) (breaks, inl (may, e)) = ran_later j k line e
 taken_later j k (says.Phase line) (Some b) (breaks, inr (none, e)) = let same : bus k ≡ bus j = ap (λ (x : Judged). bus x) e in omega (arith, same)
@@ -130,7 +130,7 @@ none_found readies j number said texts answer lines end = record {
 }
 
 -- a line that was judged, and those after it
-one_found : (readies : Readies) (j k : Judged) (number : ℕ) (said text next : List ℕ) (more : List (List ℕ)) (answer : Answer) (entry : LogEntry) (b : Option LogBreach)
+one_found : (readies : Readies) (j k : Judged) (number : ℕ) (said text next : List ℕ) (more : List (List ℕ)) (answer : Answer) (entry : LogEntry) (b : Option LineBreach)
     → entry_of readies text ≡ Some entry → Takes j entry b k → IsFound readies k (number + 1) (said ++ found_text number entry b) (next ∷ more) answer
     → IsFound readies j number said (text ∷ next ∷ more) answer
 one_found readies j k number said text next more answer entry b is takes rest =
@@ -143,7 +143,7 @@ one_found readies j k number said text next more answer entry b is takes rest =
       text = rest.text ∙ ap (λ t. t ++ rest.rest) (append_assoc said (found_text number entry b) (found_texts (number + 1) rest.found));
     }
 
-on_breach : (readies : Readies) (j k : Judged) (number phases : ℕ) (said text next : List ℕ) (more : List (List ℕ)) (answer : Answer) (entry : LogEntry) (b : Option LogBreach)
+on_breach : (readies : Readies) (j k : Judged) (number phases : ℕ) (said text next : List ℕ) (more : List (List ℕ)) (answer : Answer) (entry : LogEntry) (b : Option LineBreach)
     → entry_of readies text ≡ Some entry → Takes j entry b k
     → OnBreach b true number (lun_in entry) said answer (λ s. AnswersFrom readies true k (number + 1) (phases + phases_in entry) s (next ∷ more) answer)
     → ((s : List ℕ) → AnswersFrom readies true k (number + 1) (phases + phases_in entry) s (next ∷ more) answer → IsFound readies k (number + 1) s (next ∷ more) answer)
@@ -172,6 +172,6 @@ found_from (text ∷ next ∷ more) readies j number phases said answer on =
 
 pub each_law : EachLaw
 each_law audit requests readies text answer (greatest, fresh, answers) =
-    let j : Judged = record { requests = requests; audit = audit; greatest = greatest } in
+    let j : Judged = record { requests = requests; audit = audit; greatest = greatest; closers = unclosed } in
     let is = found_from (parts 10 text) readies j 1 0 [] answer answers in
     (j, refl, record { found = is.found; follow = is.follow; lines = is.lines; rest = is.rest; text = is.text; overlaps = each_overlap is.found j is.follow })

@@ -8,8 +8,8 @@ use Rattle.onfi_problem.specs.Moves.{Move, placed}
 use Rattle.onfi_problem.specs.Problem.{Problem, IsProblem}
 use Rattle.onfi_audit.specs.Audit.{Audit, opening}
 use Rattle.onfi_audit.specs.Legal.{Accept, Audited, Entry, IsLineOf, Leads, Phase, lines_of, wants_of, with_wants}
-use Rattle.onfi_audit.specs.declared.breach.LogBreach.{LogBreach}
 use Rattle.onfi_audit.specs.declared.line.Line.{Line}
+use Rattle.onfi_log.specs.declared.breach.LineBreach.{LineBreach}
 use Rattle.onfi_log.specs.declared.entry.LogEntry.{LogEntry}
 use Rattle.onfi_log.specs.declared.entry.LogEntry.TheVariants as says
 use Rattle.onfi_log.specs.declared.line.LogLine.{LogLine}
@@ -103,7 +103,7 @@ ReportedLaw = (p : Problem) (before : List Entry) (a : Audit) (requests : Reques
 pub record Found : Type 0 where
   pub before : Judged
   pub entry : LogEntry
-  pub breach : Option LogBreach
+  pub breach : Option LineBreach
   pub after : Judged
   pub takes : Takes before entry breach after
 
@@ -120,7 +120,7 @@ AreLines readies (text ∷ next ∷ more) [] = entry_of readies text ≡ None
 AreLines readies (text ∷ next ∷ more) (f ∷ found) = (entry_of readies text ≡ Some f.entry) × AreLines readies (next ∷ more) found
 
 -- the answer's line for a line of that number
-abbrev pub found_text : ℕ → LogEntry → Option LogBreach → List ℕ
+abbrev pub found_text : ℕ → LogEntry → Option LineBreach → List ℕ
 found_text number entry None = []
 found_text number entry (Some b) = breach_text number (lun_in entry) b
 
