@@ -138,6 +138,18 @@ static void break_each(void)
     breaks("no free LUN", &audit, command(0, 0, ONFI_READ, 0, 0), (onfi_log_broken){.condition = ONFI_LOG_LUN_NOT_FREE, .start = 0, .earliest = 1000});
 }
 
+/* What comes into a longer phase leaves the bus taken for as long as that one takes it. */
+static void keep_the_bus(void)
+{
+    onfi_audit audit = begun();
+    legal("a command", &audit, command(0, 0, ONFI_READ, 0, 0), 0);
+    legal("its data", &audit, post(25240, 0, ONFI_READ, 0, 0), 1);
+    breaks("a command into it", &audit, command(30000, 1, ONFI_READ, 0, 0), (onfi_log_broken){.condition = ONFI_LOG_BUS_NOT_FREE, .start = 30000, .earliest = 36240});
+    expect("the bus after it", audit.channel.bus_free, 36240);
+    breaks("its mate", &audit, command(30740, 1, ONFI_READ, 1, 0), (onfi_log_broken){.condition = ONFI_LOG_BUS_NOT_FREE, .start = 30740, .earliest = 36240});
+    expect("the bus after both", audit.channel.bus_free, 36240);
+}
+
 static void begin_refused(const char *what, const onfi_channel *channel, const onfi_lun *luns, size_t count, uint32_t status)
 {
     static const onfi_lengths none;
@@ -214,6 +226,7 @@ int main(void)
     judge_batch();
     judge_many();
     break_each();
+    keep_the_bus();
     refuse_each();
     judge_sectors();
     tell_ready();

@@ -7,6 +7,10 @@ import dataclasses
 from typing import Dict, List, Optional, Sequence, Tuple, Union
 
 END = 2**62
+# First and last command byte, and the last one of a command after which another plane's comes.
+OPENERS = {("read", "cmd"): "00", ("program", "cmd"): "80", ("erase", "cmd"): "60", ("read", "post"): "06"}
+CLOSERS = {("read", "cmd"): "30", ("program", "cmd"): "10", ("erase", "cmd"): "D0", ("read", "post"): "E0"}
+FURTHER = {"read": "32", "program": "11", "erase": "D1"}
 
 
 @dataclasses.dataclass(frozen=True)
@@ -28,6 +32,8 @@ class Lun:
     over: int = 0
     is_open: bool = False
     more: int = 0
+    # What the last command that began a request closed with, where the line says it and it is one of such a command.
+    closer: str = ""
 
 
 @dataclasses.dataclass
@@ -39,6 +45,15 @@ class Line:
     block: int
     page: int
     number: Optional[int]
+    end: Optional[int] = None
+    opener: str = ""
+    closer: str = ""
+
+    @property
+    def bytes(self) -> Tuple[str, str]:
+        """Opener and closer of such a phase, of a command that is the last of its group."""
+        work = (self.kind, self.part)
+        return OPENERS.get(work, "78"), CLOSERS.get(work, "-")
 
     def names(self, want: Want) -> bool:
         return (want.kind, want.lun, want.block, want.page) == (self.kind, self.lun, self.block, self.page)
@@ -57,7 +72,9 @@ def line_of(text: str) -> Line:
         raise ValueError(text)
     number = words[-1] if len(words) in (7, 10) else "-"
     start, lun, block, page = map(number_in, (words[0], words[at], *words[at + 3 : at + 5]), (END - 1, 7, 65535, 4095))
-    return Line(start, lun, words[at + 1], words[at + 2], block, page, None if number == "-" else number_in(number, 2**63 - 1))
+    end, opener, closer = (number_in(words[1], 2**63 - 1), words[7], words[8]) if at == 2 else (None, "", "")
+    request = None if number == "-" else number_in(number, 2**63 - 1)
+    return Line(start, lun, words[at + 1], words[at + 2], block, page, request, end, opener, closer)
 
 
 @dataclasses.dataclass
@@ -135,10 +152,11 @@ class Judge:
         """That phase of these members runs."""
         cmd, gap, array, _ = self.spans[members[0].kind]
         count = len(members)
-        self.bus = line.start + (cmd if phase < count else self.post_of(members[phase - count]))
+        ended = line.start + (cmd if phase < count else self.post_of(members[phase - count]))
+        self.bus = max(self.bus, ended)
         lun.members, lun.over, lun.is_open = members, phase + 1, may_join
-        lun.more = self.bus + gap
-        lun.ready = self.bus + (gap if lun.over < count else array if lun.over == count else 0)
+        lun.more = ended + gap
+        lun.ready = ended + (gap if lun.over < count else array if lun.over == count else 0)
         if lun.over == 2 * count:
             lun.members, lun.over, lun.is_open = (), 0, False
 
@@ -150,7 +168,30 @@ class Judge:
             return self.poll(line)
         lun = self.luns[line.lun]
         begins = line.part == "cmd" and (not lun.members or lun.is_open)
-        return self.begin(line, lun) if begins else self.go_on(line, lun)
+        known = None if begins or line.part == "post" else lun.over + 1 == len(lun.members)
+        amiss = self.misclosed(line, lun)
+        broken = self.begin(line, lun) if begins else self.go_on(line, lun)
+        return amiss or broken or self.misfit(line, known)
+
+    def misclosed(self, line: Line, lun: Lun) -> Optional[str]:
+        """A command after the last one of a group, or a post in place of a further command, by the closer before it."""
+        if not lun.is_open:
+            return None
+        kind, first = lun.members[0].kind, lun.members[0]
+        if line.part == "cmd" and lun.closer == CLOSERS[kind, "cmd"]:
+            return f"OtherPhase {line.lun} post {first.block} {first.page}"
+        return f"NotClosed {line.lun}" if line.part == "post" and lun.closer == FURTHER[kind] else None
+
+    def misfit(self, line: Line, known: Optional[bool]) -> Optional[str]:
+        """What END and the command bytes of a phase that may come aren't; of some commands it is known whether they are a group's last."""
+        if line.end is not None and line.end != self.bus:
+            return f"OtherEnd {line.end} {self.bus}"
+        opener, last = line.bytes
+        further = FURTHER[line.kind]
+        closers = [last] if line.part == "post" or known else [further] if known is False else [last, further]
+        if line.end is None or (line.opener == opener and line.closer in closers):
+            return None
+        return f"OtherBytes {opener} {closers[0]}"
 
     def poll(self, poll: Poll) -> Optional[str]:
         """What a LUN runs goes on from then, if not sooner; a status comes over the bus."""
@@ -199,6 +240,7 @@ class Judge:
             return misnamed or f"NotGrouped {line.lun}"
         broken = self.too_soon(line, f"{'NotReady' if lun.members else 'LunNotFree'} {line.lun}", lun.more if lun.members else lun.ready)
         self.run(line, lun, members, len(lun.members), True)
+        lun.closer = line.closer if line.opener == line.bytes[0] else ""
         if not self.mentioned:
             self.waiting.remove(here[0])
         elif line.number is not None:

@@ -5,10 +5,10 @@ from __future__ import annotations
 import copy
 import random
 import unittest
-from typing import List, Optional, Tuple
+from typing import Dict, List, Optional, Tuple
 
 import support
-from log_model import Entry, Judge, Line, Poll, answer_of
+from log_model import CLOSERS, FURTHER, Entry, Judge, Line, Poll, answer_of
 
 # How many logs, and how many phases one has at most.
 COUNT, PHASES = 150, 80
@@ -18,7 +18,8 @@ KINDS = ("read", "program", "erase")
 def script_of(rng: random.Random, phases: int) -> str:
     """A device and a state of its channel; of some, requests."""
     luns, planes = rng.randint(1, 8), rng.randint(0, 2)
-    rows = [f"shape,{luns},{planes},{rng.randint(0, 1)},{rng.randint(0, 1)}", f"strict,{rng.randint(0, 1)}"]
+    reads = rng.randint(0, 1)
+    rows = [f"shape,{luns},{planes},{reads},{rng.randint(0, 1)}", f"strict,{rng.randint(0, 1)}"]
     rows += [f"spans,{kind},{rng.randint(1, 9)},{rng.randint(0, 9)},{rng.randint(0, 90)},{rng.randint(1, 30)}" for kind in KINDS]
     rows += [f"sectorpost,{sectors},{rng.randint(1, 30)}" for sectors in range(1, 8)]
     rows += [f"bus,{rng.randint(0, 50)}"] if rng.random() < 0.5 else []
@@ -26,6 +27,8 @@ def script_of(rng: random.Random, phases: int) -> str:
         chance = rng.random()
         if chance < 0.2:
             rows.append(f"free,{lun},{rng.randint(0, 90)}")
+        elif chance < 0.3 and reads and planes:
+            rows.append(f"running,{lun},{rng.randint(1, 3)},{rng.randint(0, 90)},read,{rng.randint(0, 3)},4,5")
         elif chance < 0.4:
             rows.append(f"running,{lun},1,{rng.randint(0, 90)},read,{rng.randint(0, 3)},{rng.randint(0, 9)}")
             rows.append(f"runsectors,{lun},{rng.randint(0, 7)}")
@@ -81,8 +84,41 @@ def legal_log(rng: random.Random, script: str, phases: int, by_status: bool) -> 
     return lines
 
 
+def put_fields(script: str, lines: List[Entry]) -> None:
+    """Gives each phase of a legal log its END and its command bytes."""
+    judge = Judge([row.split(",") for row in script.split("\n")[:-2]])
+    last: Dict[int, Line] = {}
+    for line in lines:
+        lun = judge.luns[line.lun]
+        is_further = isinstance(line, Line) and line.part == "cmd" and bool(lun.members)
+        assert judge.judge(line) is None
+        if isinstance(line, Poll):
+            continue
+        if is_further and line.lun in last:
+            last[line.lun].closer = FURTHER[line.kind]
+        line.end = judge.bus
+        line.opener, line.closer = line.bytes
+        last[line.lun] = line
+
+
+def broken_field(rng: random.Random, line: Line) -> None:
+    """Changes END or a command byte."""
+    what = rng.randrange(4)
+    if what == 0:
+        line.end = max(0, (line.end or 0) + rng.choice((-1, 1, 999_999)))
+    elif what == 1:
+        line.opener = rng.choice(("00", "60", "80", "78", "ZZ", "0"))
+    elif what == 2:
+        line.closer = rng.choice(("10", "30", "D0", "E0", "-", "hello", "d0"))
+    else:
+        line.closer = FURTHER[line.kind] if line.closer == CLOSERS[line.kind, "cmd"] else CLOSERS[line.kind, "cmd"]
+
+
 def broken_line(rng: random.Random, line: Entry) -> Entry:
     line = copy.copy(line)
+    if isinstance(line, Line) and line.end is not None and rng.random() < 0.4:
+        broken_field(rng, line)
+        return line
     what = rng.randrange(4 if isinstance(line, Poll) else 7)
     if what < 3:
         line.start = max(0, line.start + rng.choice((-20, -2, -1, 1, 2, 20)))
@@ -116,14 +152,15 @@ def break_log(rng: random.Random, lines: List[Entry]) -> None:
 
 def text_of(rng: random.Random, lines: List[Entry]) -> str:
     """The log in one of the four forms of lines; of some a line that says nothing."""
-    traced, numbered = rng.random() < 0.5, rng.random() < 0.5
+    numbered = rng.random() < 0.5
     texts = []
     for line in lines:
         if isinstance(line, Poll):
             texts.append(f"{line.start} {line.lun} ready")
             continue
-        words = [str(line.start), *([str(line.start + 9)] if traced else []), str(line.lun), line.kind, line.part, str(line.block), str(line.page)]
-        words += ["00", "30"] if traced else []
+        traced = line.end is not None and rng.random() < 0.95
+        words = [str(line.start), *([str(line.end)] if traced else []), str(line.lun), line.kind, line.part, str(line.block), str(line.page)]
+        words += [line.opener, line.closer] if traced else []
         words += ["-" if line.number is None else str(line.number)] if numbered else []
         texts.append(" ".join(words))
     if texts and rng.random() < 0.1:
@@ -138,6 +175,8 @@ def drawn(seed: int, by_status: bool) -> Tuple[str, str, bool]:
     phases = rng.randint(1, PHASES)
     script = script_of(rng, phases)
     lines = legal_log(rng, script, phases, by_status)
+    if rng.random() < 0.6:
+        put_fields(script, lines)
     if rng.random() < 0.8:
         break_log(rng, lines)
     return script, text_of(rng, lines), rng.random() < 0.5

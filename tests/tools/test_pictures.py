@@ -8,15 +8,18 @@ import xml.etree.ElementTree as ET
 from typing import Dict, Iterator, List, NamedTuple, Tuple
 
 import support
-from onfi_tools import perfetto, svg, vcd
-from onfi_tools.device import KINDS
-from onfi_tools.trace import Part, Phase, by_lun, read_trace, stretches
+from onfi_tools import perfetto, svg, text, vcd
+from onfi_tools.trace import Overlap, Part, Phase, by_lun, overlaps, read_trace, stretches
 
 SVG = "{http://www.w3.org/2000/svg}"
 TITLE = re.compile(r"LUN (\d), (\w+), ([a-z ]+)(?:, block (\d+), page (\d+))?: ([\d,]+) to ([\d,]+) ns")
 PAGE = (support.ROOT / "docs/pictures/README.md").read_text()
 # What the page shows of the batch, all of it and a part.
 TEXT_OF_BATCH, PART_OF_BATCH = (re.sub("^# ", "", shown, flags=re.MULTILINE) for shown in re.findall(r"draw-trace 60.*\n((?:# .*\n)+)", PAGE))
+
+
+# The second line comes into the first.
+FAULTY = ["0 140 0 read cmd 0 0 00 30 4", "100 240 1 read cmd 0 0 00 30 -"]
 
 
 def part_of(phase: Phase) -> Part:
@@ -38,13 +41,30 @@ class Traces(unittest.TestCase):
                     "1 2 0 copy cmd 0 0 00 30", "1 2 0 read array 0 0 00 30", "-1 2 0 read cmd 0 0 00 30"):
             with self.assertRaisesRegex(ValueError, "^line 1: not a line"):
                 read_trace([bad])
-        with self.assertRaisesRegex(ValueError, "^line 2: starts before"):
-            read_trace([good, good])
+        with self.assertRaisesRegex(ValueError, "^line 2: not a line"):
+            read_trace([good, "over 7"])
 
-    def test_the_request_of_a_line_is_left_out(self) -> None:
+    def test_lines_that_overlap(self) -> None:
+        """An output from 100 up to 1,000, two commands that come into it, one that comes as it ends, and one into the one before."""
+        given = ["100 1000 0 read post 0 0 06 E0", "200 340 1 read cmd 0 0 00 30", "900 1040 2 read cmd 0 0 00 30",
+                 "1040 1180 3 read cmd 0 0 00 30", "1179 1319 1 read cmd 1 0 00 30"]
+        self.assertEqual(overlaps(read_trace(given)), [Overlap(200, 340, 1, 2, 1), Overlap(900, 1000, 2, 3, 1), Overlap(1179, 1180, 1, 5, 4)])
+        for name in support.SCRIPTS:
+            self.assertEqual(overlaps(support.trace(name)), [])
+
+    def test_an_array_that_is_ready_early(self) -> None:
+        """Of 25,100 ns: an output after 20,000, one after all of them, and one a ns later."""
+        for wait, wanted in ((20000, [(Part.EARLY, 20000)]), (25100, [(Part.ARRAY, 25100)]), (25101, [(Part.ARRAY, 25100), (Part.WAIT, 1)])):
+            phases = read_trace(["0 140 0 read cmd 0 0 00 30", f"{140 + wait} {11140 + wait} 0 read post 0 0 06 E0"])
+            found = stretches(phases, 0, support.lengths("batch"))
+            self.assertEqual([(it.part, it.end - it.start) for it in found[1:-1]], wanted)
+
+    def test_the_request_of_a_line_is_kept(self) -> None:
         lines = support.trace_text("diagram").splitlines()
         for request in ("0", "7", "-"):
-            self.assertEqual(read_trace([f"{line} {request}" for line in lines]), support.trace("diagram"))
+            found = read_trace([f"{line} {request}" for line in lines])
+            self.assertEqual({it.request for it in found}, {request})
+            self.assertEqual([it._replace(request=None) for it in found], support.trace("diagram"))
         for wrong in (" x", " -1", " 0 0"):
             with self.assertRaisesRegex(ValueError, "line 1: not a line of a trace"):
                 read_trace([lines[0] + wrong])
@@ -196,6 +216,20 @@ class Drawings(unittest.TestCase):
                 line.sort()
                 self.assertTrue(all(one[1] <= other[0] for one, other in zip(line, line[1:])), line)
 
+    def test_an_overlap_is_red_with_its_line(self) -> None:
+        root = ET.fromstring(svg.picture(read_trace(FAULTY), None, 320 + 58 + 24, False))
+        red = [rect for rect in root.iter(SVG + "rect") if rect.attrib.get("fill") == svg.RED]
+        self.assertEqual([rect.findtext(SVG + "title") for rect in red], ["line 2 overlaps line 1: 100 to 140 ns", None])
+        left, width = (float(red[0].attrib[side]) for side in ("x", "width"))
+        self.assertAlmostEqual(left, svg.LEFT + 100 * 320 / 240, delta=0.01)
+        self.assertAlmostEqual(width, 40 * 320 / 240, delta=0.01)
+        self.assertIn("2", [text.text for text in root.iter(SVG + "text") if text.attrib["fill"] == svg.RED])
+        for name in support.SCRIPTS:
+            self.assertNotIn(f'fill="{svg.RED}"', svg.picture(support.trace(name), None, 960, False))
+
+    def test_an_overlap_in_text(self) -> None:
+        self.assertEqual(text.picture(read_trace(FAULTY), 24).splitlines()[0], "bus    0000000000!!!!1111111111")
+
     def test_the_pictures_of_the_documents(self) -> None:
         for name, width, labels in (("batch", 960, False), ("diagram", 800, True)):
             drawn = svg.picture(support.trace(name), support.lengths(name), width, labels)
@@ -226,8 +260,8 @@ def read_vcd(dump: str) -> List[Change]:
         word, *rest, end = line.split()
         assert end == "$end" and word in ("$comment", "$timescale", "$scope", "$upscope", "$var"), line
         if word == "$var":
-            assert rest[0] == "wire" and rest[2] not in variables and (rest[1] == "1") == (len(rest) == 4), line
-            variables[rest[2]] = (".".join([*scopes, rest[3]]), int(rest[1]))
+            assert rest[0] in ("wire", "string") and rest[2] not in variables and (rest[1] == "1") == (len(rest) == 4), line
+            variables[rest[2]] = (".".join([*scopes, rest[3]]), int(rest[1]) if rest[0] == "wire" else 0)
         elif word == "$scope":
             scopes.append(rest[1])
         elif word == "$upscope":
@@ -243,9 +277,9 @@ def changes_of(body: str, variables: Dict[str, Tuple[str, int]]) -> Iterator[Cha
             assert int(line[1:]) > time
             time = int(line[1:])
         elif line not in ("$dumpvars", "$end"):
-            value, key = line[1:].split() if line.startswith("b") else line
+            value, key = line[1:].split() if line[0] in "bs" else line
             name, bits = variables[key]
-            assert time >= 0 and len(value) == bits and set(value) <= set("01xz"), line
+            assert time >= 0 and (line[0] == "s" if bits == 0 else len(value) == bits and set(value) <= set("01xz")), line
             yield Change(time, name, value)
 
 
@@ -261,28 +295,34 @@ class Dumps(unittest.TestCase):
             changes = read_vcd(vcd.picture(phases, support.lengths(name)))
             self.assertEqual(len({change.signal for change in changes}), 1 + 5 * len(by_lun(phases)))
             for phase, time in ((phase, time) for phase in phases for time in (phase.start, phase.end - 1)):
-                told = [value_at(changes, f"channel.lun{phase.lun}.{signal}", time) for signal in ("phase", "ready", "kind", "block", "page")]
+                told = [value_at(changes, f"channel.lun{phase.lun}_{signal}", time) for signal in ("phase", "ready", "kind", "block", "page")]
                 self.assertEqual(value_at(changes, "channel.bus_owner", time), f"{phase.lun:03b}")
-                self.assertEqual([int(it, 2) for it in told], [vcd.CODES[part_of(phase)], 1, KINDS.index(phase.kind), phase.block, phase.page])
+                self.assertEqual(told[:3], [part_of(phase).value.replace(" ", "_"), "1", phase.kind])
+                self.assertEqual([int(it, 2) for it in told[3:]], [phase.block, phase.page])
             for end in {phase.end for phase in phases} - {phase.start for phase in phases}:
                 self.assertEqual(value_at(changes, "channel.bus_owner", end), "zzz")
 
     def test_an_idle_lun_has_no_kind_and_no_page(self) -> None:
         changes = read_vcd(vcd.picture(support.trace("batch"), support.lengths("batch")))
-        for time, kind in ((0, "zz"), (140, "00"), (2000, "00"), (58240, "zz")):
-            self.assertEqual(value_at(changes, "channel.lun0.kind", time), kind)
+        for time, kind in ((0, "none"), (140, "read"), (2000, "read"), (58240, "none")):
+            self.assertEqual(value_at(changes, "channel.lun0_kind", time), kind)
         for time, block in ((0, "z" * 16), (140, "0" * 16), (280, "z" * 16), (880, "0" * 15 + "1"), (1020, "z" * 16)):
-            self.assertEqual(value_at(changes, "channel.lun0.block", time), block)
+            self.assertEqual(value_at(changes, "channel.lun0_block", time), block)
 
     def test_ready_falls_for_gap_and_array_time(self) -> None:
         changes = read_vcd(vcd.picture(support.trace("batch"), support.lengths("batch")))
-        told = [(change.time, change.value) for change in changes if change.signal == "channel.lun0.ready"]
+        told = [(change.time, change.value) for change in changes if change.signal == "channel.lun0_ready"]
         self.assertEqual(told, [(0, "1"), (280, "0"), (880, "1"), (1020, "0"), (26120, "1")])
 
     def test_what_the_trace_does_not_tell_is_unknown(self) -> None:
         changes = read_vcd(vcd.picture(support.trace("programs-on-one-plane"), None))
-        self.assertEqual(value_at(changes, "channel.lun1.ready", 0), "x")
-        self.assertEqual(value_at(changes, "channel.lun1.phase", 0), "xxx")
+        self.assertEqual(value_at(changes, "channel.lun1_ready", 0), "x")
+        self.assertEqual(value_at(changes, "channel.lun1_phase", 0), "runs_since_before")
+
+    def test_phases_that_overlap_have_no_owner(self) -> None:
+        changes = read_vcd(vcd.picture(read_trace(FAULTY), None))
+        told = [(change.time, change.value) for change in changes if change.signal == "channel.bus_owner"]
+        self.assertEqual(told, [(0, "000"), (100, "xxx"), (140, "001"), (240, "zzz")])
 
     def test_no_change_is_told_twice(self) -> None:
         changes = read_vcd(vcd.picture(support.trace("batch"), None))
@@ -311,6 +351,13 @@ class Events(unittest.TestCase):
             for own in tracks.values():
                 self.assertTrue(len(own) > 1 and all(one["end"] <= other["start"] for one, other in zip(own, own[1:])))
 
+    def test_requests_and_overlaps(self) -> None:
+        events = json.loads(perfetto.picture(read_trace(FAULTY), None))["traceEvents"]
+        timed = [event for event in events if event["ph"] == "X"]
+        self.assertEqual([event["args"].get("request") for event in timed], [4, None, 4, None])
+        marks = [(event["name"], event["ts"]) for event in events if event["ph"] == "i"]
+        self.assertEqual(marks, [("line 2 overlaps line 1", 0.1)])
+
 
 class Commands(unittest.TestCase):
     def test_each_form_by_the_command(self) -> None:
@@ -331,9 +378,9 @@ class Commands(unittest.TestCase):
 
     def test_a_script_of_another_device_is_told(self) -> None:
         batch, other = ((support.ROOT / f"examples/{name}.onfi").read_text() for name in ("batch", "simulator/batch"))
-        late = "0 140 1 read cmd 0 0 00 30\n25240 36240 1 read post 0 0 06 E0\n"
+        soon = "0 140 1 read cmd 0 0 00 32\n740 880 1 read cmd 1 0 00 30\n"
         for script, given, wrong in ((other, support.trace_text("batch"), "line 4: the phase takes 11000 ns, by the script 369380"),
-                                     (batch.replace("25100", "25101"), late, "line 2: starts before the array time")):
+                                     (batch.replace("600,25100", "601,25100"), soon, "line 2: starts before the gap")):
             for form in ("svg", "vcd", "perfetto"):
                 ran = self.by_script(script, given, "--as", form)
                 self.assertEqual((ran.returncode, ran.stdout, ran.stderr.count("\n")), (1, "", 1))

@@ -5,18 +5,19 @@ import xml.etree.ElementTree as ET
 from typing import Dict, Iterator, List, Mapping, NamedTuple, Optional, Tuple
 
 from onfi_tools.device import Spans
-from onfi_tools.trace import Part, Phase, Stretch, Window, by_lun, finish_of, on_the_bus, stretches
+from onfi_tools.trace import Overlap, Part, Phase, Stretch, Window, by_lun, finish_of, on_the_bus, overlaps, stretches
 
 LEAST_WIDTH = 320
 LEFT, RIGHT, TOP, BAR, ROW, TIER = 58, 24, 30, 24, 40, 15
 LETTER, LEAST_BAR = 6.7, 1.5
-INK, FAINT = "#222222", "#d0d0d0"
+INK, FAINT, RED = "#222222", "#d0d0d0", "#d0021b"
 # Rising lightness, so that the parts differ in grey too; gap and wait are patterns.
 FILLS: Dict[Part, str] = {
     Part.COMMAND: "#22395b",
     Part.STATUS: "#8b5fa8",
     Part.OUTPUT: "#e3a04d",
     Part.ARRAY: "#d3e4f3",
+    Part.EARLY: "url(#early)",
     Part.GAP: "url(#gap)",
     Part.WAIT: "url(#wait)",
     Part.BEFORE: "url(#before)",
@@ -25,6 +26,7 @@ ON_DARK = (Part.COMMAND, Part.STATUS)
 # Of each pattern: the side of its square, and what is drawn there.
 PATTERNS: Dict[str, Tuple[int, str, Dict[str, str]]] = {
     "gap": (5, "path", {"d": "M-1,1 l2,-2 M0,5 l5,-5 M4,6 l2,-2", "stroke": INK, "stroke-width": "1"}),
+    "early": (6, "path", {"d": "M0,0 l6,6 M0,6 l6,-6", "stroke": RED, "stroke-width": "0.7"}),
     "wait": (5, "circle", {"cx": "2.5", "cy": "2.5", "r": "0.8", "fill": "#777777"}),
     "before": (6, "path", {"d": "M0,3 h6", "stroke": "#999999", "stroke-width": "1"}),
 }
@@ -61,9 +63,13 @@ def picture(phases: List[Phase], lengths: Optional[Mapping[str, Spans]], width: 
     add_patterns(root)
     ET.SubElement(root, "rect", {"width": "100%", "height": "100%", "fill": "white"})
     axis = ET.SubElement(root, "g")
+    faults = window.of(overlaps(phases))
     height = add_rows(root, scale, [on_the_bus(phase) for phase in window.of(phases)], rows, labels)
+    add_faults(root, scale, faults)
     add_axis(axis, scale, height, "finish " if scale.end == finish else "")
     height = add_legend(root, parts_of(rows), lengths is not None, width, height + 44)
+    if faults:
+        height = add_fault_legend(root, height + 20)
     root.attrib.update({"width": str(width), "height": str(height), "viewBox": f"0 0 {width} {height}"})
     break_lines(root)
     return ET.tostring(root, encoding="unicode") + "\n"
@@ -112,6 +118,25 @@ def add_bar(group: ET.Element, scale: Scale, top: int, bar: Stretch) -> None:
     rect = ET.SubElement(group, "rect", {**size, "fill": FILLS[bar.part], **edge})
     place = "" if bar.block is None else f", block {bar.block}, page {bar.page}"
     ET.SubElement(rect, "title").text = f"LUN {bar.lun}, {bar.kind}, {bar.part.value}{place}: {bar.start:,} to {bar.end:,} ns"
+
+
+def add_faults(root: ET.Element, scale: Scale, faults: List[Overlap]) -> None:
+    """A red bar over the bus's row for each overlap, with the number of the line that came into it."""
+    if not faults:
+        return
+    group = ET.SubElement(root, "g")
+    for fault in faults:
+        left = scale.x(fault.start)
+        width = max(scale.x(fault.end) - left, LEAST_BAR)
+        rect = ET.SubElement(group, "rect", {"x": f"{left:.2f}", "y": str(TOP), "width": f"{width:.2f}", "height": str(BAR), "fill": RED})
+        ET.SubElement(rect, "title").text = f"line {fault.line} overlaps line {fault.earlier}: {fault.start:,} to {fault.end:,} ns"
+        add_text(group, left + width / 2, TOP - 2, str(fault.line), "middle", fill=RED)
+
+
+def add_fault_legend(root: ET.Element, top: int) -> int:
+    ET.SubElement(root, "rect", {"x": str(LEFT), "y": str(top - 11), "width": "18", "height": "14", "fill": RED})
+    add_text(root, LEFT + 24, top, "a line that overlaps one before it, with its number", "start")
+    return top + 14
 
 
 def middle(scale: Scale, bar: Stretch) -> float:

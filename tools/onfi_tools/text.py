@@ -2,7 +2,7 @@
 
 from typing import List, NamedTuple, Optional
 
-from onfi_tools.trace import Phase, Window, by_lun, whole
+from onfi_tools.trace import Phase, Window, by_lun, overlaps, whole
 
 
 class Columns(NamedTuple):
@@ -40,6 +40,9 @@ def bus_row(phases: List[Phase], columns: Columns) -> List[str]:
     for phase in phases:
         for at in columns.of(phase.start, phase.end):
             row[at] = str(phase.lun) if row[at] in (" ", str(phase.lun)) else "*"
+    for overlap in overlaps(phases):
+        for at in columns.of(overlap.start, overlap.end):
+            row[at] = "!"
     return row
 
 

@@ -1,4 +1,4 @@
-"""Traces of `onfi_sim plan --trace` or `--requests`: their phases, and what each LUN does from one to the next."""
+"""Traces of `onfi_sim plan --trace` or `--requests`: their phases, what overlaps, and what each LUN does from one phase to the next."""
 
 import enum
 import itertools
@@ -16,6 +16,7 @@ class Part(enum.Enum):
     COMMAND = "command"
     GAP = "gap"
     ARRAY = "array time"
+    EARLY = "array ready early"
     WAIT = "wait for the bus"
     OUTPUT = "data output"
     STATUS = "status"
@@ -34,6 +35,19 @@ class Phase(NamedTuple):
     page: int
     opener: str
     closer: str
+    # The request of `--requests`, and which line it is.
+    request: Optional[str] = None
+    line: int = 0
+
+
+class Overlap(NamedTuple):
+    """A stretch of time in which the phase of a line has the bus while that of an earlier one does."""
+
+    start: int
+    end: int
+    lun: int
+    line: int
+    earlier: int
 
 
 class Stretch(NamedTuple):
@@ -46,9 +60,10 @@ class Stretch(NamedTuple):
     kind: str
     block: Optional[int] = None
     page: Optional[int] = None
+    request: Optional[str] = None
 
 
-Span = TypeVar("Span", Phase, Stretch)
+Span = TypeVar("Span", Phase, Stretch, Overlap)
 
 
 class Window(NamedTuple):
@@ -69,9 +84,19 @@ def read_trace(lines: Iterable[str]) -> List[Phase]:
     for number, line in enumerate(lines, 1):
         if line.strip():
             phases.append(phase_of(number, line))
-            if len(phases) > 1 and phases[-1].start < phases[-2].end:
-                raise ValueError(f"line {number}: starts before the phase above it ends")
     return phases
+
+
+def overlaps(phases: List[Phase]) -> List[Overlap]:
+    """Of each phase that begins before the ones above it are over, how long it does beside the one that ends last."""
+    found = []
+    last: Optional[Phase] = None
+    for phase in phases:
+        if last is not None and phase.start < last.end:
+            found.append(Overlap(phase.start, min(phase.end, last.end), phase.lun, phase.line, last.line))
+        if last is None or phase.end > last.end:
+            last = phase
+    return found
 
 
 def is_number(field: str) -> bool:
@@ -80,8 +105,7 @@ def is_number(field: str) -> bool:
 
 def phase_of(number: int, line: str) -> Phase:
     fields = line.split()
-    if len(fields) == 10 and (is_number(fields[9]) or fields[9] == "-"):
-        fields.pop()  # the request of `--requests`, which no picture shows
+    request = fields.pop() if len(fields) == 10 and (is_number(fields[9]) or fields[9] == "-") else None
     numbers = fields[:3] + fields[5:7]
     if len(fields) != 9 or not all(map(is_number, numbers)):
         raise ValueError(f"line {number}: not a line of a trace: {line.strip()}")
@@ -89,7 +113,7 @@ def phase_of(number: int, line: str) -> Phase:
     kind, part = fields[3:5]
     if start >= end or lun >= LUNS or kind not in KINDS or part not in PART_WORDS:
         raise ValueError(f"line {number}: not a line of a trace: {line.strip()}")
-    return Phase(start, end, lun, kind, part == "post", block, page, fields[7], fields[8])
+    return Phase(start, end, lun, kind, part == "post", block, page, fields[7], fields[8], request, number)
 
 
 def whole(phases: List[Phase]) -> Window:
@@ -111,7 +135,7 @@ def on_the_bus(phase: Phase) -> Stretch:
     part = Part.COMMAND
     if phase.is_post:
         part = Part.OUTPUT if phase.kind == "read" else Part.STATUS
-    return Stretch(phase.start, phase.end, phase.lun, part, phase.kind, phase.block, phase.page)
+    return Stretch(phase.start, phase.end, phase.lun, part, phase.kind, phase.block, phase.page, phase.request)
 
 
 def runs_at_first(own: List[Phase]) -> bool:
@@ -124,8 +148,8 @@ def runs_at_first(own: List[Phase]) -> bool:
 def stretches(own: List[Phase], begin: int, lengths: Optional[Mapping[str, Spans]]) -> List[Stretch]:
     """What a LUN does from `begin` to its last phase, without idle time, in order.
 
-    Where the lengths are known, a gap or an array time ends when it is over, and the wait for the bus follows; else
-    they go up to the next phase.
+    Where the lengths are known, a gap or an array time ends when it is over, and the wait for the bus follows, and an array is early
+    where the next phase comes sooner; else they go up to the next phase.
     """
     found = []
     if own and own[0].start > begin and runs_at_first(own):
@@ -144,7 +168,10 @@ def between(phase: Phase, behind: Phase, lengths: Optional[Mapping[str, Spans]])
     cells = []
     if not phase.is_post:
         part = Part.ARRAY if behind.is_post else Part.GAP
-        over = behind.start if lengths is None else min(behind.start, phase.end + wait_of(part, lengths[phase.kind]))
+        stated = behind.start if lengths is None else phase.end + wait_of(part, lengths[phase.kind])
+        over = min(behind.start, stated)
+        if part is Part.ARRAY and over < stated:
+            part = Part.EARLY
         cells.append(Stretch(phase.end, over, phase.lun, part, phase.kind))
     cells.append(Stretch(over, behind.start, phase.lun, Part.WAIT, phase.kind))
     return [cell for cell in cells if cell.start < cell.end]
@@ -160,9 +187,8 @@ def misfit(phases: List[Phase], lengths: Mapping[str, Spans], outputs: Sequence[
             return f"line {number}: the phase takes {phase.end - phase.start} ns, by the script {wanted}"
     for own in by_lun(phases).values():
         for phase, behind in zip(own, own[1:]):
-            part = Part.ARRAY if behind.is_post else Part.GAP
-            if not phase.is_post and behind.start < phase.end + wait_of(part, lengths[phase.kind]):
-                return f"line {phases.index(behind) + 1}: starts before the {part.value} of the script is over"
+            if not phase.is_post and not behind.is_post and behind.start < phase.end + lengths[phase.kind].gap:
+                return f"line {phases.index(behind) + 1}: starts before the {Part.GAP.value} of the script is over"
     return None
 
 

@@ -1,22 +1,22 @@
 """A trace as a value change dump (IEEE 1364), which waveform viewers such as GTKWave open."""
 
-from collections import defaultdict
-from typing import Dict, Iterable, List, Mapping, Optional
+from collections import Counter, defaultdict
+from typing import Counter as Counts, Dict, Iterable, List, Mapping, Optional, Tuple
 
-from onfi_tools.device import KINDS, Spans
+from onfi_tools.device import Spans
 from onfi_tools.trace import Part, Phase, Stretch, Window, by_lun, finish_of, stretches, whole
 
-CODES = {Part.COMMAND: 1, Part.GAP: 2, Part.ARRAY: 3, Part.WAIT: 4, Part.OUTPUT: 5, Part.STATUS: 6}
-BUSY = (Part.GAP, Part.ARRAY)
-# The short name of the bus's variable, and its value where nobody has it.
-BUS, FREE = "!", "zzz"
+BUSY = (Part.GAP, Part.ARRAY, Part.EARLY)
+# The short name of the bus's variable, and its value where nobody has it, and where several do.
+BUS, FREE, SEVERAL = "!", "zzz", "xxx"
+# Before the value of a variable that is a text.
+TEXT = "s"
 # The variables of a LUN, each with its value where the LUN has nothing to do.
-IDLE = {"ready": "1", "phase": "000", "kind": "zz", "block": 16 * "z", "page": 12 * "z"}
+IDLE = {"ready": "1", "phase": TEXT + "idle", "kind": TEXT + "none", "block": 16 * "z", "page": 12 * "z"}
 MEANING = (
-    "bus_owner: number of the LUN, z where nobody has the bus",
+    "bus_owner: number of the LUN, z where nobody has the bus, x where phases overlap",
     "ready: 0 in gap and array time, else 1; x where the trace doesn't tell",
-    "phase: 0 idle, " + ", ".join(f"{code} {part.value}" for part, code in CODES.items()) + "; x runs since before",
-    "kind: of the group, " + ", ".join(f"{code} {kind}" for code, kind in enumerate(KINDS)) + "; z where the LUN is idle",
+    "phase, kind: texts; the kind is the group's",
     "block, page: of the phase on the bus; z where there is none",
 )
 
@@ -30,9 +30,8 @@ def picture(phases: List[Phase], lengths: Optional[Mapping[str, Spans]], window:
     values[window.begin][BUS] = FREE
     for lun in luns:
         values[window.begin].update(keyed(lun, IDLE))
-    for phase in window.of(phases):
-        values[phase.start][BUS] = f"{phase.lun:03b}"
-        values[phase.end][BUS] = FREE
+    for time, owner in owners(window.of(phases)).items():
+        values[time][BUS] = owner
     for lun, own in luns.items():
         for stretch in window.of(stretches(own, 0, lengths)):
             values[stretch.start].update(keyed(lun, values_in(stretch)))
@@ -45,6 +44,22 @@ def picture(phases: List[Phase], lengths: Optional[Mapping[str, Spans]], window:
     return "\n".join(header(luns) + dumped(values) + end) + "\n"
 
 
+def owners(phases: List[Phase]) -> Dict[int, str]:
+    """Who has the bus from when on."""
+    changes: Dict[int, List[Tuple[int, int]]] = defaultdict(list)
+    for phase in phases:
+        changes[phase.start].append((phase.lun, 1))
+        changes[phase.end].append((phase.lun, -1))
+    found: Dict[int, str] = {}
+    on: Counts[int] = Counter()
+    for time in sorted(changes):
+        for lun, count in changes[time]:
+            on[lun] += count
+        who = list(on.elements())
+        found[time] = FREE if not who else f"{who[0]:03b}" if len(who) == 1 else SEVERAL
+    return found
+
+
 def keyed(lun: int, values: Mapping[str, str]) -> Dict[str, str]:
     """The values of a LUN's variables by their short names."""
     return {chr(34 + len(IDLE) * lun + at): value for at, value in enumerate(values.values())}
@@ -52,16 +67,18 @@ def keyed(lun: int, values: Mapping[str, str]) -> Dict[str, str]:
 
 def values_in(stretch: Stretch) -> Dict[str, str]:
     """Those of a LUN in a stretch."""
-    found = {**IDLE, "ready": "0" if stretch.part in BUSY else "1", "kind": f"{KINDS.index(stretch.kind):02b}"}
+    phase = TEXT + stretch.part.value.replace(" ", "_")
+    found = {**IDLE, "ready": "0" if stretch.part in BUSY else "1", "kind": TEXT + stretch.kind, "phase": phase}
     if stretch.part is Part.BEFORE:
-        return {**found, "ready": "x", "phase": "xxx"}
-    found["phase"] = f"{CODES[stretch.part]:03b}"
+        return {**found, "ready": "x"}
     if stretch.block is not None:
         found.update(block=f"{stretch.block:016b}", page=f"{stretch.page:012b}")
     return found
 
 
 def declared(key: str, name: str, value: str) -> str:
+    if value.startswith(TEXT):
+        return f"$var string 1 {key} {name} $end"
     span = f" [{len(value) - 1}:0]" if len(value) > 1 else ""
     return f"$var wire {len(value)} {key} {name}{span} $end"
 
@@ -70,10 +87,14 @@ def header(luns: Iterable[int]) -> List[str]:
     lines = [f"$comment {line} $end" for line in MEANING]
     lines += ["$timescale 1 ns $end", "$scope module channel $end", declared(BUS, "bus_owner", FREE)]
     for lun in luns:
-        lines.append(f"$scope module lun{lun} $end")
-        lines += [declared(key, name, value) for name, (key, value) in zip(IDLE, keyed(lun, IDLE).items())]
-        lines.append("$upscope $end")
+        lines += [declared(key, f"lun{lun}_{name}", value) for name, (key, value) in zip(IDLE, keyed(lun, IDLE).items())]
     return lines + ["$upscope $end", "$enddefinitions $end"]
+
+
+def changed(key: str, value: str) -> str:
+    if value.startswith(TEXT):
+        return f"{value} {key}"
+    return f"b{value} {key}" if len(value) > 1 else value + key
 
 
 def dumped(values: Mapping[int, Mapping[str, str]]) -> List[str]:
@@ -81,7 +102,7 @@ def dumped(values: Mapping[int, Mapping[str, str]]) -> List[str]:
     lines: List[str] = []
     seen: Dict[str, str] = {}
     for time in sorted(values):
-        told = [f"b{value} {key}" if len(value) > 1 else value + key for key, value in values[time].items() if seen.get(key) != value]
+        told = [changed(key, value) for key, value in values[time].items() if seen.get(key) != value]
         if told:
             lines += [f"#{time}"] + (told if lines else ["$dumpvars"] + told + ["$end"])
         seen.update(values[time])

@@ -6,3 +6,4 @@ pub mod Steps
 pub mod Judging
 pub mod Later
 pub mod Logs
+pub mod Bus

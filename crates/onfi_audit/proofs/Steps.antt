@@ -45,6 +45,10 @@ pub same_parts : (timing : Timing) (rules : Rules) (b c : ℕ) (ls ms : List Lun
     → (let p : Problem = record { timing = timing; rules = rules; bus_free = b; luns = ls; wants = vs } in p) ≡ (let q : Problem = record { timing = timing; rules = rules; bus_free = c; luns = ms; wants = ws } in q)
 same_parts timing rules b c ls ms vs ws eb el ew = rw (eb, el, ew) refl
 
+-- a bus that is free as the line starts is free next as the line ends
+on_time_free : (free start length : ℕ) → free ≤ start → start + length ≡ max free (start + length)
+on_time_free free start length late = omega arith
+
 -- Requests that wait
 
 module _ (wants : List Want) (rise : Pairs (λ a b. a.id < b.id) wants) (l : ℕ) (m : Want) (there : Has wants m) (of_lun : m.lun ≡ l) where
@@ -113,11 +117,11 @@ module _ (a : Audit) (line : Line) where
     next_luns before after others = sym (states_set a.luns line.lun next_stage before after others
         ∙ ap (λ s. slice_set (states_at a.luns before) line.lun s) (state_of_stage (lun_after a.timing group phase (line.start + phase_length (group_spans a.timing group) (length group) phase)) (after line.lun)))
 
-    next_leaves : (before after : ℕ → List Want) → slice_get (problem_at a before).luns line.lun ≡ Some (Running group phase ready) → ((n : ℕ) → n ≢ line.lun → after n ≡ before n)
+    next_leaves : a.bus_free ≤ line.start → (before after : ℕ → List Want) → slice_get (problem_at a before).luns line.lun ≡ Some (Running group phase ready) → ((n : ℕ) → n ≢ line.lun → after n ≡ before n)
         → filter (keep before) a.wants ≡ filter (keep after) a.wants → placed (problem_at a before) (Next line.lun) line.start ≡ problem_at (gone_on a line group phase) after
-    next_leaves before after runs others same =
+    next_leaves late before after runs others same =
         ap (λ o. next_ran (problem_at a before) line.lun o line.start) runs
-        ∙ same_parts a.timing a.rules _ _ _ _ _ _ refl (next_luns before after others) same
+        ∙ same_parts a.timing a.rules _ _ _ _ _ _ (on_time_free a.bus_free line.start (phase_length (group_spans a.timing group) (length group) phase) late) (next_luns before after others) same
 
   -- a command of a request that joins those members, or starts a group
   module _ (ms : List Want) (w : Want) (rest : List Want) (before after : ℕ → List Want)
@@ -128,27 +132,33 @@ module _ (a : Audit) (line : Line) where
     abbrev next : Audit
     next = joined_with a line (ms ++ w ∷ []) w
 
-    command_end : line.start + phase_length (group_spans a.timing grown) (length grown) (length ms) ≡ next.bus_free
+    abbrev ended : ℕ
+    ended = line.start + (group_spans a.timing (ms ++ w ∷ [])).cmd
+
+    command_end : line.start + phase_length (group_spans a.timing grown) (length grown) (length ms) ≡ ended
     command_end = ap (λ n. line.start + n) (command_length a.timing ms w rest)
 
     command_luns : slice_set (states_at a.luns before) line.lun (lun_after a.timing grown (length ms) (line.start + phase_length (group_spans a.timing grown) (length grown) (length ms))) ≡ states_at next.luns after
     command_luns =
         ap (λ t. slice_set (states_at a.luns before) line.lun (lun_after a.timing grown (length ms) t)) command_end
-        ∙ ap (slice_set (states_at a.luns before) line.lun) (after_command a.timing ms w rest next.bus_free ∙ ap (state_at (opened a.timing (ms ++ w ∷ []) next.bus_free)) (sym here))
-        ∙ sym (states_set a.luns line.lun (opened a.timing (ms ++ w ∷ []) next.bus_free) before after others)
+        ∙ ap (slice_set (states_at a.luns before) line.lun) (after_command a.timing ms w rest ended ∙ ap (state_at (opened a.timing (ms ++ w ∷ []) ended)) (sym here))
+        ∙ sym (states_set a.luns line.lun (opened a.timing (ms ++ w ∷ []) ended) before after others)
 
-    pub join_leaves : (from : ℕ) → slice_get (problem_at a before).luns line.lun ≡ Some (Running grown (length ms) from) → before line.lun ≡ w ∷ rest
+    command_free : a.bus_free ≤ line.start → line.start + phase_length (group_spans a.timing grown) (length grown) (length ms) ≡ next.bus_free
+    command_free late = command_end ∙ on_time_free a.bus_free line.start (group_spans a.timing (ms ++ w ∷ [])).cmd late
+
+    pub join_leaves : a.bus_free ≤ line.start → (from : ℕ) → slice_get (problem_at a before).luns line.lun ≡ Some (Running grown (length ms) from) → before line.lun ≡ w ∷ rest
         → placed (problem_at a before) (Next line.lun) line.start ≡ problem_at next after
-    join_leaves from runs was =
+    join_leaves late from runs was =
         ap (λ o. next_ran (problem_at a before) line.lun o line.start) runs
-        ∙ same_parts a.timing a.rules _ _ _ _ _ _ command_end command_luns (wants_joined a.wants rise line.lun w has of_lun before after rest others here was)
+        ∙ same_parts a.timing a.rules _ _ _ _ _ _ (command_free late) command_luns (wants_joined a.wants rise line.lun w has of_lun before after rest others here was)
 
   module _ (w : Want) (rest : List Want) (before after : ℕ → List Want)
       (others : (n : ℕ) → n ≢ line.lun → after n ≡ before n) (here : after line.lun ≡ rest) (of_lun : w.lun ≡ line.lun) (has : Has a.wants w) (rise : Pairs (λ a b. a.id < b.id) a.wants) where
-    pub start_leaves : before line.lun ≡ [] → All (Has a.wants) rest → All (λ v. v.lun ≡ line.lun) rest
+    pub start_leaves : a.bus_free ≤ line.start → before line.lun ≡ [] → All (Has a.wants) rest → All (λ v. v.lun ≡ line.lun) rest
         → placed (problem_at a before) (Start (w ∷ rest)) line.start ≡ problem_at (joined_with a line (w ∷ []) w) after
-    start_leaves was has_rest of_rest =
-        same_parts a.timing a.rules _ _ _ _ _ _ (command_end [] w rest before after others here of_lun has rise)
+    start_leaves late was has_rest of_rest =
+        same_parts a.timing a.rules _ _ _ _ _ _ (command_free [] w rest before after others here of_lun has rise late)
         (ap (λ l. slice_set (states_at a.luns before) l (lun_after a.timing (w ∷ rest) 0 (line.start + phase_length (group_spans a.timing (w ∷ rest)) (length (w ∷ rest)) 0))) of_lun
         ∙ command_luns [] w rest before after others here of_lun has rise)
         (wants_started a.wants rise line.lun w has of_lun before after rest others here was has_rest of_rest)
@@ -214,8 +224,10 @@ module _ (a : Audit) (ia : IsAudit a) (line : Line) where
   going_back group phase ready x there state none goes after choice =
       let b = gone_on a line group phase in
       let now = next_stage a line group phase ready x there in
+      let ended = line.start + phase_length (group_spans a.timing group) (length group) phase in
       let stands : slice_get b.luns line.lun ≡ Some now = get_set_same a.luns line.lun x now there in
-      let empty : after line.lun ≡ [] = none_later b (lun_after a.timing group phase b.bus_free) (after line.lun) (subst (λ o. Fits b o (after line.lun)) stands (choice line.lun)) in
+      let late : a.bus_free ≤ line.start = let t = goes.on_time in omega arith in
+      let empty : after line.lun ≡ [] = none_later b (lun_after a.timing group phase ended) (after line.lun) (subst (λ o. Fits b o (after line.lun)) stands (choice line.lun)) in
       let runs : slice_get (problem_at a after).luns line.lun ≡ Some (Running group phase ready) = states_get a.luns after line.lun x there ∙ ap (λ l. Some (state_at x l)) empty ∙ ap Some state in
       record {
         before = after;
@@ -229,7 +241,7 @@ module _ (a : Audit) (ia : IsAudit a) (line : Line) where
           on_time = subst (λ o. max a.bus_free (free_from o) ≤ line.start) (sym runs) goes.on_time;
           shows = (group, phase, ready, runs, goes.is, refl);
         };
-        leaves = next_leaves a line group phase ready x there after after runs (λ n d. refl) refl;
+        leaves = next_leaves a line group phase ready x there late after after runs (λ n d. refl) refl;
       }
 
   -- a command, back
@@ -244,6 +256,12 @@ module _ (a : Audit) (ia : IsAudit a) (line : Line) where
     abbrev b : Audit
     b = joined_with a line (ms ++ w ∷ []) w
 
+    abbrev now : LunStage
+    now = opened a.timing (ms ++ w ∷ []) (line.start + (group_spans a.timing (ms ++ w ∷ [])).cmd)
+
+    late : a.bus_free ≤ line.start
+    late = let t = j.on_time in omega arith
+
     of_lun : w.lun ≡ line.lun
     of_lun = j.named.lun
 
@@ -254,7 +272,7 @@ module _ (a : Audit) (ia : IsAudit a) (line : Line) where
     has = first_has (on_block w) a.wants w waits
 
     fits : IsGroup a.rules ((ms ++ w ∷ []) ++ rest) × All (IsFirst b.wants) rest
-    fits = subst (λ o. Fits b o rest) (get_set_same a.luns line.lun x (opened a.timing (ms ++ w ∷ []) b.bus_free) there) (choice line.lun)
+    fits = subst (λ o. Fits b o rest) (get_set_same a.luns line.lun x now there) (choice line.lun)
 
     whole : IsGroup a.rules (ms ++ w ∷ rest)
     whole = subst (IsGroup a.rules) (append_assoc ms (w ∷ []) rest) fits.0
@@ -278,7 +296,7 @@ module _ (a : Audit) (ia : IsAudit a) (line : Line) where
           (subst (λ o. Fits a o (put after line.lun new line.lun)) (sym there) (subst (Fits a (Some x)) (sym (put_same after line.lun new)) ok))
       | inr d ↦ subst (Fits a (slice_get a.luns n)) (sym (put_other after line.lun new n d))
           (fits_before a ia b w has refl refl n (slice_get a.luns n) (after n) refl (λ e. d (e ∙ of_lun))
-          (subst (λ o. Fits b o (after n)) (get_set_other a.luns line.lun n (opened a.timing (ms ++ w ∷ []) b.bus_free) d) (choice n)))
+          (subst (λ o. Fits b o (after n)) (get_set_other a.luns line.lun n now d) (choice n)))
     ]
 
     back_others : (new : List Want) (n : ℕ) → n ≢ line.lun → after n ≡ put after line.lun new n
@@ -300,7 +318,7 @@ module _ (a : Audit) (ia : IsAudit a) (line : Line) where
             on_time = subst (λ o. max a.bus_free (free_from o) ≤ line.start) (sym runs) j.on_time;
             shows = (ms ++ w ∷ rest, length ms, from, runs, command_of line ms w rest j.command j.named, refl);
           };
-          leaves = join_leaves a line ms w rest before after (back_others (w ∷ rest)) refl of_lun has ia.ids from runs was;
+          leaves = join_leaves a line ms w rest before after (back_others (w ∷ rest)) refl of_lun has ia.ids late from runs was;
         }
 
     starting_back : x ≡ stage.Free from → ms ≡ [] → Came a line b after
@@ -332,7 +350,7 @@ module _ (a : Audit) (ia : IsAudit a) (line : Line) where
             shows = (command_of line [] w rest j.command j.named, of_lun);
           };
           leaves = subst (λ us. placed (problem_at a before) (Start (w ∷ rest)) line.start ≡ problem_at (joined_with a line (us ++ w ∷ []) w) after) (sym empty)
-              (start_leaves a line w rest before after (back_others []) refl of_lun has ia.ids was has_rest luns);
+              (start_leaves a line w rest before after (back_others []) refl of_lun has ia.ids late was has_rest luns);
         }
 
   back_on : (o : Option LunStage) → slice_get a.luns line.lun ≡ o → MayComeOn a line o → (after : ℕ → List Want) → IsChoice (after_on a line o) after → Came a line (after_on a line o) after
@@ -380,12 +398,12 @@ goes_of a line move before b may e to = record {
 
 module _ (a : Audit) (ia : IsAudit a) (line : Line) (before : ℕ → List Want) (choice : IsChoice a before) where
   -- a further phase of a group
-  going_forth : (group : List Want) (phase ready : ℕ) (x : LunStage) → slice_get a.luns line.lun ≡ Some x → before line.lun ≡ []
+  going_forth : a.bus_free ≤ line.start → (group : List Want) (phase ready : ℕ) (x : LunStage) → slice_get a.luns line.lun ≡ Some x → before line.lun ≡ []
       → slice_get (problem_at a before).luns line.lun ≡ Some (Running group phase ready) → GoesTo a line (Next line.lun) before (gone_on a line group phase)
-  going_forth group phase ready x there empty runs =
+  going_forth late group phase ready x there empty runs =
       let b = gone_on a line group phase in
       let now = next_stage a line group phase ready x there in
-      let s = lun_after a.timing group phase b.bus_free in
+      let s = lun_after a.timing group phase (line.start + phase_length (group_spans a.timing group) (length group) phase) in
       record {
         after = before;
         choice = λ n. elim (same_place n line.lun) [
@@ -393,7 +411,7 @@ module _ (a : Audit) (ia : IsAudit a) (line : Line) (before : ℕ → List Want)
               (subst (λ o. Fits b o (before line.lun)) (sym (get_set_same a.luns line.lun x now there)) (subst (Fits b (Some now)) (sym empty) (fits_none b s)))
           | inr d ↦ subst (λ o. Fits b o (before n)) (sym (get_set_other a.luns line.lun n now d)) (fits_same a b (slice_get a.luns n) (before n) refl refl (choice n))
         ];
-        leaves = next_leaves a line group phase ready x there before before runs (λ n d. refl) refl;
+        leaves = next_leaves a line group phase ready x there late before before runs (λ n d. refl) refl;
       }
     where
       fits_none : (c : Audit) (t : LunState) → Fits c (Some (stage_of t)) []
@@ -405,6 +423,9 @@ module _ (a : Audit) (ia : IsAudit a) (line : Line) (before : ℕ → List Want)
       (rest_waits : All (IsFirst a.wants) rest) (whole : IsGroup a.rules (ms ++ w ∷ rest)) where
     abbrev c : Audit
     c = joined_with a line (ms ++ w ∷ []) w
+
+    abbrev is_open : LunStage
+    is_open = opened a.timing (ms ++ w ∷ []) (line.start + (group_spans a.timing (ms ++ w ∷ [])).cmd)
 
     there_w : Has a.wants w
     there_w = first_has (on_block w) a.wants w waits
@@ -423,21 +444,21 @@ module _ (a : Audit) (ia : IsAudit a) (line : Line) (before : ℕ → List Want)
     choice_after : IsChoice c (put before line.lun rest)
     choice_after n = elim (same_place n line.lun) [
       | inl e ↦ subst (λ m. Fits c (slice_get c.luns m) (put before line.lun rest m)) (sym e)
-          (subst (λ o. Fits c o (put before line.lun rest line.lun)) (sym (get_set_same a.luns line.lun x (opened a.timing (ms ++ w ∷ []) c.bus_free) there))
-          (subst (Fits c (Some (opened a.timing (ms ++ w ∷ []) c.bus_free))) (sym (put_same before line.lun rest)) (
+          (subst (λ o. Fits c o (put before line.lun rest line.lun)) (sym (get_set_same a.luns line.lun x is_open there))
+          (subst (Fits c (Some is_open)) (sym (put_same before line.lun rest)) (
             subst (IsGroup a.rules) (sym (append_assoc ms (w ∷ []) rest)) whole,
             All-each (IsFirst c.wants) rest (λ v k. first_left a.wants w v ia.ids there_w (differ v k) (All-has (IsFirst a.wants) rest v rest_waits k)),
           )))
       | inr d ↦ subst (Fits c (slice_get c.luns n)) (sym (put_other before line.lun rest n d))
-          (subst (λ o. Fits c o (before n)) (sym (get_set_other a.luns line.lun n (opened a.timing (ms ++ w ∷ []) c.bus_free) d))
+          (subst (λ o. Fits c o (before n)) (sym (get_set_other a.luns line.lun n is_open d))
           (fits_after a ia c w there_w refl refl n (slice_get a.luns n) (before n) refl (λ e. d (e ∙ of_lun)) (choice n)))
     ]
 
-    joining_forth : (from : ℕ) → slice_get (problem_at a before).luns line.lun ≡ Some (Running (ms ++ w ∷ rest) (length ms) from) → before line.lun ≡ w ∷ rest → GoesTo a line (Next line.lun) before c
-    joining_forth from runs was = record {
+    joining_forth : a.bus_free ≤ line.start → (from : ℕ) → slice_get (problem_at a before).luns line.lun ≡ Some (Running (ms ++ w ∷ rest) (length ms) from) → before line.lun ≡ w ∷ rest → GoesTo a line (Next line.lun) before c
+    joining_forth late from runs was = record {
       after = put before line.lun rest;
       choice = choice_after;
-      leaves = join_leaves a line ms w rest before (put before line.lun rest) (λ n d. put_other before line.lun rest n d) (put_same before line.lun rest) of_lun there_w ia.ids from runs was;
+      leaves = join_leaves a line ms w rest before (put before line.lun rest) (λ n d. put_other before line.lun rest n d) (put_same before line.lun rest) of_lun there_w ia.ids late from runs was;
     }
 
   starting_forth : (w : Want) (rest : List Want) (since : ℕ) → slice_get a.luns line.lun ≡ Some (stage.Free since) → before line.lun ≡ [] → w.lun ≡ line.lun
@@ -456,7 +477,7 @@ module _ (a : Audit) (ia : IsAudit a) (line : Line) (before : ℕ → List Want)
         after = put before line.lun rest;
         choice = choice_after [] w rest (stage.Free since) there of_lun waits rest_waits startable.group;
         leaves = start_leaves a line w rest before (put before line.lun rest) (λ n d. put_other before line.lun rest n d) (put_same before line.lun rest) of_lun
-            (first_has (on_block w) a.wants w waits) ia.ids was has_rest luns;
+            (first_has (on_block w) a.wants w waits) ia.ids (omega (arith, late)) was has_rest luns;
       })
 
   -- the next phase of what a LUN runs, by its stage
@@ -468,7 +489,7 @@ module _ (a : Audit) (ia : IsAudit a) (line : Line) (before : ℕ → List Want)
       let eg : group ≡ g = cc in let en : phase ≡ n = cc in let er : ready ≡ r = cc in
       let goes : GoesOn a line g n r = record { is = subst (λ m. IsPhaseOf line g m) en (subst (λ h. IsPhaseOf line h phase) eg is); on_time = subst (λ t. max a.bus_free t ≤ line.start) er late } in
       goes_of a line (Next line.lun) before (gone_on a line g n) (subst (MayComeOn a line) (sym there) goes) (ap (after_on a line) there)
-      (going_forth g n r (stage.Running g n r) there empty (runs ∙ ap Some state))
+      (going_forth (omega (arith, late)) g n r (stage.Running g n r) there empty (runs ∙ ap Some state))
   next_forth (stage.Open g more r) [] group phase ready there was state runs is late =
       let eg : group ≡ g = cc in let en : phase ≡ length g = cc in let er : ready ≡ r = cc in
       let is' : IsPhaseOf line g (length g) = subst (λ m. IsPhaseOf line g m) en (subst (λ h. IsPhaseOf line h phase) eg is) in
@@ -476,7 +497,7 @@ module _ (a : Audit) (ia : IsAudit a) (line : Line) (before : ℕ → List Want)
       let post : line.is_post ≡ true = is'.part ∙ ap not (le-ltb (length g) (length g) (omega arith)) in
       let e : after_on a line (Some (stage.Open g more r)) ≡ gone_on a line g (length g) = rw post refl in
       goes_of a line (Next line.lun) before (gone_on a line g (length g)) (subst (MayComeOn a line) (sym there) (inr goes)) (ap (after_on a line) there ∙ e)
-      (going_forth g (length g) r (stage.Open g more r) there was (runs ∙ ap Some state))
+      (going_forth (omega (arith, late)) g (length g) r (stage.Open g more r) there was (runs ∙ ap Some state))
   next_forth (stage.Open g more r) (w ∷ rest) group phase ready there was state runs is late =
       let eg : group ≡ g ++ w ∷ rest = cc in let en : phase ≡ length g = cc in let er : ready ≡ more = cc in
       let is' : IsPhaseOf line (g ++ w ∷ rest) (length g) = subst (λ m. IsPhaseOf line (g ++ w ∷ rest) m) en (subst (λ h. IsPhaseOf line h phase) eg is) in
@@ -493,7 +514,7 @@ module _ (a : Audit) (ia : IsAudit a) (line : Line) (before : ℕ → List Want)
       } in
       let e : after_on a line (Some (stage.Open g more r)) ≡ joined_with a line (g ++ w ∷ []) w = rw command.part (ap (joined_by a line g) first) in
       goes_of a line (Next line.lun) before (joined_with a line (g ++ w ∷ []) w) (subst (MayComeOn a line) (sym there) (inl j)) (ap (after_on a line) there ∙ e)
-      (joining_forth g w rest (stage.Open g more r) there command.named.lun fits.1.0 fits.1.1 fits.0 more (runs ∙ ap Some state) was)
+      (joining_forth g w rest (stage.Open g more r) there command.named.lun fits.1.0 fits.1.1 fits.0 (omega (arith, late)) more (runs ∙ ap Some state) was)
 
   -- a stage that is free
   free_stage : (x : LunStage) (later : List Want) (since : ℕ) → Free since ≡ state_at x later → x ≡ stage.Free since

@@ -138,11 +138,11 @@ MayComeLater a line = (moment : ℕ) × (moment < 2 ^ 62) × MayCome a (started 
 
 -- What it leaves
 
--- that phase of the group ran
+-- that phase of the group ran; what held the bus for longer goes on holding it
 abbrev pub gone_on : Audit → Line → List Want → ℕ → Audit
 gone_on a line group phase =
     let ended = line.start + phase_length (group_spans a.timing group) (length group) phase in
-    record a { bus_free = ended; luns = slice_set a.luns line.lun (stage_of (lun_after a.timing group phase ended)) }
+    record a { bus_free = max a.bus_free ended; luns = slice_set a.luns line.lun (stage_of (lun_after a.timing group phase ended)) }
 
 -- the last of these members had its command, which ended then
 abbrev pub opened : Timing → List Want → ℕ → LunStage
@@ -152,7 +152,7 @@ opened timing group ended = stage.Open group (ended + (group_spans timing group)
 abbrev pub joined_with : Audit → Line → List Want → Want → Audit
 joined_with a line group w =
     let ended = line.start + (group_spans a.timing group).cmd in
-    record a { bus_free = ended; luns = slice_set a.luns line.lun (opened a.timing group ended); wants = without (w ∷ []) a.wants }
+    record a { bus_free = max a.bus_free ended; luns = slice_set a.luns line.lun (opened a.timing group ended); wants = without (w ∷ []) a.wants }
 
 -- the request joined those members
 abbrev pub joined_by : Audit → Line → List Want → Option Want → Audit

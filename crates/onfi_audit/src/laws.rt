@@ -1,6 +1,6 @@
 //! What the answers of an audit say of the log as a whole, once for all, for whoever gives it phases.
 
-ghost use Rattle.onfi_audit.specs.Laws.{CompleteLaw, OpenLaw, SoundLaw, WholeLaw};
+ghost use Rattle.onfi_audit.specs.Laws.{BusLaw, CompleteLaw, OpenLaw, SoundLaw, WholeLaw};
 
 /// What was accepted is a legal beginning: from the opening with all requests each line is the phase of a move, no sooner than it may.
 pub fn accepted_is_legal()
@@ -10,6 +10,11 @@ pub fn accepted_is_legal()
 /// A line with which the log still is legal is not refused.
 pub fn legal_is_accepted()
     ensures { CompleteLaw }
+{}
+
+/// The bus never goes back: what holds it for longer than a phase that came too soon goes on holding it.
+pub fn bus_never_goes_back()
+    ensures { BusLaw }
 {}
 
 /// A log after which nothing is left is that of a legal schedule.

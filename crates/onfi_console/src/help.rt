@@ -99,7 +99,8 @@ pub const AUDIT: &str =
 
 pub const AUDIT_MORE: &str = "\
 Input: a script up to its line 'end', of a device and the state of bus and LUNs, and a log behind that line or in the file LOG,
-with a line for each phase in rising start: START LUN KIND PART BLOCK PAGE, or a line of 'plan --trace' or 'plan --requests'.
+with a line for each phase in rising start: START LUN KIND PART BLOCK PAGE, or a line of 'plan --trace' or 'plan --requests',
+whose END and command bytes must be its phase's.
 Requests are those of the script (want), any number; without such rows each first command of one mentions it.
 With --ready-by-status a line may be START LUN ready: a poll of that LUN's status ended at START, and it was ready.
 Output: 'legal N', the number of phases; or 'illegal LINE CONDITION ..' of the first line that breaks a condition, with --all

@@ -2,12 +2,12 @@
 use Rattle.std.proofs.Common.{◌≡◌, ◌<◌, ℕ, ◌+◌, Bool, true, false, List, [], ◌∷◌, ◌++◌, length, Option, Some, None, Ok, Err, sym, ap, ◌∙◌, subst, arith}
 use Rattle.std.specs.Prelude.{Result, IfOk}
 use Rattle.onfi_audit.specs.Audit.{Audit}
-use Rattle.onfi_audit.specs.declared.breach.LogBreach.{LogBreach}
+use Rattle.onfi_log.specs.declared.breach.LineBreach.{LineBreach}
 use Rattle.onfi_log.specs.declared.entry.LogEntry.{LogEntry}
 use Rattle.onfi_log.specs.declared.readies.Readies.{Readies}
 use Rattle.onfi_log.specs.declared.requests.Requests.{Requests}
 use Rattle.onfi_log.specs.Entry.{entry_of, lun_in, phases_in}
-use Rattle.onfi_log.specs.Judging.{IsFresh, Judged, Takes}
+use Rattle.onfi_log.specs.Judging.{IsFresh, Judged, Takes, unclosed}
 use Rattle.onfi_log.specs.Parts.{parts}
 use Rattle.onfi_log.specs.Text.{Answer, AnswersFrom, AnswersLogBy, OnBreach, OnEntry, breach_text, broken, wrong}
 use Rattle.onfi_log.proofs.PartsLemmas.{some_parts}
@@ -15,7 +15,7 @@ use Rattle.onfi_log.proofs.PartsLemmas.{some_parts}
 -- a line breaks a condition, or none, and the log goes on
 abbrev pub Goes : Readies → Bool → Judged → ℕ → ℕ → List ℕ → List (List ℕ) → Answer → LogEntry → Type 0
 Goes readies all j number phases found more answer entry =
-    (b : Option LogBreach) × (k : Judged) × Takes j entry b k
+    (b : Option LineBreach) × (k : Judged) × Takes j entry b k
     × OnBreach b all number (lun_in entry) found answer (λ found'. AnswersFrom readies all k (number + 1) (phases + phases_in entry) found' more answer)
 
 at_line : (readies : Readies) (all : Bool) (j : Judged) (number phases : ℕ) (found text : List ℕ) (more : List (List ℕ)) (answer : Answer) → 0 < length more
@@ -39,7 +39,7 @@ module _ (readies : Readies) (all : Bool) (j : Judged) (number phases : ℕ) (fo
     abbrev then : List ℕ → Type 0
     then found' = AnswersFrom readies all k (number + 1) (phases + phases_in entry) found' (parts 10 behind) answer
 
-    from_step : (b : Option LogBreach) → Takes j entry b k → OnBreach b all number (lun_in entry) found answer then → AnswersFrom readies all j number phases found (parts 10 left) answer
+    from_step : (b : Option LineBreach) → Takes j entry b k → OnBreach b all number (lun_in entry) found answer then → AnswersFrom readies all j number phases found (parts 10 left) answer
     from_step b step on = from_line (subst (λ o. OnEntry o number found answer rest) some (b, k, step, on))
 
     -- it breaks no condition
@@ -47,22 +47,23 @@ module _ (readies : Readies) (all : Bool) (j : Judged) (number phases : ℕ) (fo
     right_at step goes = from_step None step goes
 
     -- it breaks one, and all are asked for
-    pub broken_on : (b : LogBreach) → Takes j entry (Some b) k → all ≡ true → then (found ++ breach_text number (lun_in entry) b)
+    pub broken_on : (b : LineBreach) → Takes j entry (Some b) k → all ≡ true → then (found ++ breach_text number (lun_in entry) b)
         → AnswersFrom readies all j number phases found (parts 10 left) answer
     broken_on b step each goes = from_step (Some b) step (subst (λ e. OnBreach (Some b) e number (lun_in entry) found answer then) (sym each) goes)
 
     -- .. or the first alone
-    pub broken_at : (b : LogBreach) → Takes j entry (Some b) k → all ≡ false → answer ≡ broken (found ++ breach_text number (lun_in entry) b)
+    pub broken_at : (b : LineBreach) → Takes j entry (Some b) k → all ≡ false → answer ≡ broken (found ++ breach_text number (lun_in entry) b)
         → AnswersFrom readies all j number phases found (parts 10 left) answer
     broken_at b step first e = from_step (Some b) step (subst (λ f. OnBreach (Some b) f number (lun_in entry) found answer then) (sym first) e)
 
 -- the answer from the first line on is that to the log
 pub answered : (readies : Readies) (all : Bool) (requests : Requests) (audit : Audit) (j : Judged) (text : List ℕ) (answer : Answer) → j.requests ≡ requests → j.audit ≡ audit
-    → IsFresh requests j.greatest → AnswersFrom readies all j 1 0 [] (parts 10 text) answer → AnswersLogBy requests readies audit all text answer
-answered readies all requests audit j text answer er ea fresh h =
-    let same : j ≡ (let k : Judged = record { requests = requests; audit = audit; greatest = j.greatest } in k) =
-    ap (λ r. let k : Judged = record { requests = r; audit = j.audit; greatest = j.greatest } in k) er
-    ∙ ap (λ a. let k : Judged = record { requests = requests; audit = a; greatest = j.greatest } in k) ea in
+    → IsFresh requests j.greatest → j.closers ≡ unclosed → AnswersFrom readies all j 1 0 [] (parts 10 text) answer → AnswersLogBy requests readies audit all text answer
+answered readies all requests audit j text answer er ea fresh ec h =
+    let same : j ≡ (let k : Judged = record { requests = requests; audit = audit; greatest = j.greatest; closers = unclosed } in k) =
+    ap (λ r. let k : Judged = record { requests = r; audit = j.audit; greatest = j.greatest; closers = j.closers } in k) er
+    ∙ ap (λ a. let k : Judged = record { requests = requests; audit = a; greatest = j.greatest; closers = j.closers } in k) ea
+    ∙ ap (λ cs. let k : Judged = record { requests = requests; audit = audit; greatest = j.greatest; closers = cs } in k) ec in
     (j.greatest, fresh, subst (λ k. AnswersFrom readies all k 1 0 [] (parts 10 text) answer) same h)
 
 pub if_ok : {A E : Type 0} (P Q : A → Type 0) (r : Result A E) → ((x : A) → P x → Q x) → IfOk r P → IfOk r Q

@@ -12,13 +12,14 @@ use Rattle.onfi_timing.specs.declared.timing.Timing.{Timing}
 use Rattle.onfi_problem.specs.Moves.{placed}
 use Rattle.onfi_problem.specs.Problem.{Problem}
 use Rattle.onfi_problem.proofs.Places.{within_get}
-use Rattle.onfi_audit.specs.declared.breach.LogBreach.{LogBreach}
 use Rattle.onfi_audit.specs.declared.breach.LogBreach.TheVariants.{BusNotFree, NoLun}
 use Rattle.onfi_audit.specs.declared.line.Line.{Line}
 use Rattle.onfi_audit.specs.declared.stage.LunStage.{LunStage}
 use Rattle.onfi_audit.specs.Audit.{Audit, IsAccepted, MayCome, accepting, after_line, request_of}
 use Rattle.onfi_audit.specs.Legal.{Accept, Audited, Entry, Leads, Phase, lines_of, wants_of, with_wants}
 use Rattle.onfi_audit.proofs.Judging.{few_planes}
+use Rattle.onfi_log.specs.declared.breach.LineBreach.{LineBreach}
+use Rattle.onfi_log.specs.declared.breach.LineBreach.TheVariants.{Condition}
 use Rattle.onfi_log.specs.declared.entry.LogEntry.{LogEntry}
 use Rattle.onfi_log.specs.declared.entry.LogEntry.TheVariants as says
 use Rattle.onfi_log.specs.declared.line.LogLine.{LogLine}
@@ -27,7 +28,7 @@ use Rattle.onfi_log.specs.declared.readies.Readies.TheVariants.{Stated}
 use Rattle.onfi_log.specs.declared.requests.Requests.{Requests}
 use Rattle.onfi_log.specs.declared.requests.Requests.TheVariants.{Accepted, Mentioned}
 use Rattle.onfi_log.specs.Entry.{entry_of, lun_in, phase_of, phases_in}
-use Rattle.onfi_log.specs.Judging.{Judged, Takes, begins, begins_on, brings, brings_by, kind_of, misreported, takes_page, with_brought}
+use Rattle.onfi_log.specs.Judging.{Judged, Takes, begins, begins_on, brings, brings_by, kind_of, misreported, takes_page, unclosed, with_brought}
 use Rattle.onfi_log.specs.Laws.{Event, IsSaid, LeadsBy, LegalLaw, Mentions, ReportedLaw, Reports, Runs, Says, SaysBy, event_of, mentioned}
 use Rattle.onfi_log.specs.Line.{and_then, line_of}
 use Rattle.onfi_log.specs.Parts.{parts}
@@ -84,7 +85,7 @@ ended_broken number phases [] last h e = absurd (omega arith)
 ended_broken number phases (c ∷ found) [] h e = cc
 ended_broken number phases (c ∷ found) (d ∷ last) h e = cc
 
-breach_never : (b : Option LogBreach) (all : Bool) (number lun : ℕ) (found : List ℕ) (answer : Answer) (Then : List ℕ → Type 0)
+breach_never : (b : Option LineBreach) (all : Bool) (number lun : ℕ) (found : List ℕ) (answer : Answer) (Then : List ℕ → Type 0)
     → OnBreach b all number lun found answer Then → 0 < length found → answer.status ≡ 0 → ((f : List ℕ) → Then f → 0 < length f → ⊥) → ⊥
 breach_never None all number lun found answer Then goes h z rest = rest found goes h
 breach_never (Some b) true number lun found answer Then goes h z rest = let size = length-append found (breach_text number lun b) in rest (found ++ breach_text number lun b) goes (omega arith)
@@ -139,11 +140,11 @@ given_phase readies j k line text more said may e rest =
     ]
 
 -- nothing is amiss with a report of a LUN that is there, when the bus is free
-in_order : (a : Audit) (lun moment : ℕ) → None ≡ misreported a lun moment → (lun < length a.luns) × (a.bus_free ≤ moment)
+pub in_order : (a : Audit) (lun moment : ℕ) → None ≡ misreported a lun moment → (lun < length a.luns) × (a.bus_free ≤ moment)
 in_order a lun moment e = elim (cases_Bool (nat_le (length a.luns) lun)) [
-  | inl b ↦ (let q : None ≡ Some (NoLun lun) = rw b at e in absurd (cc))
+  | inl b ↦ (let q : None ≡ Some (Condition (NoLun lun)) = rw b at e in absurd (cc))
   | inr b ↦ (elim (cases_Bool (nat_lt moment a.bus_free)) [
-    | inl d ↦ (let q : None ≡ Some (BusNotFree moment a.bus_free) = rw (b, d) at e in absurd (cc))
+    | inl d ↦ (let q : None ≡ Some (Condition (BusNotFree moment a.bus_free)) = rw (b, d) at e in absurd (cc))
     | inr d ↦ (grind (arith, nat_tests), grind (arith, nat_tests))
   ])
 ]
@@ -160,7 +161,7 @@ given_first readies (says.Ready lun moment) j k text more said (none, e) rest =
       says = (said, rest.says);
     }
 
-given_step : (b : Option LogBreach) (readies : Readies) (all : Bool) (j k : Judged) (number phases : ℕ) (entry : LogEntry) (text : List ℕ) (more : List (List ℕ)) (answer : Answer)
+given_step : (b : Option LineBreach) (readies : Readies) (all : Bool) (j k : Judged) (number phases : ℕ) (entry : LogEntry) (text : List ℕ) (more : List (List ℕ)) (answer : Answer)
     → entry_of readies text ≡ Some entry → Takes j entry b k
     → OnBreach b all number (lun_in entry) [] answer (λ f. AnswersFrom readies all k (number + 1) (phases + phases_in entry) f more answer) → answer.status ≡ 0
     → (AnswersFrom readies all k (number + 1) (phases + phases_in entry) [] more answer → Given readies k.audit more) → Given readies j.audit (text ∷ more)
@@ -192,7 +193,7 @@ audited_on (Phase line ∷ before) events a b c (may, rest) h = (may, audited_on
 
 pub reported_law : ReportedLaw
 reported_law p before a requests readies all text answer ip audited (greatest, fresh, answers) z =
-    let g = given (parts 10 text) readies all (record { requests = requests; audit = a; greatest = greatest }) 1 0 answer (some_parts 10 text) answers z in
+    let g = given (parts 10 text) readies all (record { requests = requests; audit = a; greatest = greatest; closers = unclosed }) 1 0 answer (some_parts 10 text) answers z in
     (g.events, _, g.says, leads_all p (map event_of before ++ g.events) g.left ip (audited_on before g.events _ a g.left audited g.audited))
 
 -- Logs without reports

@@ -3,3 +3,4 @@ pub mod Steps
 pub mod Answering
 pub mod Reports
 pub mod LegalLogs
+pub mod EachLine

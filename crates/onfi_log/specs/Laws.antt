@@ -1,6 +1,7 @@
 -- Laws of logs that are answered.
-use Rattle.std.specs.Prelude.{◌≡◌, ℕ, ◌<◌, ◌≤◌, min, Bool, List, [], ◌∷◌, ◌++◌, length, map, Option, Some, None, slice_get, slice_set}
+use Rattle.std.specs.Prelude.{◌≡◌, ◌≢◌, ℕ, ◌+◌, ◌<◌, ◌≤◌, min, Bool, true, List, [], ◌∷◌, ◌++◌, length, map, Option, Some, None, slice_get, slice_set}
 use Rattle.onfi_request.specs.declared.want.Want.{Want}
+use Rattle.onfi_group.specs.Words.{Pairs}
 use Rattle.onfi_problem.specs.declared.lun_state.LunState.{LunState}
 use Rattle.onfi_problem.specs.declared.lun_state.LunState.TheVariants.{Free, Running}
 use Rattle.onfi_problem.specs.Moves.{Move, placed}
@@ -8,14 +9,17 @@ use Rattle.onfi_problem.specs.Problem.{Problem, IsProblem}
 use Rattle.onfi_audit.specs.Audit.{Audit, opening}
 use Rattle.onfi_audit.specs.Legal.{Accept, Audited, Entry, IsLineOf, Leads, Phase, lines_of, wants_of, with_wants}
 use Rattle.onfi_audit.specs.declared.line.Line.{Line}
+use Rattle.onfi_log.specs.declared.breach.LineBreach.{LineBreach}
+use Rattle.onfi_log.specs.declared.entry.LogEntry.{LogEntry}
 use Rattle.onfi_log.specs.declared.entry.LogEntry.TheVariants as says
 use Rattle.onfi_log.specs.declared.line.LogLine.{LogLine}
 use Rattle.onfi_log.specs.declared.readies.Readies.{Readies}
 use Rattle.onfi_log.specs.declared.requests.Requests.{Requests}
-use Rattle.onfi_log.specs.Entry.{entry_of}
+use Rattle.onfi_log.specs.Entry.{entry_of, lun_in}
+use Rattle.onfi_log.specs.Judging.{Judged, Takes}
 use Rattle.onfi_log.specs.Line.{line_of}
 use Rattle.onfi_log.specs.Parts.{parts}
-use Rattle.onfi_log.specs.Text.{Answer, AnswersLog, AnswersLogBy}
+use Rattle.onfi_log.specs.Text.{Answer, AnswersLog, AnswersLogBy, breach_text}
 
 -- Logs of phases alone
 
@@ -92,3 +96,57 @@ ReportedLaw = (p : Problem) (before : List Entry) (a : Audit) (requests : Reques
     → IsProblem p → Audited (opening p) before a → AnswersLogBy requests readies a all text answer → answer.status ≡ 0
     → (events : List Event) × (q : Problem) × SaysBy readies (parts 10 text) events
     × LeadsBy (with_wants p (mentioned (map event_of before ++ events))) (map event_of before ++ events) q
+
+-- Each line that breaks a condition
+
+-- a line that was judged: what it says, the condition that it breaks, if it breaks one, and the log before and after it
+pub record Found : Type 0 where
+  pub before : Judged
+  pub entry : LogEntry
+  pub breach : Option LineBreach
+  pub after : Judged
+  pub takes : Takes before entry breach after
+
+-- each where the one before it left the log
+abbrev pub Follow : Judged → List Found → Type 0
+Follow j [] = Unit {0}
+Follow j (f ∷ found) = (f.before ≡ j) × Follow f.after found
+
+-- they are all lines, but for the last text, which has no line end, or all before a line that says nothing
+abbrev pub AreLines : Readies → List (List ℕ) → List Found → Type 0
+AreLines readies [] found = found ≡ []
+AreLines readies (last ∷ []) found = found ≡ []
+AreLines readies (text ∷ next ∷ more) [] = entry_of readies text ≡ None
+AreLines readies (text ∷ next ∷ more) (f ∷ found) = (entry_of readies text ≡ Some f.entry) × AreLines readies (next ∷ more) found
+
+-- the answer's line for a line of that number
+abbrev pub found_text : ℕ → LogEntry → Option LineBreach → List ℕ
+found_text number entry None = []
+found_text number entry (Some b) = breach_text number (lun_in entry) b
+
+-- .. and for all from that number on
+abbrev pub found_texts : ℕ → List Found → List ℕ
+found_texts number [] = []
+found_texts number (f ∷ found) = found_text number f.entry f.breach ++ found_texts (number + 1) found
+
+abbrev pub moment_of : LogEntry → ℕ
+moment_of (says.Phase line) = line.phase.start
+moment_of (says.Ready lun moment) = moment
+
+-- the later line begins while the earlier one, or what came before that, is on the bus
+abbrev pub Overlaps : Found → Found → Type 0
+Overlaps earlier later = moment_of later.entry < earlier.after.audit.bus_free
+
+-- where all are asked for the answer has a line for each line that breaks a condition, and does so first; and what begins while an earlier
+-- line is on the bus breaks one, whatever stands between them
+pub record IsEach (readies : Readies) (j : Judged) (texts : List (List ℕ)) (answer : Answer) : Type 0 where
+  pub found : List Found
+  pub follow : Follow j found
+  pub lines : AreLines readies texts found
+  pub rest : List ℕ
+  pub text : answer.text ≡ found_texts 1 found ++ rest
+  pub overlaps : Pairs (λ earlier later. Overlaps earlier later → later.breach ≢ None) found
+
+abbrev pub EachLaw : Type 0
+EachLaw = (audit : Audit) (requests : Requests) (readies : Readies) (text : List ℕ) (answer : Answer) → AnswersLogBy requests readies audit true text answer
+    → (j : Judged) × (j.audit ≡ audit) × IsEach readies j (parts 10 text) answer

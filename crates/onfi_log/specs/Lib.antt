@@ -1,4 +1,5 @@
 pub mod Parts
+pub mod Bytes
 pub mod Line
 pub mod Entry
 pub mod Judging

@@ -5,7 +5,9 @@ use Rattle.onfi_timing.specs.Decimal.{number_of}
 use Rattle.onfi_timing.specs.declared.operation.Operation.{Operation}
 use Rattle.onfi_timing.specs.declared.operation.Operation.TheVariants.{Read, Program, Erase}
 use Rattle.onfi_audit.specs.declared.line.Line.{Line}
+use Rattle.onfi_log.specs.declared.bytes.Bytes.{Bytes}
 use Rattle.onfi_log.specs.declared.line.LogLine.{LogLine}
+use Rattle.onfi_log.specs.Bytes.{bytes_of}
 use Rattle.onfi_log.specs.Parts.{parts}
 
 -- goes on with what was read, where something was
@@ -54,6 +56,13 @@ request_in words =
     else (if length words == 10 then request (word words 9)
     else Some None)
 
+-- .. and END and the command bytes, of a line whose LUN stands there
+abbrev pub end_in : List (List ℕ) → ℕ → Option (Option ℕ)
+end_in words at = if at == 2 then and_then (number 9223372036854775807 (word words 1)) (λ n. Some (Some n)) else Some None
+
+abbrev pub bytes_in : List (List ℕ) → ℕ → Line → Option Bytes
+bytes_in words at phase = if at == 2 then Some (bytes_of phase.operation phase.is_post (word words 7) (word words 8)) else None
+
 -- the phase of a line whose LUN stands there
 abbrev pub phase_in : List (List ℕ) → ℕ → Option Line
 phase_in words at =
@@ -70,7 +79,8 @@ line_of_words words =
     and_then (lun_at (length words)) (λ at.
     and_then (phase_in words at) (λ phase.
     and_then (request_in words) (λ request.
-    Some (record { phase = phase; request = request }))))
+    and_then (end_in words at) (λ end.
+    Some (record { phase = phase; request = request; end = end; bytes = bytes_in words at phase })))))
 
 -- a line of words that single spaces part
 abbrev pub line_of : List ℕ → Option LogLine

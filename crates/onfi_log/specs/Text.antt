@@ -2,15 +2,19 @@
 use Rattle.std.specs.Prelude.{◌≡◌, ℕ, ◌+◌, Bool, true, false, List, [], ◌∷◌, ◌++◌, Option, Some, None, codes}
 use Rattle.std.specs.Fmt.{decimal}
 use Rattle.onfi_audit.specs.Audit.{Audit}
+use Rattle.onfi_timing.specs.declared.operation.Operation.{Operation}
 use Rattle.onfi_audit.specs.declared.breach.LogBreach.{LogBreach}
 use Rattle.onfi_audit.specs.declared.breach.LogBreach.TheVariants.{TooLate, NoLun, NothingRuns, OtherPhase, UnknownRequest, BlockOrder, NotGrouped, BusNotFree, LunNotFree, NotReady}
 use Rattle.onfi_log.specs.declared.answer.LogAnswer.{LogAnswer}
+use Rattle.onfi_log.specs.declared.breach.LineBreach.{LineBreach}
+use Rattle.onfi_log.specs.declared.breach.LineBreach.TheVariants.{Condition, NotClosed, OtherBytes, OtherEnd}
 use Rattle.onfi_log.specs.declared.entry.LogEntry.{LogEntry}
 use Rattle.onfi_log.specs.declared.readies.Readies.{Readies}
 use Rattle.onfi_log.specs.declared.readies.Readies.TheVariants.{Stated}
 use Rattle.onfi_log.specs.declared.requests.Requests.{Requests}
+use Rattle.onfi_log.specs.Bytes.{closer_word, opener_word}
 use Rattle.onfi_log.specs.Entry.{entry_of, lun_in, phases_in}
-use Rattle.onfi_log.specs.Judging.{IsFresh, Judged, Takes}
+use Rattle.onfi_log.specs.Judging.{IsFresh, Judged, Takes, unclosed}
 use Rattle.onfi_log.specs.Parts.{parts}
 
 -- what is written, and the status that goes with it
@@ -40,9 +44,16 @@ condition lun (BusNotFree start bus_free) = codes "BusNotFree " ++ (decimal star
 condition lun (LunNotFree l start since) = codes "LunNotFree " ++ (decimal l ++ (codes " " ++ (decimal start ++ (codes " " ++ decimal since))))
 condition lun (NotReady l start ready) = codes "NotReady " ++ (decimal l ++ (codes " " ++ (decimal start ++ (codes " " ++ decimal ready))))
 
+-- .. or a field of the line, with what stands there and what the phase has
+abbrev pub breach_word : ℕ → LineBreach → List ℕ
+breach_word lun (Condition b) = condition lun b
+breach_word lun (NotClosed l) = codes "NotClosed " ++ decimal l
+breach_word lun (OtherEnd end ends) = codes "OtherEnd " ++ (decimal end ++ (codes " " ++ decimal ends))
+breach_word lun (OtherBytes operation is_post is_last) = codes "OtherBytes " ++ (opener_word operation is_post ++ (codes " " ++ closer_word operation is_post is_last))
+
 -- `illegal LINE CONDITION ..`
-abbrev pub breach_text : ℕ → ℕ → LogBreach → List ℕ
-breach_text number lun b = codes "illegal " ++ (decimal number ++ (codes " " ++ (condition lun b ++ codes "\n")))
+abbrev pub breach_text : ℕ → ℕ → LineBreach → List ℕ
+breach_text number lun b = codes "illegal " ++ (decimal number ++ (codes " " ++ (breach_word lun b ++ codes "\n")))
 
 -- lines of conditions that are broken
 abbrev pub broken : List ℕ → Answer
@@ -70,7 +81,7 @@ OnEntry None number found answer Goes = answer ≡ wrong number found
 OnEntry (Some entry) number found answer Goes = Goes entry
 
 -- after no breach the log goes on, and after one where all are asked for
-abbrev pub OnBreach : Option LogBreach → Bool → ℕ → ℕ → List ℕ → Answer → (List ℕ → Type 0) → Type 0
+abbrev pub OnBreach : Option LineBreach → Bool → ℕ → ℕ → List ℕ → Answer → (List ℕ → Type 0) → Type 0
 OnBreach None all number lun found answer Goes = Goes found
 OnBreach (Some b) true number lun found answer Goes = Goes (found ++ breach_text number lun b)
 OnBreach (Some b) false number lun found answer Goes = answer ≡ broken (found ++ breach_text number lun b)
@@ -81,7 +92,7 @@ AnswersFrom readies all j number phases found [] answer = answer ≡ ended numbe
 AnswersFrom readies all j number phases found (last ∷ []) answer = answer ≡ ended number phases found last
 AnswersFrom readies all j number phases found (text ∷ next ∷ more) answer =
     OnEntry (entry_of readies text) number found answer (λ entry.
-    (b : Option LogBreach) × (k : Judged) × Takes j entry b k
+    (b : Option LineBreach) × (k : Judged) × Takes j entry b k
     × OnBreach b all number (lun_in entry) found answer (λ found'.
     AnswersFrom readies all k (number + 1) (phases + phases_in entry) found' (next ∷ more) answer))
 
@@ -89,7 +100,7 @@ AnswersFrom readies all j number phases found (text ∷ next ∷ more) answer =
 abbrev pub AnswersLogBy : Requests → Readies → Audit → Bool → List ℕ → Answer → Type 0
 AnswersLogBy requests readies audit all text answer =
     (greatest : List ℕ) × IsFresh requests greatest
-    × AnswersFrom readies all (record { requests = requests; audit = audit; greatest = greatest }) 1 0 [] (parts 10 text) answer
+    × AnswersFrom readies all (record { requests = requests; audit = audit; greatest = greatest; closers = unclosed }) 1 0 [] (parts 10 text) answer
 
 -- the answer to a log of phases alone
 abbrev pub AnswersLog : Requests → Audit → Bool → List ℕ → Answer → Type 0

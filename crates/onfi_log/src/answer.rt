@@ -2,6 +2,8 @@
 ghost use Rattle.std.specs.Prelude.{◌≡◌, ◌++◌, string_bytes, IfOk, OnOk};
 ghost use Rattle.onfi_log.specs.Text as spec;
 
+use crate::breach::LineBreach;
+use crate::bytes::{closer_word, opener_word};
 use onfi_audit::LogBreach;
 use std::alloc::{AllocError, Global};
 
@@ -54,18 +56,38 @@ fn condition(alloc: Global, lun: u8, breach: LogBreach) -> Result<String, AllocE
     }
 }
 
-/// Appends the line of a condition that line `number` of a log breaks.
+/// .. or a field of it, with what stands there and what the phase has.
+fn breach_word(alloc: Global, lun: u8, breach: LineBreach) -> Result<String, AllocError>
+    ensures { IfOk result (λ s. string_bytes s ≡ spec.breach_word lun breach) }
+{
+    match breach {
+        LineBreach::Condition(breach) => condition(alloc, lun, breach),
+        LineBreach::NotClosed { lun } => format!(in alloc; "NotClosed {lun}"),
+        LineBreach::OtherEnd { end, ends } => format!(in alloc; "OtherEnd {end} {ends}"),
+        LineBreach::OtherBytes {
+            operation,
+            is_post,
+            is_last,
+        } => {
+            let opener = opener_word(operation, is_post);
+            let closer = closer_word(operation, is_post, is_last);
+            format!(in alloc; "OtherBytes {opener} {closer}")
+        }
+    }
+}
+
+/// Appends the line of what line `number` of a log breaks.
 pub(crate) fn put_breach(
     alloc: Global,
     found: &mut String,
     number: u64,
     lun: u8,
-    breach: LogBreach,
+    breach: LineBreach,
 ) -> Result<(), AllocError>
     ensures { OnOk result (string_bytes found.new ≡ string_bytes found.old ++ spec.breach_text number lun breach) }
 {
-    let condition = condition(alloc, lun, breach)?;
-    let line = format!(in alloc; "illegal {number} {condition}\n")?;
+    let word = breach_word(alloc, lun, breach)?;
+    let line = format!(in alloc; "illegal {number} {word}\n")?;
     found.push_str(line.as_str())
 }
 

@@ -1,14 +1,17 @@
 //! A log as far as it was judged.
-ghost use Rattle.std.specs.Prelude.{◌≡◌, ◌<◌, ◌≤◌, ◌^◌, ◌*◌, ◌+◌, ℕ, true, false, ◌↔◌, None, IsTrue, IsOk, IfOk, IfErr, IfSome, IfNone, slice_index_or, length};
+ghost use Rattle.std.specs.Prelude.{◌≡◌, ◌<◌, ◌≤◌, ◌^◌, ◌*◌, ◌+◌, ℕ, true, false, ◌↔◌, None, IsTrue, IsOk, IfOk, IfErr, IfSome, IfNone, slice_get, slice_index_or, length};
 ghost use Rattle.std.specs.List.{AllByRecursion as Each};
 ghost use Rattle.onfi_audit.specs.Audit.{IsAccepting, MayCome, MayComeLater, Tells, after_line, accepting, readied};
 ghost use Rattle.onfi_audit.specs.Audit.{Audit as AnAudit};
 ghost use Rattle.onfi_request.specs.declared.want.Want.{Want as AWant};
-ghost use Rattle.onfi_audit.specs.declared.breach.LogBreach.TheVariants.{UnknownRequest};
+ghost use Rattle.onfi_audit.specs.declared.breach.LogBreach.TheVariants.{BlockOrder, UnknownRequest};
+ghost use Rattle.onfi_log.specs.declared.breach.LineBreach.TheVariants.{Condition};
 ghost use Rattle.onfi_log.specs.Entry.{IsInRange};
 ghost use Rattle.onfi_log.specs.Judging as spec;
 ghost use Rattle.onfi_log.specs.Judging.{Judged as Log};
 
+use crate::breach::LineBreach;
+use crate::bytes::Bytes;
 use crate::entry::LogEntry;
 use crate::line::LogLine;
 use crate::requests::Requests;
@@ -25,6 +28,8 @@ pub(crate) struct Judged {
     audit: Audit,
     // Of each block one more than the greatest number that a request had which began there.
     greatest: Vec<u64>,
+    // Of each LUN the bytes of the command that began a request last.
+    closers: [Option<Bytes>; LUNS],
 }
 
 impl Model for Judged {
@@ -32,7 +37,7 @@ impl Model for Judged {
 
     ghost Value = { Log };
 
-    ghost view = { λ j. record { requests = j.requests; audit = j.audit; greatest = j.greatest.items } };
+    ghost view = { λ j. record { requests = j.requests; audit = j.audit; greatest = j.greatest.items; closers = j.closers } };
 }
 
 /// What a request asks for whose command does this.
@@ -57,24 +62,21 @@ fn takes_page(operation: Operation, page: u16) -> bool
 }
 
 /// Why a command can't be of request `number` where that one waits first on its block.
-fn find_misnamed_among(line: &Line, number: u64, first: Option<Want>) -> Option<LogBreach>
+fn find_misnamed_among(line: &Line, number: u64, first: Option<Want>) -> Option<LineBreach>
     ensures { result ≡ spec.misnamed_among line.now number first }
 {
     let first = first?.id;
     if first == number {
         None
     } else if first < number {
-        Some(LogBreach::BlockOrder {
-            earlier: first,
-            later: number,
-        })
+        Some(report_order(first, number))
     } else {
         Some(report_unknown(line))
     }
 }
 
 /// Why a command can't be of request `number` after requests of which the greatest number is one less than that.
-fn find_misnamed_after(line: &Line, number: u64, greatest: u64) -> Option<LogBreach>
+fn find_misnamed_after(line: &Line, number: u64, greatest: u64) -> Option<LineBreach>
     requires { number < 2 ^ 63 }
     ensures { result ≡ spec.misnamed_after line.now number greatest }
 {
@@ -83,20 +85,83 @@ fn find_misnamed_after(line: &Line, number: u64, greatest: u64) -> Option<LogBre
     } else if greatest == number + 1 {
         Some(report_unknown(line))
     } else {
-        Some(LogBreach::BlockOrder {
-            earlier: number,
-            later: greatest - 1,
-        })
+        Some(report_order(number, greatest - 1))
     }
 }
 
-/// No request that waits is the line's.
-fn report_unknown(line: &Line) -> LogBreach
-    ensures { result ≡ UnknownRequest line.now.lun line.now.block }
+/// The later request of a block begins before the earlier one.
+fn report_order(earlier: u64, later: u64) -> LineBreach
+    ensures { result ≡ Condition (BlockOrder earlier later) }
 {
-    LogBreach::UnknownRequest {
+    LineBreach::Condition(LogBreach::BlockOrder { earlier, later })
+}
+
+/// No request that waits is the line's.
+fn report_unknown(line: &Line) -> LineBreach
+    ensures { result ≡ Condition (UnknownRequest line.now.lun line.now.block) }
+{
+    LineBreach::Condition(LogBreach::UnknownRequest {
         lun: line.lun,
         block: line.block,
+    })
+}
+
+/// Why a line can't be the next of a group with these members: the first one's post is.
+fn find_not_next(line: &Line, group: &[Want]) -> Option<LineBreach>
+    ensures { result ≡ spec.not_next line.now (slice_get group.now 0) }
+{
+    let first = group.get(0).copied()?;
+    Some(LineBreach::Condition(LogBreach::OtherPhase {
+        lun: line.lun,
+        is_post: true,
+        block: first.block,
+        page: first.page,
+    }))
+}
+
+/// Why a line can't come after a command with that closer, with which its LUN's group has these members.
+fn find_misclosed_by(line: &Line, group: &[Want], closer: Option<Bytes>) -> Option<LineBreach>
+    ensures { result ≡ spec.misclosed_by line.now group.now closer }
+{
+    match closer? {
+        Bytes::Last if !line.is_post => find_not_next(line, group),
+        Bytes::More if line.is_post => Some(LineBreach::NotClosed { lun: line.lun }),
+        Bytes::Last | Bytes::More | Bytes::Other => None,
+    }
+}
+
+/// That END isn't when the phase ends.
+fn find_other_end(end: Option<u64>, ends: u64) -> Option<LineBreach>
+    ensures { result ≡ spec.other_end end ends }
+{
+    let end = end?;
+    if end == ends {
+        return None;
+    }
+    Some(LineBreach::OtherEnd { end, ends })
+}
+
+/// That the bytes aren't those of the phase, of a command of which it is perhaps known whether it is the last one.
+fn find_other_bytes(line: &Line, is_last: Option<bool>, bytes: Option<Bytes>) -> Option<LineBreach>
+    ensures { result ≡ spec.other_bytes line.now is_last bytes }
+{
+    if bytes?.fit(is_last) {
+        return None;
+    }
+    Some(LineBreach::OtherBytes {
+        operation: line.operation,
+        is_post: line.is_post,
+        is_last: is_last.unwrap_or(true),
+    })
+}
+
+/// What of a phase that ends then isn't as the line has it.
+fn find_misfit_by(is_last: Option<bool>, ends: u64, line: &LogLine) -> Option<LineBreach>
+    ensures { result ≡ spec.misfit_by is_last ends line.now }
+{
+    match find_other_end(line.end, ends) {
+        Some(breach) => Some(breach),
+        None => find_other_bytes(&line.phase, is_last, line.bytes),
     }
 }
 
@@ -115,8 +180,11 @@ fn zeros(alloc: Global, count: usize) -> Result<Vec<u64>, AllocError>
     Vec::from_elem(alloc, 0u64, count)
 }
 
-/// How many blocks the LUNs of a channel have.
-const BLOCKS: usize = 8 * 65_536;
+/// How many LUNs a channel has at most.
+const LUNS: usize = 8;
+
+/// How many blocks they have.
+const BLOCKS: usize = LUNS * 65_536;
 
 impl Judged {
     /// A log of which nothing was judged.
@@ -127,6 +195,7 @@ impl Judged {
         ensures requests { IfOk result (λ j. j.requests ≡ requests) }
         ensures audit { IfOk result (λ j. j.audit ≡ audit) }
         ensures fresh { IfOk result (λ j. spec.IsFresh requests j.greatest) }
+        ensures unclosed { IfOk result (λ j. j.closers ≡ spec.unclosed) }
     {
         let greatest = match requests {
             Requests::Accepted => Vec::new(alloc),
@@ -136,6 +205,7 @@ impl Judged {
             requests,
             audit,
             greatest,
+            closers: [None; LUNS],
         })
     }
 
@@ -189,7 +259,7 @@ impl Judged {
     }
 
     /// Why the command that begins a request, where `begins` says so, can't be of the one that the line names.
-    fn find_misnamed(&self, begins: bool, line: &LogLine) -> Option<LogBreach>
+    fn find_misnamed(&self, begins: bool, line: &LogLine) -> Option<LineBreach>
         requires begins { begins ≡ spec.begins self.now.audit line.now.phase }
         requires small { IfSome line.now.request (λ number. number < 2 ^ 63) }
         ensures { result ≡ spec.misnamed self.now line.now }
@@ -209,8 +279,74 @@ impl Judged {
         }
     }
 
-    /// Notes the number of the request that the line began, where `begins` says so.
+    /// Why the line can't come after the closer of its LUN's last command.
+    fn find_misclosed(&self, line: &Line) -> Option<LineBreach>
+        ensures { result ≡ spec.misclosed self.now line.now }
+    {
+        let lun = usize::from(line.lun);
+        match self.audit.luns().get(lun)? {
+            LunStage::Open { group, .. } => {
+                let closer = self.closers.get(lun).copied().flatten();
+                find_misclosed_by(line, group.members(), closer)
+            }
+            LunStage::Free { .. } | LunStage::Running { .. } => None,
+        }
+    }
+
+    /// What is amiss with the line beside its phase.
+    fn find_amiss(&self, begins: bool, line: &LogLine) -> Option<LineBreach>
+        requires begins { begins ≡ spec.begins self.now.audit line.now.phase }
+        requires small { IfSome line.now.request (λ number. number < 2 ^ 63) }
+        ensures { result ≡ spec.amiss self.now line.now }
+    {
+        match self.find_misclosed(&line.phase) {
+            Some(breach) => Some(breach),
+            None => self.find_misnamed(begins, line),
+        }
+    }
+
+    /// Whether a command is the last of its group, where all members of that are known.
+    fn is_last(&self, line: &Line) -> Option<bool>
+        ensures { result ≡ spec.last_known self.now.audit line.now }
+    {
+        if line.is_post {
+            return None;
+        }
+        match self.audit.luns().get(usize::from(line.lun))? {
+            LunStage::Running { group, next, .. } => Some(usize::from(*next) + 1 == group.len()),
+            LunStage::Free { .. } | LunStage::Open { .. } => None,
+        }
+    }
+
+    /// What of the phase that ran isn't as the line has it.
+    fn find_misfit(&self, is_last: Option<bool>, line: &LogLine) -> Option<LineBreach>
+        ensures { result ≡ spec.misfit_by is_last self.now.audit.bus_free line.now }
+    {
+        find_misfit_by(is_last, self.audit.bus_free(), line)
+    }
+
+    /// Notes what the command says that began a request, where `begins` says so.
     fn note(&mut self, begins: bool, line: &LogLine)
+        requires small { IfSome line.now.request (λ number. number < 2 ^ 63) }
+        requires lun { line.now.phase.lun ≤ 7 }
+        ensures { self.new ≡ spec.with_notes self.old begins line.now }
+    {
+        self.note_number(begins, line);
+        self.note_closer(begins, line);
+    }
+
+    /// Notes its command bytes.
+    fn note_closer(&mut self, begins: bool, line: &LogLine)
+        requires { line.now.phase.lun ≤ 7 }
+        ensures { self.new ≡ record self.old { closers = spec.closed begins self.old.closers line.now } }
+    {
+        if begins {
+            self.closers[usize::from(line.phase.lun)] = line.bytes;
+        }
+    }
+
+    /// Notes the number of its request.
+    fn note_number(&mut self, begins: bool, line: &LogLine)
         requires small { IfSome line.now.request (λ number. number < 2 ^ 63) }
         ensures { self.new ≡ record self.old { greatest = spec.noted begins self.old.greatest line.now } }
     {
@@ -250,6 +386,7 @@ impl Judged {
         requires from { (j : Log) × (self.old ≡ spec.bringing j line.now.phase) × (begins ≡ spec.begins j.audit line.now.phase) × (brought ≡ spec.brings j line.now.phase) }
         requires small { IfSome line.now.request (λ number. number < 2 ^ 63) }
         requires start { line.now.phase.start < 2 ^ 62 }
+        requires lun { line.now.phase.lun ≤ 7 }
         ensures { (j : Log) → self.old ≡ spec.bringing j line.now.phase → begins ≡ spec.begins j.audit line.now.phase
             → brought ≡ spec.brings j line.now.phase → spec.GoesOnBy j line.now self.new }
     {
@@ -271,52 +408,62 @@ impl Judged {
         self.audit.judge(line)
     }
 
-    /// The condition that the phase breaks, which is misnamed as `misnamed` says; if it breaks none it runs.
-    fn find_breach(&mut self, misnamed: Option<LogBreach>, line: &Line) -> Option<LogBreach>
+    /// The condition that the phase breaks, with which that is amiss; if it breaks none it runs.
+    fn find_breach(&mut self, amiss: Option<LineBreach>, line: &Line) -> Option<LineBreach>
         requires { line.now.start < 2 ^ 62 }
-        ensures none { IfNone result ((misnamed ≡ None) × MayCome self.old.audit line.now × (self.new ≡ record self.old { audit = after_line self.old.audit line.now })) }
-        ensures breaks { IfSome result (spec.BreaksBy misnamed self.old.audit line.now) }
+        ensures none { IfNone result ((amiss ≡ None) × MayCome self.old.audit line.now × (self.new ≡ record self.old { audit = after_line self.old.audit line.now })) }
+        ensures breaks { IfSome result (spec.BreaksBy amiss self.old.audit line.now) }
         ensures unchanged { IfSome result (λ _. self.new ≡ self.old) }
     {
-        if misnamed.is_some() {
-            return misnamed;
+        if amiss.is_some() {
+            return amiss;
         }
-        self.judge(line).err()
+        match self.judge(line) {
+            Ok(()) => None,
+            Err(breach) => Some(LineBreach::Condition(breach)),
+        }
     }
 
-    /// Judges the phase of the next line: the condition that it breaks, if it breaks one.
+    /// Judges the next line: what it breaks, if it breaks something.
     ///
     /// # Errors
     /// Where memory was refused.
-    fn step(&mut self, line: &LogLine) -> Result<Option<LogBreach>, AllocError>
+    fn step(&mut self, line: &LogLine) -> Result<Option<LineBreach>, AllocError>
         requires small { IfSome line.now.request (λ number. number < 2 ^ 63) }
         requires start { line.now.phase.start < 2 ^ 62 }
+        requires lun { line.now.phase.lun ≤ 7 }
         ensures { IfOk result (λ breach. spec.Steps self.old line.now breach self.new) }
     {
         let begins = self.begins(&line.phase);
-        let misnamed = self.find_misnamed(begins, line);
+        let amiss = self.find_amiss(begins, line);
+        let is_last = self.is_last(&line.phase);
         let brought = self.bring(begins, &line.phase)?;
-        let breach = self.find_breach(misnamed, &line.phase);
+        let breach = self.find_breach(amiss, &line.phase);
         match breach {
-            None => self.note(begins, line),
-            Some(_) => self.go_on(begins, brought, line),
+            Some(_) => {
+                self.go_on(begins, brought, line);
+                Ok(breach)
+            }
+            None => {
+                self.note(begins, line);
+                Ok(self.find_misfit(is_last, line))
+            }
         }
-        Ok(breach)
     }
 
     /// Why the LUN's status can't have reported it ready then.
-    fn find_misreport(&self, lun: u8, moment: u64) -> Option<LogBreach>
+    fn find_misreport(&self, lun: u8, moment: u64) -> Option<LineBreach>
         ensures { result ≡ spec.misreported self.now.audit lun moment }
     {
         if usize::from(lun) >= self.audit.luns().len() {
-            return Some(LogBreach::NoLun { lun });
+            return Some(LineBreach::Condition(LogBreach::NoLun { lun }));
         }
         let bus_free = self.audit.bus_free();
         if moment < bus_free {
-            return Some(LogBreach::BusNotFree {
+            return Some(LineBreach::Condition(LogBreach::BusNotFree {
                 start: moment,
                 bus_free,
-            });
+            }));
         }
         None
     }
@@ -329,7 +476,7 @@ impl Judged {
     }
 
     /// Takes it that the LUN's status reported it ready then: the condition that this breaks, if it breaks one.
-    fn report(&mut self, lun: u8, moment: u64) -> Option<LogBreach>
+    fn report(&mut self, lun: u8, moment: u64) -> Option<LineBreach>
         ensures breach { result ≡ spec.misreported self.old.audit lun moment }
         ensures after { self.new ≡ spec.after_report self.old lun moment result }
     {
@@ -344,7 +491,7 @@ impl Judged {
     ///
     /// # Errors
     /// Where memory was refused.
-    pub(crate) fn take(&mut self, entry: &LogEntry) -> Result<Option<LogBreach>, AllocError>
+    pub(crate) fn take(&mut self, entry: &LogEntry) -> Result<Option<LineBreach>, AllocError>
         requires { IsInRange entry.now }
         ensures { IfOk result (λ breach. spec.Takes self.old entry.now breach self.new) }
     {

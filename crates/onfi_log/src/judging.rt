@@ -31,7 +31,12 @@ pub fn judge_log(
 /// Judges the text of a log, whose lines are as [`read_entry`] has them, each with LF at its end: `legal N` with the number of its
 /// phases; or `illegal LINE CONDITION ..` of the first line, counted from 1, that breaks a condition, where `all` says so of each;
 /// or `refused log LINE` where a line says nothing. After a line that breaks a condition the log goes on as though its phase
-/// ran where it only came too soon or only its request has another number, and else as though it didn't stand there.
+/// ran where it only came too soon, or only its request's number, its END, its command bytes or the closer before it are wrong; and
+/// else as though it didn't stand there. The bus stays taken up to the last end of what ran.
+///
+/// END of a line, where it has one, is when its phase ends, and its command bytes are those of the phase. After the closer of a group's
+/// last command its first post comes, and no command (`OtherPhase`); after that of a command before the last another command, and no
+/// post (`NotClosed`).
 ///
 /// Numbers of requests are looked at in commands: where requests were accepted before the log the number is that of the request,
 /// and else requests of one block begin in the order of their numbers.

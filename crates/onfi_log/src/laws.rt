@@ -1,6 +1,6 @@
 //! What the answer to a log says of the log as a whole.
 
-ghost use Rattle.onfi_log.specs.Laws.{LegalLaw, ReportedLaw};
+ghost use Rattle.onfi_log.specs.Laws.{EachLaw, LegalLaw, ReportedLaw};
 
 /// A log that is answered as legal is: each of its lines is the phase of a move of the problem as it then stands, no sooner than
 /// it may be.
@@ -11,4 +11,10 @@ pub fn legal_answer_is_legal()
 /// So is a log with reports of statuses, where LUNs are ready from when they were reported so.
 pub fn reported_answer_is_legal()
     ensures { ReportedLaw }
+{}
+
+/// Where all are asked for, each line that breaks a condition has its line in the answer; and a line that begins while an earlier
+/// one is on the bus breaks one, whatever stands between them.
+pub fn each_broken_line_is_named()
+    ensures { EachLaw }
 {}

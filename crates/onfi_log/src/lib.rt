@@ -3,6 +3,8 @@
 #![tactic(auto)]
 
 mod answer;
+mod breach;
+mod bytes;
 mod entry;
 mod judged;
 mod judging;
@@ -13,6 +15,8 @@ mod readies;
 mod requests;
 
 pub use answer::LogAnswer;
+pub use breach::LineBreach;
+pub use bytes::Bytes;
 pub use entry::{LogEntry, read_entry};
 pub use judging::{judge_log, judge_log_by};
 pub use line::{LogLine, read_line};

@@ -4,6 +4,7 @@ ghost use Rattle.std.specs.Str.{bytes_eq};
 ghost use Rattle.onfi_log.specs.Line as spec;
 ghost use Rattle.onfi_log.specs.Parts.{parts};
 
+use crate::bytes::{Bytes, bytes_of};
 use crate::parts::cut;
 use arrayvec::ArrayVec;
 use onfi_audit::Line;
@@ -15,6 +16,9 @@ pub struct LogLine {
     pub phase: Line,
     /// The number of its request, where the line has one.
     pub request: Option<u64>,
+    /// When it ends, in ns, and what its command bytes say, where the line has these as a trace does.
+    pub end: Option<u64>,
+    pub bytes: Option<Bytes>,
 }
 
 /// A number up to `most`.
@@ -79,7 +83,7 @@ pub(crate) fn words(line: &[u8]) -> Option<ArrayVec<&[u8], 10>>
     None
 }
 
-/// As a number of a request may be at most.
+/// As a number of a request, or an end in ns, may be at most.
 const MOST_REQUEST: u64 = (1 << 63) - 1;
 
 /// As a start may be at most, in ns.
@@ -128,6 +132,29 @@ fn request_in(words: &[&[u8]]) -> Option<Option<u64>>
     }
 }
 
+/// When the phase ends of a line whose LUN stands there.
+fn end_in(words: &[&[u8]], at: usize) -> Option<Option<u64>>
+    ensures { result ≡ spec.end_in (map (λ w. w.now) words.now) at }
+{
+    if at != 2 {
+        return Some(None);
+    }
+    let end = number(word(words, 1), MOST_REQUEST)?;
+    Some(Some(end))
+}
+
+/// What the command bytes say of the phase of a line whose LUN stands there.
+fn bytes_in(words: &[&[u8]], at: usize, phase: &Line) -> Option<Bytes>
+    ensures { result ≡ spec.bytes_in (map (λ w. w.now) words.now) at phase.now }
+{
+    if at != 2 {
+        return None;
+    }
+    let opener = word(words, 7);
+    let closer = word(words, 8);
+    Some(bytes_of(phase.operation, phase.is_post, opener, closer))
+}
+
 /// The phase of a line whose LUN stands there.
 fn phase_in(words: &[&[u8]], at: usize) -> Option<Line>
     requires { at ≤ 2 }
@@ -161,13 +188,20 @@ pub(crate) fn line_in(words: &[&[u8]]) -> Option<LogLine>
     let at = lun_at(words.len())?;
     let phase = phase_in(words, at)?;
     let request = request_in(words)?;
-    Some(LogLine { phase, request })
+    let end = end_in(words, at)?;
+    let bytes = bytes_in(words, at, &phase);
+    Some(LogLine {
+        phase,
+        request,
+        end,
+        bytes,
+    })
 }
 
 /// What a line says, without its line end: `START LUN KIND PART BLOCK PAGE`, with a word more for the number of its request, or
-/// a line of `plan --trace` or `plan --requests`, of which END and the command bytes aren't looked at. None where it says
-/// nothing: the words are parted by single spaces, START is below 2^62 ns, LUN below 8, BLOCK below 65,536, PAGE below 4,096
-/// and a number below 2^63, and `-` in place of a number says that the phase is of a group that ran before the log.
+/// a line of `plan --trace` or `plan --requests`. None where it says nothing: the words are parted by single spaces, START is
+/// below 2^62 ns, END below 2^63, LUN below 8, BLOCK below 65,536, PAGE below 4,096 and a number below 2^63, and `-` in place of a
+/// number says that the phase is of a group that ran before the log. Words in place of command bytes may be any.
 pub fn read_line(line: &[u8]) -> Option<LogLine>
     ensures value { result ≡ spec.line_of line.now }
     ensures lun { IfSome result (λ line. line.phase.lun ≤ 7) }

@@ -50,8 +50,8 @@ impl Audit {
         }
     }
 
-    /// Runs the phase as the log has it, though it may start too soon, so that the next one can be judged; where it breaks another
-    /// condition nothing changes. Whether it ran is answered.
+    /// Runs the phase as the log has it, though it may start too soon, so that the next one can be judged: the bus stays taken for as
+    /// long as this phase and those before it take it. Where it breaks another condition nothing changes. Whether it ran is answered.
     pub fn run_anyway(&mut self, line: &Line) -> bool
         ensures ran { IsTrue result ↔ (MayComeLater self.old line.now × (line.now.start < 2 ^ 62)) }
         ensures after { result ≡ true → self.new ≡ after_line self.old line.now }
@@ -235,7 +235,7 @@ impl Audit {
         let ended = line.start + phase_length(&self.timing, group.members(), usize::from(phase));
         let stage = stage_after(&self.timing, group, phase, ended);
         self.luns.set(usize::from(line.lun), stage);
-        self.bus_free = ended;
+        self.bus_free = self.bus_free.max(ended);
     }
 
     // The command of that request runs, with which the group has these members.
@@ -250,7 +250,7 @@ impl Audit {
         let more = ended + wait_before(&self.timing, members, count - 1);
         let ready = ended + wait_before(&self.timing, members, count);
         self.luns.set(usize::from(line.lun), LunStage::Open { group, more, ready });
-        self.bus_free = ended;
+        self.bus_free = self.bus_free.max(ended);
         self.wants.leave(want.id);
     }
 }

@@ -13,7 +13,7 @@ returns-in_default-read_entry c =
     let a = c.args in
     if_ok (λ r. answer_of r ≡ wrong l.number (string_bytes l.found)) (λ r. AnswersLogBy a.requests a.readies a.audit a.all a.text.now (answer_of r)) c.answer_wrong.result
     (λ r e. answered a.readies a.all a.requests a.audit c.in_ok-judged.judged a.text.now (answer_of r)
-    c.in_ok-judged.ensures.requests c.in_ok-judged.ensures.audit c.in_ok-judged.ensures.fresh (l.invariant.goes (answer_of r)
+    c.in_ok-judged.ensures.requests c.in_ok-judged.ensures.audit c.in_ok-judged.ensures.fresh c.in_ok-judged.ensures.unclosed (l.invariant.goes (answer_of r)
     (wrong_at a.readies a.all l.judged l.number l.phases (string_bytes l.found) l.left.now c.in-Some.line.now c.in-Some.behind.now (answer_of r) c.in-Some.ensures.some
     c.in_default-read_entry.ensures.value e)))
     c.answer_wrong.ensures
@@ -26,7 +26,7 @@ returns-then-not-all c =
     let step = subst (λ o. Takes l.judged entry o c.take.new.self) c.in-Some-2.is c.in_ok-breach.ensures in
     let text = c.in_ok-put_breach.ensures ∙ ap (λ lun. string_bytes l.found ++ breach_text l.number lun c.in-Some-2.breach) c.lun.ensures in
     answered a.readies a.all a.requests a.audit c.in_ok-judged.judged a.text.now (answer_of c.answer_broken.result)
-    c.in_ok-judged.ensures.requests c.in_ok-judged.ensures.audit c.in_ok-judged.ensures.fresh (l.invariant.goes (answer_of c.answer_broken.result)
+    c.in_ok-judged.ensures.requests c.in_ok-judged.ensures.audit c.in_ok-judged.ensures.fresh c.in_ok-judged.ensures.unclosed (l.invariant.goes (answer_of c.answer_broken.result)
     (broken_at a.readies a.all l.judged l.number l.phases (string_bytes l.found) l.left.now c.in-Some.line.now c.in-Some.behind.now (answer_of c.answer_broken.result) c.in-Some.ensures.some
     entry c.take.new.self c.in-Some-read_entry.ensures.value c.in-Some-2.breach step c.if-not-all.true (c.answer_broken.ensures ∙ ap broken text)))
 

@@ -1,0 +1,177 @@
+-- Each line that breaks a condition is named, and lines that overlap break one.
+use Rattle.std.proofs.Common.{◌≡◌, ◌≢◌, ℕ, ◌+◌, ◌≤◌, ◌<◌, inl, inr, Bool, true, List, [], ◌∷◌, ◌++◌, Option, None, Some, refl, sym, ap, ◌∙◌, subst, append_assoc, append-nil, arith}
+use Rattle.std.specs.Prelude.{max, nat_le, nat_lt, slice_get, length}
+use Rattle.std.specs.List.{AllByRecursion as All}
+use Rattle.std.proofs.lemmas.Bool.{cases_Bool}
+use Rattle.onfi_request.specs.declared.want.Want.{Want}
+use Rattle.onfi_group.specs.Words.{Pairs}
+use Rattle.onfi_group.proofs.Lists.{All-weaker}
+use Rattle.onfi_audit.specs.Audit.{Audit, MayCome, MayComeOn, after_line, readied_on}
+use Rattle.onfi_audit.specs.declared.line.Line.{Line}
+use Rattle.onfi_audit.specs.declared.stage.LunStage.{LunStage}
+use Rattle.onfi_audit.specs.declared.stage.LunStage.TheVariants as stage
+use Rattle.onfi_audit.proofs.Bus.{bus_law}
+use Rattle.onfi_log.specs.declared.breach.LineBreach.{LineBreach}
+use Rattle.onfi_log.specs.declared.entry.LogEntry.{LogEntry}
+use Rattle.onfi_log.specs.declared.entry.LogEntry.TheVariants as says
+use Rattle.onfi_log.specs.declared.line.LogLine.{LogLine}
+use Rattle.onfi_log.specs.declared.readies.Readies.{Readies}
+use Rattle.onfi_log.specs.Entry.{entry_of, lun_in, phases_in}
+use Rattle.onfi_log.specs.Judging.{Judged, Takes, after_report, brings, ran, unclosed, with_brought}
+use Rattle.onfi_log.specs.Laws.{AreLines, EachLaw, Follow, Found, IsEach, Overlaps, found_text, found_texts, moment_of}
+use Rattle.onfi_log.specs.Parts.{parts}
+use Rattle.onfi_log.specs.Text.{Answer, AnswersFrom, OnBreach, OnEntry, breach_text, ended, ended_by, wrong}
+use Rattle.onfi_log.proofs.Answering.{Goes}
+use Rattle.onfi_log.proofs.LegalLogs.{in_order}
+
+-- The bus
+
+abbrev bus : Judged → ℕ
+bus j = j.audit.bus_free
+
+free_brought : (j : Judged) (line : Line) → (with_brought j line).bus_free ≡ bus j
+free_brought j line = elim (cases_Bool (brings j line)) [ inl b ↦ rw b refl | inr b ↦ rw b refl ]
+
+-- what ran leaves the bus free no sooner
+ran_later : (j k : Judged) (line : LogLine) → k ≡ ran j line → bus j ≤ bus k
+ran_later j k line e =
+    let same = free_brought j line.phase in
+    let later = bus_law (with_brought j line.phase) line.phase in
+    let is : bus k ≡ (after_line (with_brought j line.phase) line.phase).bus_free = ap (λ (x : Judged). bus x) e in
+    omega (arith, same, later, is)
+
+free_readied : (a : Audit) (lun moment : ℕ) (o : Option LunStage) → (readied_on a lun moment o).bus_free ≡ a.bus_free
+free_readied a lun moment None = refl
+free_readied a lun moment (Some x) = refl
+
+report_later : (j k : Judged) (lun moment : ℕ) (b : Option LineBreach) → k ≡ after_report j lun moment b → bus j ≤ bus k
+report_later j k lun moment None e =
+    let same : bus k ≡ bus j = ap (λ (x : Judged). bus x) e ∙ free_readied j.audit lun moment (slice_get j.audit.luns lun) in
+    omega (arith, same)
+report_later j k lun moment (Some b) e = let same : bus k ≡ bus j = ap (λ (x : Judged). bus x) e in omega (arith, same)
+
+-- the bus never goes back
+taken_later : (j k : Judged) (entry : LogEntry) (b : Option LineBreach) → Takes j entry b k → bus j ≤ bus k
+taken_later j k (says.Phase line) None (right, e) = ran_later j k line e
+taken_later j k (says.Phase line) (Some b) (breaks, inl (may, e)) = ran_later j k line e
+taken_later j k (says.Phase line) (Some b) (breaks, inr (none, e)) = let same : bus k ≡ bus j = ap (λ (x : Judged). bus x) e in omega (arith, same)
+taken_later j k (says.Ready lun moment) b (is, e) = report_later j k lun moment b e
+
+-- what may come begins when the bus is free
+may_on_time : (a : Audit) (line : Line) (o : Option LunStage) → MayComeOn a line o → a.bus_free ≤ line.start
+may_on_time a line None may = absurd may
+may_on_time a line (Some (stage.Free since)) j = let t = j.on_time in omega (arith, t)
+may_on_time a line (Some (stage.Running group next ready)) goes = let t = goes.on_time in omega (arith, t)
+may_on_time a line (Some (stage.Open group more ready)) (inl j) = let t = j.on_time in omega (arith, t)
+may_on_time a line (Some (stage.Open group more ready)) (inr goes) = let t = goes.on_time in omega (arith, t)
+
+-- so does what breaks no condition
+right_on_time : (j k : Judged) (entry : LogEntry) → Takes j entry None k → bus j ≤ moment_of entry
+right_on_time j k (says.Phase line) (right, e) =
+    let a = with_brought j line.phase in
+    let same = free_brought j line.phase in
+    let late = may_on_time a line.phase (slice_get a.luns line.phase.lun) right.may in
+    omega (arith, same, late)
+right_on_time j k (says.Ready lun moment) (none, e) = (in_order j.audit lun moment none).1
+
+-- Lines that overlap
+
+-- from that moment on the bus was free no sooner
+abbrev NoSooner : ℕ → List Found → Type 0
+NoSooner moment found = All (λ f. moment ≤ bus f.before) found
+
+no_sooner : (found : List Found) (j : Judged) (moment : ℕ) → moment ≤ bus j → Follow j found → NoSooner moment found
+no_sooner [] j moment low follow = tt
+no_sooner (f ∷ found) j moment low (e, follow) =
+    let same : bus f.before ≡ bus j = ap (λ (x : Judged). bus x) e in
+    let later = taken_later f.before f.after f.entry f.breach f.takes in
+    (omega (arith, same, low), no_sooner found f.after moment (omega (arith, same, low, later)) follow)
+
+named : (f : Found) (moment : ℕ) → moment ≤ bus f.before → moment_of f.entry < moment → f.breach ≢ None
+named f moment low soon none =
+    let late = right_on_time f.before f.after f.entry (subst (λ b. Takes f.before f.entry b f.after) none f.takes) in
+    absurd (omega (arith, low, soon, late))
+
+each_overlap : (found : List Found) (j : Judged) → Follow j found → Pairs (λ earlier later. Overlaps earlier later → later.breach ≢ None) found
+each_overlap [] j follow = tt
+each_overlap (f ∷ found) j (e, follow) = (
+  All-weaker (λ (l : Found). bus f.after ≤ bus l.before) (λ (l : Found). Overlaps f l → l.breach ≢ None) (λ l low soon. named l (bus f.after) low soon) found
+      (no_sooner found f.after (bus f.after) (omega arith) follow),
+  each_overlap found f.after follow,
+)
+
+-- The answer
+
+-- what the answer says from a line on, where it has said so much
+record IsFound (readies : Readies) (j : Judged) (number : ℕ) (said : List ℕ) (texts : List (List ℕ)) (answer : Answer) : Type 0 where
+  pub found : List Found
+  pub follow : Follow j found
+  pub lines : AreLines readies texts found
+  pub rest : List ℕ
+  pub text : answer.text ≡ (said ++ found_texts number found) ++ rest
+
+record IsEnd (said : List ℕ) (answer : Answer) : Type 0 where
+  pub rest : List ℕ
+  pub text : answer.text ≡ said ++ rest
+
+ends : (number phases : ℕ) (said last : List ℕ) (answer : Answer) → answer ≡ ended number phases said last → IsEnd said answer
+ends number phases [] [] answer e = record { rest = (ended_by phases []).text; text = ap (λ (a : Answer). a.text) e }
+ends number phases (c ∷ said) [] answer e = record { rest = []; text = ap (λ (a : Answer). a.text) e ∙ sym (append-nil (c ∷ said)) }
+ends number phases said (c ∷ last) answer e = record { rest = _; text = ap (λ (a : Answer). a.text) e }
+
+none_found : (readies : Readies) (j : Judged) (number : ℕ) (said : List ℕ) (texts : List (List ℕ)) (answer : Answer) → AreLines readies texts [] → IsEnd said answer
+    → IsFound readies j number said texts answer
+none_found readies j number said texts answer lines end = record {
+  found = [];
+  follow = tt;
+  lines = lines;
+  rest = end.rest;
+  text = end.text ∙ ap (λ t. t ++ end.rest) (sym (append-nil said));
+}
+
+-- a line that was judged, and those after it
+one_found : (readies : Readies) (j k : Judged) (number : ℕ) (said text next : List ℕ) (more : List (List ℕ)) (answer : Answer) (entry : LogEntry) (b : Option LineBreach)
+    → entry_of readies text ≡ Some entry → Takes j entry b k → IsFound readies k (number + 1) (said ++ found_text number entry b) (next ∷ more) answer
+    → IsFound readies j number said (text ∷ next ∷ more) answer
+one_found readies j k number said text next more answer entry b is takes rest =
+    let f : Found = record { before = j; entry = entry; breach = b; after = k; takes = takes } in
+    record {
+      found = f ∷ rest.found;
+      follow = (refl, rest.follow);
+      lines = (is, rest.lines);
+      rest = rest.rest;
+      text = rest.text ∙ ap (λ t. t ++ rest.rest) (append_assoc said (found_text number entry b) (found_texts (number + 1) rest.found));
+    }
+
+on_breach : (readies : Readies) (j k : Judged) (number phases : ℕ) (said text next : List ℕ) (more : List (List ℕ)) (answer : Answer) (entry : LogEntry) (b : Option LineBreach)
+    → entry_of readies text ≡ Some entry → Takes j entry b k
+    → OnBreach b true number (lun_in entry) said answer (λ s. AnswersFrom readies true k (number + 1) (phases + phases_in entry) s (next ∷ more) answer)
+    → ((s : List ℕ) → AnswersFrom readies true k (number + 1) (phases + phases_in entry) s (next ∷ more) answer → IsFound readies k (number + 1) s (next ∷ more) answer)
+    → IsFound readies j number said (text ∷ next ∷ more) answer
+on_breach readies j k number phases said text next more answer entry None is takes goes rest =
+    one_found readies j k number said text next more answer entry None is takes
+    (subst (λ s. IsFound readies k (number + 1) s (next ∷ more) answer) (sym (append-nil said)) (rest said goes))
+on_breach readies j k number phases said text next more answer entry (Some b) is takes goes rest =
+    one_found readies j k number said text next more answer entry (Some b) is takes (rest (said ++ breach_text number (lun_in entry) b) goes)
+
+on_entry : (o : Option LogEntry) (readies : Readies) (j : Judged) (number phases : ℕ) (said text next : List ℕ) (more : List (List ℕ)) (answer : Answer)
+    → entry_of readies text ≡ o → OnEntry o number said answer (Goes readies true j number phases said (next ∷ more) answer)
+    → ((k : Judged) (n : ℕ) (s : List ℕ) → AnswersFrom readies true k (number + 1) n s (next ∷ more) answer → IsFound readies k (number + 1) s (next ∷ more) answer)
+    → IsFound readies j number said (text ∷ next ∷ more) answer
+on_entry None readies j number phases said text next more answer is e rest =
+    none_found readies j number said (text ∷ next ∷ more) answer is (record { rest = _; text = ap (λ (a : Answer). a.text) e })
+on_entry (Some entry) readies j number phases said text next more answer is (b, k, takes, goes) rest =
+    on_breach readies j k number phases said text next more answer entry b is takes goes (rest k (phases + phases_in entry))
+
+found_from : (texts : List (List ℕ)) (readies : Readies) (j : Judged) (number phases : ℕ) (said : List ℕ) (answer : Answer)
+    → AnswersFrom readies true j number phases said texts answer → IsFound readies j number said texts answer
+found_from [] readies j number phases said answer e = none_found readies j number said [] answer refl (ends number phases said [] answer e)
+found_from (last ∷ []) readies j number phases said answer e = none_found readies j number said (last ∷ []) answer refl (ends number phases said last answer e)
+found_from (text ∷ next ∷ more) readies j number phases said answer on =
+    on_entry (entry_of readies text) readies j number phases said text next more answer refl on (λ k n s goes. found_from (next ∷ more) readies k (number + 1) n s answer goes)
+
+pub each_law : EachLaw
+each_law audit requests readies text answer (greatest, fresh, answers) =
+    let j : Judged = record { requests = requests; audit = audit; greatest = greatest; closers = unclosed } in
+    let is = found_from (parts 10 text) readies j 1 0 [] answer answers in
+    (j, refl, record { found = is.found; follow = is.follow; lines = is.lines; rest = is.rest; text = is.text; overlaps = each_overlap is.found j is.follow })
