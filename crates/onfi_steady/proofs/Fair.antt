@@ -1,21 +1,18 @@
 -- No request is passed over for ever: what was passed over often is due, and of what is due the first of its LUN begins.
-use Rattle.std.proofs.Common.{◌≡◌, ◌≢◌, ℕ, ◌+◌, ◌<◌, ◌≤◌, ◌∙◌, inl, inr, Bool, true, false, List, [], ◌∷◌, ◌++◌, length, map, nat_lt, Option, Some, None, ap, arith, length-append, refl, subst, sym}
+use Rattle.std.proofs.Common.{◌≡◌, ℕ, ◌+◌, ◌<◌, ◌≤◌, ◌∙◌, inl, inr, Bool, true, false, List, [], ◌∷◌, ◌++◌, length, map, nat_lt, Some, ap, arith, length-append, refl, subst, sym}
 use Rattle.std.specs.Prelude.{◌==◌, ◌||◌, cond, min, not}
-use Rattle.std.specs.List.{AllByRecursion as All, filter, find, list_any}
-use Rattle.std.proofs.lemmas.Bool.{cases_Bool, cases_eq, cases_lt, eq-eqb, eqb-true, le-ltb, lt-ltb, false≢true}
+use Rattle.std.specs.List.{AllByRecursion as All, filter, find}
+use Rattle.std.proofs.lemmas.Bool.{cases_Bool, cases_eq, cases_lt, eq-eqb, le-ltb, lt-ltb, false≢true}
 use Rattle.onfi_timing.specs.declared.operation.Operation.{Operation}
 use Rattle.onfi_timing.specs.declared.operation.Operation.TheVariants.{Read, Program, Erase}
 use Rattle.onfi_timing.specs.Kinds.{operation_of}
 use Rattle.onfi_request.specs.declared.want.Want.{Want}
 use Rattle.onfi_group.specs.Words.{Has, Pairs}
 use Rattle.onfi_group.specs.Group.{is_member}
-use Rattle.onfi_group.proofs.Lists.{All-each, All-has, Has-filter}
-use Rattle.onfi_problem.specs.Problem.{Problem}
-use Rattle.onfi_steady.specs.declared.next.NextPhase.{NextPhase}
+use Rattle.onfi_group.proofs.Lists.{All-each, Has-filter}
 use Rattle.onfi_steady.specs.declared.waiter.Waiter.{Waiter}
-use Rattle.onfi_steady.specs.Waiting.{Books, accepted, begins_with, begun, greatest_number, is_on, left_waiting, passed_by}
+use Rattle.onfi_steady.specs.Waiting.{begins_with, greatest_number, is_on, left_waiting, passed_by}
 use Rattle.onfi_steady.specs.Offer.{firsts, is_due, on_lun, ready_on, turns_of}
-use Rattle.onfi_steady.specs.Next.{IsNextPhase}
 use Rattle.onfi_steady.specs.Dispatcher.{begun_books}
 use Rattle.onfi_steady.specs.Fair.{AcceptsFairly, AreFair, AreWithin, IsFair, NoneStarves, RunsFairly}
 use Rattle.onfi_steady.proofs.Dispatching.{off_left, off_push, on_left, on_push, pass_want}
