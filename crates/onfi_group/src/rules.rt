@@ -2,6 +2,7 @@ ghost use Rattle.std.specs.Prelude.{◌≡◌, ◌≤◌};
 ghost use Rattle.onfi_group.specs.Planes.{ArePlaneBits};
 
 /// Which operations may run as one on several planes of a LUN (ONFI 4.2, multi-plane operations).
+#[repr(C)]
 #[derive(Clone, Copy, Debug, PartialEq, Eq)]
 pub struct Rules {
     /// Reads: features bit 6 of the parameter page.

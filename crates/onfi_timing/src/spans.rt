@@ -9,6 +9,7 @@ const LIMIT: u64 = 1 << 50;
 /// The lengths of a kind's phases and the waits between them, in ns, each below 2^50.
 ///
 /// A group of k members runs k commands, then k posts on the bus (ONFI 4.2, multi-plane operations).
+#[repr(C)]
 #[derive(Clone, Copy, Debug, PartialEq, Eq)]
 pub struct Spans {
     /// How long one command with its address and data holds the bus; at least 1.
