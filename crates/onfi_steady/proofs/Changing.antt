@@ -164,7 +164,7 @@ module _ (lun id : ℕ) where
       by_id false q = ap (λ z. cond z (w ∷ filter (is_on lun) some) (filter (is_on lun) some)) e ∙ ap (λ z. w ∷ z) h
   one_on w some own false e h = ap (λ z. cond z (w ∷ filter (is_on lun) some) (filter (is_on lun) some)) e ∙ h
 
-  on_cancelled : (ws : List Waiter) → on_lun lun (filter stays ws) ≡ filter other (on_lun lun ws)
+  pub on_cancelled : (ws : List Waiter) → on_lun lun (filter stays ws) ≡ filter other (on_lun lun ws)
   on_cancelled [] = refl
   on_cancelled (w ∷ ws) = one_on w (filter stays ws) (on_lun lun ws) (is_on lun w) refl (on_cancelled ws)
 
