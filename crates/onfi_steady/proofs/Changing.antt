@@ -1,6 +1,6 @@
 -- What a dispatcher keeps once one of its LUNs changed.
-use Rattle.std.proofs.Common.{◌≡◌, ◌≢◌, ℕ, ◌+◌, ◌<◌, ◌≤◌, ◌∙◌, inl, inr, Bool, true, false, List, [], ◌∷◌, get_or, length, map, take, Option, Some, None, ap, arith, refl, subst, sym}
-use Rattle.std.specs.Prelude.{◌==◌, ◌||◌, cond, min, not, if◌then◌else◌, slice_get, slice_set}
+use Rattle.std.proofs.Common.{◌≡◌, ◌≢◌, ℕ, ◌+◌, ◌<◌, ◌≤◌, ◌∙◌, inl, inr, Bool, true, false, List, [], ◌∷◌, get_or, length, take, Option, Some, None, ap, arith, refl, subst, sym}
+use Rattle.std.specs.Prelude.{◌||◌, cond, not, if◌then◌else◌, slice_get, slice_set}
 use Rattle.std.specs.List.{AllByRecursion as All, filter, list_any}
 use Rattle.std.proofs.lemmas.Bool.{cases_Bool, cases_eq, eq-eqb, eqb-true, ne_eqb, false≢true}
 use Rattle.std.proofs.lemmas.Option.{get_or_from_slice_get}
@@ -18,9 +18,9 @@ use Rattle.onfi_steady.specs.declared.waiter.Waiter.{Waiter}
 use Rattle.onfi_steady.specs.Waiting.{Books, is_on, wants_of}
 use Rattle.onfi_steady.specs.Offer.{on_lun}
 use Rattle.onfi_steady.specs.Slots.{has_number, others_of, slots_in, waiters_in}
-use Rattle.onfi_steady.specs.LunBooks.{IsLun, state_in, states_in}
+use Rattle.onfi_steady.specs.LunBooks.{IsLun}
 use Rattle.onfi_steady.specs.Selecting.{AreLuns, NoneHolds}
-use Rattle.onfi_steady.specs.Dispatcher.{IsOf, again_line_refusal, again_refusal, array_refusal, cancelled, has_id, in_array, is_request, luns_of, newest_of, ready_refusal, states_of}
+use Rattle.onfi_steady.specs.Dispatcher.{IsOf, again_line_refusal, again_refusal, array_refusal, has_id, in_array, is_request, luns_of, newest_of, ready_refusal}
 use Rattle.onfi_steady.proofs.Dispatching.{IsSame, get_taken, line_at, luns_changed, take_changed, the_same}
 use Rattle.onfi_steady.proofs.Slots.{others_wait}
 
@@ -164,7 +164,7 @@ module _ (lun id : ℕ) where
       by_id false q = ap (λ z. cond z (w ∷ filter (is_on lun) some) (filter (is_on lun) some)) e ∙ ap (λ z. w ∷ z) h
   one_on w some own false e h = ap (λ z. cond z (w ∷ filter (is_on lun) some) (filter (is_on lun) some)) e ∙ h
 
-  on_cancelled : (ws : List Waiter) → on_lun lun (filter stays ws) ≡ filter other (on_lun lun ws)
+  pub on_cancelled : (ws : List Waiter) → on_lun lun (filter stays ws) ≡ filter other (on_lun lun ws)
   on_cancelled [] = refl
   on_cancelled (w ∷ ws) = one_on w (filter stays ws) (on_lun lun ws) (is_on lun w) refl (on_cancelled ws)
 

@@ -1,6 +1,6 @@
 -- What a dispatcher keeps is that of its channel, call after call.
-use Rattle.std.proofs.Common.{◌≡◌, ◌≢◌, ℕ, zero, suc, ◌+◌, ◌-◌, ◌<◌, ◌≤◌, ◌⊎◌, ◌∙◌, inl, inr, Bool, true, false, List, [], ◌∷◌, ◌++◌, length, map, nat_lt, take, Option, Some, None, ap, arith, refl, subst, sym}
-use Rattle.std.specs.Prelude.{◌==◌, cond, max, not, if◌then◌else◌, IfSome, MatchOption, slice_get, slice_set}
+use Rattle.std.proofs.Common.{◌≡◌, ◌≢◌, ℕ, zero, suc, ◌+◌, ◌<◌, ◌≤◌, ◌∙◌, inl, inr, Bool, true, false, List, [], ◌∷◌, ◌++◌, length, map, nat_lt, take, Option, Some, None, ap, arith, refl, subst, sym}
+use Rattle.std.specs.Prelude.{◌==◌, cond, max, not, IfSome, MatchOption, slice_get, slice_set}
 use Rattle.std.specs.List.{AllByRecursion as All, filter}
 use Rattle.std.proofs.lemmas.Bool.{cases_Bool, cases_eq, eq-eqb, eqb-true, ne_eqb, lt-ltb, false≢true}
 use Rattle.std.proofs.lemmas.List.{append-nil, length-map}
@@ -9,7 +9,7 @@ use Rattle.std.proofs.lemmas.Option.{slice_get_within}
 use Rattle.onfi_timing.specs.declared.timing.Timing.{Timing}
 use Rattle.onfi_timing.specs.Phases.{phase_length}
 use Rattle.onfi_request.specs.declared.want.Want.{Want}
-use Rattle.onfi_group.specs.Group.{group_spans, is_member, lun_of}
+use Rattle.onfi_group.specs.Group.{group_spans, lun_of}
 use Rattle.onfi_group.proofs.Lists.{All-append}
 use Rattle.onfi_problem.specs.declared.lun_state.LunState.{LunState}
 use Rattle.onfi_problem.specs.declared.lun_state.LunState.TheVariants.{Free, Running}
@@ -21,15 +21,14 @@ use Rattle.onfi_steady.specs.declared.begin.Begin.{Begin}
 use Rattle.onfi_steady.specs.declared.dispatcher.Dispatcher.{Dispatcher}
 use Rattle.onfi_steady.specs.declared.first.Choice.{Choice}
 use Rattle.onfi_steady.specs.declared.lun_books.LunBooks.{LunBooks}
-use Rattle.onfi_steady.specs.declared.next.NextPhase.{NextPhase}
 use Rattle.onfi_steady.specs.declared.waiter.Waiter.{Waiter}
 use Rattle.onfi_steady.specs.Waiting.{Books, accepted, begins_with, begun, channel, greatest_number, is_on, left_waiting, newest_with, passed_by}
 use Rattle.onfi_steady.specs.Offer.{erase_group, firsts, on_lun, own_group, ready_on}
-use Rattle.onfi_steady.specs.Next.{IsIdle, IsNextPhase, given_move, move_by}
-use Rattle.onfi_steady.specs.Kept.{IsHeldAt, NoneBelow, held_group}
-use Rattle.onfi_steady.specs.Slots.{IsBegin, begins, left_of, slots_in, waiters_in, wants_in}
+use Rattle.onfi_steady.specs.Next.{IsIdle, given_move, move_by}
+use Rattle.onfi_steady.specs.Kept.{NoneBelow, held_group}
+use Rattle.onfi_steady.specs.Slots.{IsBegin, begins, slots_in, waiters_in, wants_in}
 use Rattle.onfi_steady.specs.LunBooks.{HasBegun, HasGoneOn, IsLun, IsLunOffer, begin_of, runs, state_in, states_in}
-use Rattle.onfi_steady.specs.Selecting.{AreLuns, IsFirstChoice, IsFirstMove, IsHeldChoice, IsNextChoice, IsPhaseOf, begin_choice, begin_turn, begun_at, begun_by, can_run, can_run_by, held_in}
+use Rattle.onfi_steady.specs.Selecting.{AreLuns, IsFirstChoice, IsFirstMove, IsHeldChoice, IsNextChoice, begin_turn, begun_at, begun_by, can_run, can_run_by, held_in}
 use Rattle.onfi_steady.specs.Dispatcher.{HasRun, IsBut, IsOf, accept_refusal, begun_books, due_wants, has_due, line_refusal, luns_of, newest_of, states_of}
 use Rattle.onfi_steady.proofs.Leaving.{left_planes}
 use Rattle.onfi_steady.proofs.NextFound.{held_phase}

@@ -1,23 +1,21 @@
 -- No request is passed over for ever: what was passed over often is due, and of what is due the first of its LUN begins.
-use Rattle.std.proofs.Common.{◌≡◌, ◌≢◌, ℕ, ◌+◌, ◌<◌, ◌≤◌, ◌∙◌, inl, inr, Bool, true, false, List, [], ◌∷◌, ◌++◌, length, map, nat_lt, Option, Some, None, ap, arith, length-append, refl, subst, sym}
+use Rattle.std.proofs.Common.{◌≡◌, ℕ, ◌+◌, ◌<◌, ◌≤◌, ◌∙◌, inl, inr, Bool, true, false, List, [], ◌∷◌, ◌++◌, length, map, nat_lt, Some, ap, arith, length-append, refl, subst, sym}
 use Rattle.std.specs.Prelude.{◌==◌, ◌||◌, cond, min, not}
-use Rattle.std.specs.List.{AllByRecursion as All, filter, find, list_any}
-use Rattle.std.proofs.lemmas.Bool.{cases_Bool, cases_eq, cases_lt, eq-eqb, eqb-true, le-ltb, lt-ltb, false≢true}
+use Rattle.std.specs.List.{AllByRecursion as All, filter, find}
+use Rattle.std.proofs.lemmas.Bool.{cases_Bool, cases_eq, cases_lt, eq-eqb, le-ltb, lt-ltb, false≢true}
 use Rattle.onfi_timing.specs.declared.operation.Operation.{Operation}
 use Rattle.onfi_timing.specs.declared.operation.Operation.TheVariants.{Read, Program, Erase}
 use Rattle.onfi_timing.specs.Kinds.{operation_of}
 use Rattle.onfi_request.specs.declared.want.Want.{Want}
 use Rattle.onfi_group.specs.Words.{Has, Pairs}
 use Rattle.onfi_group.specs.Group.{is_member}
-use Rattle.onfi_group.proofs.Lists.{All-each, All-has, Has-filter}
-use Rattle.onfi_problem.specs.Problem.{Problem}
-use Rattle.onfi_steady.specs.declared.next.NextPhase.{NextPhase}
+use Rattle.onfi_group.proofs.Lists.{All-each, Has-filter}
 use Rattle.onfi_steady.specs.declared.waiter.Waiter.{Waiter}
-use Rattle.onfi_steady.specs.Waiting.{Books, accepted, begins_with, begun, greatest_number, is_on, left_waiting, passed_by}
+use Rattle.onfi_steady.specs.Waiting.{begins_with, greatest_number, is_on, left_waiting, passed_by}
 use Rattle.onfi_steady.specs.Offer.{firsts, is_due, on_lun, ready_on, turns_of}
-use Rattle.onfi_steady.specs.Next.{IsNextPhase}
-use Rattle.onfi_steady.specs.Dispatcher.{begun_books}
-use Rattle.onfi_steady.specs.Fair.{AcceptsFairly, AreFair, AreWithin, IsFair, NoneStarves, RunsFairly}
+use Rattle.onfi_steady.specs.Dispatcher.{begun_books, has_id, is_request}
+use Rattle.onfi_steady.specs.Fair.{AcceptsFairly, AreFair, AreWithin, BeginsFairly, CancelsFairly, IsFair, NoneStarves, RunsFairly}
+use Rattle.onfi_steady.proofs.Changing.{all_filter, off_cancelled, on_cancelled}
 use Rattle.onfi_steady.proofs.Dispatching.{off_left, off_push, on_left, on_push, pass_want}
 use Rattle.onfi_steady.proofs.Firsts.{filter_has}
 
@@ -241,3 +239,46 @@ runs_fairly books p phase next fair = by_members phase.members.items refl
       where
         none_some : phase.members.items ≡ [] → ⊥
         none_some z = let q : m ∷ ms ≡ [] = sym e ∙ z in absurd cc
+
+pub begins_fairly : BeginsFairly
+begins_fairly rules newest = λ lun. record { few = omega arith; rises = tt; older = tt; within = tt }
+
+-- without some of those that wait
+pairs_filter : {A : Type 0} (R : A → A → Type 0) (test : A → Bool) (xs : List A) → Pairs R xs → Pairs R (filter test xs)
+pairs_filter R test [] h = tt
+pairs_filter {A = A} R test (x ∷ xs) h = by_test (test x) (filter test xs) (pairs_filter R test xs h.1) (all_filter (R x) test xs h.0)
+  where
+    by_test : (b : Bool) (rest : List A) → Pairs R rest → All (R x) rest → Pairs R (cond b (x ∷ rest) rest)
+    by_test true rest r k = (k, r)
+    by_test false rest r k = r
+
+within_filter : (test : Waiter → Bool) (at : ℕ) (ws : List Waiter) → AreWithin at ws → AreWithin at (filter test ws)
+within_filter test at [] h = tt
+within_filter test at (w ∷ ws) h = by_test (test w) (filter test ws) (within_filter test (at + 1) ws h.1) (within_filter test at ws (weaken at ws h.1))
+  where
+    by_test : (b : Bool) (rest : List Waiter) → AreWithin (at + 1) rest → AreWithin at rest → AreWithin at (cond b (w ∷ rest) rest)
+    by_test true rest r k = (h.0, r)
+    by_test false rest r k = k
+
+few_filter : (test : Waiter → Bool) (ws : List Waiter) → length (filter test ws) ≤ length ws
+few_filter test [] = omega arith
+few_filter test (w ∷ ws) = by_test (test w) (filter test ws) (few_filter test ws)
+  where
+    by_test : (b : Bool) (rest : List Waiter) → length rest ≤ length ws → length (cond b (w ∷ rest) rest) ≤ length (w ∷ ws)
+    by_test true rest r = omega arith
+    by_test false rest r = omega arith
+
+fair_filter : (test : Waiter → Bool) (ws : List Waiter) → IsFair ws → IsFair (filter test ws)
+fair_filter test ws fair = record {
+  few = let a = few_filter test ws in let b = fair.few in omega arith;
+  rises = pairs_filter (λ (a b : Waiter). a.want.id < b.want.id) test ws fair.rises;
+  older = pairs_filter (λ (a b : Waiter). b.passed ≤ a.passed) test ws fair.older;
+  within = within_filter test 0 ws fair.within;
+}
+
+pub cancels_fairly : CancelsFairly
+cancels_fairly books lun id fair = λ at. elim (cases_eq at lun) [
+  | inl q ↦ subst (λ l. IsFair (on_lun l (filter (λ w. not (is_request lun id w)) books.waiting))) (sym q)
+      (subst IsFair (sym (on_cancelled lun id books.waiting)) (fair_filter (λ w. not (has_id id w)) (on_lun lun books.waiting) (fair lun)))
+  | inr d ↦ subst IsFair (sym (off_cancelled lun id at d books.waiting)) (fair at)
+]

@@ -1,12 +1,12 @@
 -- The lengths of each kind, by their places.
-use Rattle.std.proofs.Common.{◌≡◌, ℕ, zero, suc, ◌+◌, ◌≤◌, ◌∙◌, List, ◌∷◌, [], length, Option, Some, None, ap, arith, refl, sym}
+use Rattle.std.proofs.Common.{◌≡◌, ℕ, zero, suc, ◌≤◌, ◌∙◌, List, ◌∷◌, [], length, Option, Some, None, ap, arith, refl, sym}
 use Rattle.std.specs.Prelude.{slice_get, slice_index_or, unwrap_or}
 use Rattle.std.proofs.lemmas.Bool.{lt-ltb}
 use Rattle.onfi_timing.specs.declared.kind.Kind.{Kind}
 use Rattle.onfi_timing.specs.declared.kind.Kind.TheVariants.{Read, Program, Erase, ReadSectors}
 use Rattle.onfi_timing.specs.declared.spans.Spans.{Spans}
 use Rattle.onfi_timing.specs.declared.timing.Timing.{Timing}
-use Rattle.onfi_timing.specs.Kinds.{sector_spans, spans_of, stated}
+use Rattle.onfi_timing.specs.Kinds.{sector_spans, spans_of}
 use Rattle.onfi_steady.specs.Slots.{place_of}
 
 past_end : (xs : List (Option Spans)) (n : ℕ) → length xs ≤ n → slice_index_or xs n None ≡ None

@@ -1,18 +1,16 @@
 -- The phase that goes first, by what is kept of each LUN.
-use Rattle.std.proofs.Common.{◌≡◌, ◌≢◌, ℕ, ◌+◌, ◌-◌, ◌<◌, ◌≤◌, ◌⊎◌, ◌∙◌, inl, inr, Bool, true, false, List, [], ◌∷◌, drop, get_or, length, map, nat_lt, take, Option, Some, None, ap, arith, refl, subst, sym}
-use Rattle.std.specs.Prelude.{◌==◌, max, not, if◌then◌else◌, IfSome, MatchOption, slice_get}
+use Rattle.std.proofs.Common.{◌≡◌, ℕ, ◌+◌, ◌-◌, ◌≤◌, ◌⊎◌, ◌∙◌, inl, inr, Bool, true, false, List, [], ◌∷◌, drop, get_or, length, nat_lt, take, Option, Some, None, ap, arith, refl, subst, sym}
+use Rattle.std.specs.Prelude.{◌==◌, max, if◌then◌else◌, IfSome, MatchOption, slice_get}
 use Rattle.std.specs.List.{AllByRecursion as All, list_any}
-use Rattle.std.proofs.lemmas.Bool.{cases_Bool, cases_eq, eq-eqb, eqb-true, ne_eqb, le-ltb}
+use Rattle.std.proofs.lemmas.Bool.{cases_Bool, cases_eq, eq-eqb, ne_eqb, le-ltb}
 use Rattle.std.proofs.lemmas.Option.{get_or_from_slice_get, slice_get_within}
 use Rattle.onfi_timing.specs.declared.kind.Kind.TheVariants.{Read}
 use Rattle.onfi_timing.specs.declared.timing.Timing.{Timing}
-use Rattle.onfi_timing.specs.Phases.{phase_length}
 use Rattle.onfi_request.specs.declared.want.Want.{Want}
-use Rattle.onfi_group.specs.Group.{group_operation, group_spans, lun_of}
-use Rattle.onfi_problem.specs.declared.lun_state.LunState.{LunState}
+use Rattle.onfi_group.specs.Group.{lun_of}
 use Rattle.onfi_problem.specs.declared.lun_state.LunState.TheVariants.{Free, Running}
 use Rattle.onfi_problem.specs.Problem.{Problem}
-use Rattle.onfi_problem.specs.Moves.{ComesBefore, IsMove, Move, Next, Start, earliest, free_from, move_lun}
+use Rattle.onfi_problem.specs.Moves.{ComesBefore, IsMove, Move, earliest, free_from, move_lun}
 use Rattle.onfi_problem.proofs.Lists.{map_get}
 use Rattle.onfi_problem.proofs.Places.{drop_next}
 use Rattle.onfi_steady.specs.declared.begin.Begin.{Begin}
@@ -23,21 +21,21 @@ use Rattle.onfi_steady.specs.declared.run.Run.{Run}
 use Rattle.onfi_steady.specs.declared.turn.Turn.{Turn}
 use Rattle.onfi_steady.specs.declared.waiter.Waiter.{Waiter}
 use Rattle.onfi_steady.specs.Order.{GoesBefore, is_less}
-use Rattle.onfi_steady.specs.Rule.{keeps_bus, oldest, phase_numbers, post_rank, start_rank}
+use Rattle.onfi_steady.specs.Rule.{keeps_bus, phase_numbers}
 use Rattle.onfi_steady.specs.Choosing.{numbers_of}
 use Rattle.onfi_steady.specs.Waiting.{Books, channel, wants_of}
-use Rattle.onfi_steady.specs.Offer.{erase_group, firsts, is_kind, is_open, on_lun, own_group, ready_on}
-use Rattle.onfi_steady.specs.Next.{IsFirstGiven, IsIdle, IsNextPhase, any_work, begin_with, given_by, given_group, given_move, has_work, have_work, is_held, is_number, move_by, move_of_phase}
-use Rattle.onfi_steady.specs.Kept.{IsHeldAt, IsKeptBy, IsKeptFrom, NoneBelow, held_group, is_kept, kept_with}
+use Rattle.onfi_steady.specs.Offer.{is_kind, is_open, on_lun, own_group, ready_on}
+use Rattle.onfi_steady.specs.Next.{IsFirstGiven, IsNextPhase, any_work, begin_with, given_by, given_group, given_move, has_work, have_work, is_held, is_number, move_by, move_of_phase}
+use Rattle.onfi_steady.specs.Kept.{IsKeptBy, IsKeptFrom, is_kept, kept_with}
 use Rattle.onfi_steady.specs.Slots.{IsBegin, begins, slots_in, waiters_in, wants_in}
-use Rattle.onfi_steady.specs.LunBooks.{IsGoing, IsLun, IsLunOffer, begin_of, runs, state_in, states_in}
-use Rattle.onfi_steady.specs.Selecting.{AreLuns, IsChoice, IsFirstChoice, IsFirstMove, IsHeldChoice, IsMoveOf, IsNextChoice, IsPhaseOf, begin_choice, begin_turn, begun_at, begun_by, begun_on, can_run, can_run_at, can_run_by, choice_with, first_choice, given_in, gives_erase, going_turn, has_newest, held_in, keeps_in, kept_in, works_in}
+use Rattle.onfi_steady.specs.LunBooks.{IsLun, IsLunOffer, begin_of, runs, state_in, states_in}
+use Rattle.onfi_steady.specs.Selecting.{IsChoice, IsFirstChoice, IsFirstMove, IsMoveOf, begin_choice, begin_turn, begun_at, begun_by, begun_on, can_run_by, choice_with, first_choice, given_in, gives_erase, going_turn, has_newest, held_in, keeps_in, kept_in, works_in}
 use Rattle.onfi_steady.proofs.KeptFrom.{begin_numbers, kept_more, running_numbers}
-use Rattle.onfi_steady.proofs.NextFound.{held_phase, second}
-use Rattle.onfi_steady.proofs.NextHeld.{due_given, idle}
-use Rattle.onfi_steady.proofs.NextMove.{begin_is, given_lun, last_or_earlier, move_given, none_given, none_some, past}
+use Rattle.onfi_steady.proofs.NextFound.{second}
+use Rattle.onfi_steady.proofs.NextHeld.{due_given}
+use Rattle.onfi_steady.proofs.NextMove.{given_lun, last_or_earlier, move_given, none_some, past}
 use Rattle.onfi_steady.proofs.Order.{behind, before_all}
-use Rattle.onfi_steady.proofs.Slots.{any_newest, begin_size, run_size}
+use Rattle.onfi_steady.proofs.Slots.{any_newest, begin_size}
 
 -- a LUN by what it runs
 pub state_free : (r : Run) → r.members ≡ 0 → state_in r ≡ Free r.since

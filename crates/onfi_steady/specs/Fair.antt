@@ -1,7 +1,8 @@
 -- No request is passed over for ever.
-use Rattle.std.specs.Prelude.{ℕ, ◌+◌, ◌<◌, ◌≤◌, List, [], ◌∷◌, length}
+use Rattle.std.specs.Prelude.{ℕ, ◌+◌, ◌<◌, ◌≤◌, List, [], ◌∷◌, length, Option}
 use Rattle.std.specs.List.{AllByRecursion as Each}
 use Rattle.onfi_request.specs.declared.want.Want.{Want}
+use Rattle.onfi_group.specs.declared.rules.Rules.{Rules}
 use Rattle.onfi_group.specs.Words.{Pairs}
 use Rattle.onfi_problem.specs.Problem.{Problem}
 use Rattle.onfi_steady.specs.declared.next.NextPhase.{NextPhase}
@@ -9,7 +10,7 @@ use Rattle.onfi_steady.specs.declared.waiter.Waiter.{Waiter}
 use Rattle.onfi_steady.specs.Waiting.{Books, accepted}
 use Rattle.onfi_steady.specs.Offer.{on_lun}
 use Rattle.onfi_steady.specs.Next.{IsNextPhase}
-use Rattle.onfi_steady.specs.Dispatcher.{begun_books}
+use Rattle.onfi_steady.specs.Dispatcher.{begun_books, cancelled}
 
 -- each was passed over so often at most that with its place it is 575, where the first stands at that place
 abbrev pub AreWithin : ℕ → List Waiter → Type 0
@@ -30,7 +31,15 @@ AreFair books = (lun : ℕ) → IsFair (on_lun lun books.waiting)
 abbrev pub NoneStarves : Type 0
 NoneStarves = (books : Books) → AreFair books → Each (λ w. w.passed ≤ 575) books.waiting
 
--- books stay fair where a request comes whose number is above those that wait for its LUN
+-- books of which nothing waits are fair
+abbrev pub BeginsFairly : Type 0
+BeginsFairly = (rules : Rules) (newest : Option ℕ) → AreFair (record { rules = rules; waiting = []; newest = newest })
+
+-- books stay fair where a request is cancelled
+abbrev pub CancelsFairly : Type 0
+CancelsFairly = (books : Books) (lun id : ℕ) → AreFair books → AreFair (cancelled books lun id)
+
+-- .. where a request comes whose number is above those that wait for its LUN
 abbrev pub AcceptsFairly : Type 0
 AcceptsFairly = (books : Books) (want : Want) → AreFair books → length (on_lun want.lun books.waiting) < 64 → Each (λ v. v.want.id < want.id) (on_lun want.lun books.waiting)
     → AreFair (accepted books want)

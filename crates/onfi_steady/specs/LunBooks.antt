@@ -1,5 +1,5 @@
 -- What a LUN does, what waits for it and what it would begin, as a dispatcher keeps them.
-use Rattle.std.specs.Prelude.{◌≡◌, ℕ, ◌+◌, ◌*◌, ◌-◌, ◌≤◌, ◌==◌, max, min, nat_lt, not, if◌then◌else◌, Bool, true, false, List, [], length, map, take, Option, Some, None, slice_get}
+use Rattle.std.specs.Prelude.{◌≡◌, ℕ, ◌+◌, ◌*◌, ◌≤◌, ◌==◌, nat_lt, if◌then◌else◌, Bool, List, length, map, take}
 use Rattle.std.specs.List.{list_any}
 use Rattle.onfi_timing.specs.declared.kind.Kind.TheVariants.{Read}
 use Rattle.onfi_timing.specs.declared.operation.Operation.TheVariants.{Erase}

@@ -1,6 +1,5 @@
 -- Of what LUNs give the phase that goes first, found from what is kept of each.
-use Rattle.std.specs.Prelude.{◌≡◌, ◌≢◌, ◌⊎◌, ℕ, ◌+◌, ◌-◌, ◌<◌, ◌≤◌, ◌==◌, max, nat_lt, not, if◌then◌else◌, Bool, true, false, List, [], ◌∷◌, length, Option, Some, None, IfSome, slice_get}
-use Rattle.std.specs.List.{list_any}
+use Rattle.std.specs.Prelude.{◌≡◌, ◌⊎◌, ℕ, ◌+◌, ◌-◌, ◌<◌, ◌≤◌, ◌==◌, max, nat_lt, not, if◌then◌else◌, Bool, true, false, List, [], length, Option, Some, None, IfSome, slice_get}
 use Rattle.onfi_timing.specs.declared.timing.Timing.{Timing}
 use Rattle.onfi_request.specs.declared.want.Want.{Want}
 use Rattle.onfi_problem.specs.Problem.{Problem}

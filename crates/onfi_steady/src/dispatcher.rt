@@ -1,5 +1,5 @@
 //! A channel without batches, with its books kept from call to call.
-ghost use Rattle.std.specs.Prelude.{◌≡◌, ◌<◌, ◌≤◌, ◌^◌, [], None, length, max, IfOk, IfErr, IfNone, MatchOption, MatchResult};
+ghost use Rattle.std.specs.Prelude.{◌≡◌, ◌<◌, ◌≤◌, ◌^◌, [], None, length, max, IfOk, IfErr, IfNone, IsTrue, MatchOption, MatchResult};
 
 use crate::due_phase::DuePhase;
 use crate::fault::{AcceptFault, RanFault, ReadyFault};
@@ -80,6 +80,7 @@ impl Dispatcher {
     pub fn accept(&mut self, want: Want) -> Result<(), AcceptFault>
         requires plane { want.plane ≤ 3 }
         ensures accepted { (timing : AnyTiming) (books : Books) → IsOf timing books self.old → IfOk result (λ _. IsOf timing (accepted books want) self.new) }
+        ensures over { IfOk result (λ _. has_due self.new ≡ false) }
         ensures refused { MatchResult result (λ _. accept_refusal self.old want ≡ None) (λ fault. accept_refusal self.old want ≡ Some fault) }
         ensures states { states_of self.new ≡ states_of self.old }
         ensures bus_free { self.new.bus_free ≡ self.old.bus_free }
@@ -108,6 +109,7 @@ impl Dispatcher {
         requires plane { want.now.plane ≤ 3 }
         requires accepted { accept_refusal self.old want.now ≡ None }
         ensures accepted { (timing : AnyTiming) (books : Books) → IsOf timing books self.old → IsOf timing (accepted books want.now) self.new }
+        ensures over { has_due self.new ≡ false }
         ensures states { states_of self.new ≡ states_of self.old }
         ensures bus_free { self.new.bus_free ≡ self.old.bus_free }
     {
@@ -146,6 +148,7 @@ impl Dispatcher {
     /// on. Nothing is changed then.
     pub fn ran(&mut self, started: u64) -> Result<(), RanFault>
         ensures ran { (timing : AnyTiming) (books : Books) → IsOf timing books self.old → IfOk result (λ _. HasRun timing books self.old self.new started) }
+        ensures over { IfOk result (λ _. has_due self.new ≡ false) }
         ensures refused { MatchResult result (λ _. ran_refusal self.old started ≡ None) (λ fault. ran_refusal self.old started ≡ Some fault) }
         ensures same { IfErr result (λ _. self.new ≡ self.old) }
     {
@@ -170,6 +173,7 @@ impl Dispatcher {
     /// is changed then.
     pub fn ready(&mut self, lun: u8, moment: u64) -> Result<(), ReadyFault>
         ensures ready { IfOk result (λ _. states_of self.new ≡ luns_ready_by moment lun (slice_get (states_of self.old) lun) (states_of self.old)) }
+        ensures over { IfOk result (λ _. has_due self.new ≡ false) }
         ensures is { (timing : AnyTiming) (books : Books) → IsOf timing books self.old → IsOf timing books self.new }
         ensures refused { MatchResult result (λ _. ready_refusal self.old lun ≡ None) (λ fault. ready_refusal self.old lun ≡ Some fault) }
         ensures bus_free { self.new.bus_free ≡ self.old.bus_free }
@@ -185,6 +189,7 @@ impl Dispatcher {
     /// The request of that number waits no more: of the lowest LUN for which one does. Answers whether one waited.
     pub fn cancel(&mut self, id: u64) -> bool
         ensures cancelled { (timing : AnyTiming) (books : Books) → IsOf timing books self.old → IsCancelled timing books id self.old self.new result }
+        ensures over { IsTrue result → has_due self.new ≡ false }
         ensures states { states_of self.new ≡ states_of self.old }
         ensures bus_free { self.new.bus_free ≡ self.old.bus_free }
     {
@@ -207,6 +212,7 @@ impl Dispatcher {
     pub fn accept_again(&mut self, want: Want) -> Result<(), AcceptFault>
         requires plane { want.plane ≤ 3 }
         ensures accepted { (timing : AnyTiming) (books : Books) → IsOf timing books self.old → IfOk result (λ _. IsOf timing (accepted_again books want) self.new) }
+        ensures over { IfOk result (λ _. has_due self.new ≡ false) }
         ensures first { (books : Books) → StandsFirst (accepted_again books want) want }
         ensures refused { MatchResult result (λ _. again_refusal self.old want ≡ None) (λ fault. again_refusal self.old want ≡ Some fault) }
         ensures states { states_of self.new ≡ states_of self.old }
@@ -238,6 +244,7 @@ impl Dispatcher {
     fn make_ready(&mut self, lun: u8, moment: u64)
         requires { ready_refusal self.old lun ≡ None }
         ensures ready { states_of self.new ≡ luns_ready_by moment lun (slice_get (states_of self.old) lun) (states_of self.old) }
+        ensures over { has_due self.new ≡ false }
         ensures is { (timing : AnyTiming) (books : Books) → IsOf timing books self.old → IsOf timing books self.new }
         ensures bus_free { self.new.bus_free ≡ self.old.bus_free }
     {
@@ -249,6 +256,7 @@ impl Dispatcher {
     fn take_out(&mut self, lun: u8, id: u64)
         requires { IsHolder (luns_of self.old) id lun }
         ensures cancelled { (timing : AnyTiming) (books : Books) → IsOf timing books self.old → IsCancelled timing books id self.old self.new true }
+        ensures over { has_due self.new ≡ false }
         ensures states { states_of self.new ≡ states_of self.old }
         ensures bus_free { self.new.bus_free ≡ self.old.bus_free }
     {
@@ -272,6 +280,7 @@ impl Dispatcher {
         requires plane { want.now.plane ≤ 3 }
         requires accepted { again_refusal self.old want.now ≡ None }
         ensures accepted { (timing : AnyTiming) (books : Books) → IsOf timing books self.old → IsOf timing (accepted_again books want.now) self.new }
+        ensures over { has_due self.new ≡ false }
         ensures states { states_of self.new ≡ states_of self.old }
         ensures bus_free { self.new.bus_free ≡ self.old.bus_free }
     {
@@ -318,7 +327,8 @@ impl Dispatcher {
     fn run_due(&mut self, started: u64)
         requires due { has_due self.old ≡ true }
         requires time { started < 2 ^ 62 }
-        ensures { (timing : AnyTiming) (books : Books) → IsOf timing books self.old → HasRun timing books self.old self.new started }
+        ensures ran { (timing : AnyTiming) (books : Books) → IsOf timing books self.old → HasRun timing books self.old self.new started }
+        ensures over { has_due self.new ≡ false }
     {
         self.due.is_there = false;
         self.bus_free = self.lun[usize::from(self.due.lun)].run_phase(

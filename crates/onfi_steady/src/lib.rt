@@ -40,7 +40,9 @@ mod waiting;
 pub use dispatch::run_by_rule;
 pub use dispatcher::Dispatcher;
 pub use fault::{AcceptFault, RanFault, ReadyFault};
-pub use laws::{accepting_is_fair, none_starves, running_is_fair};
+pub use laws::{
+    accepting_is_fair, beginning_is_fair, cancelling_is_fair, none_starves, running_is_fair,
+};
 pub use next::{NextPhase, next_phase, next_phase_of};
 pub use planner::RulePlanner;
 pub use planning::plan_by_rule;

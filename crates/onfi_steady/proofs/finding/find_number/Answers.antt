@@ -1,7 +1,7 @@
-use Rattle.std.proofs.Common.{◌≡◌, ◌∙◌, ap, false, length, refl, sym, true}
+use Rattle.std.proofs.Common.{◌≡◌, ◌∙◌, ap, false, length, refl, sym}
 use Rattle.std.proofs.lemmas.Option.{slice_get_read}
 use Rattle.onfi_steady.specs.Slots.{has_number, slots_in}
-use Rattle.onfi_steady.proofs.Changing.{none_all, none_more}
+use Rattle.onfi_steady.proofs.Changing.{none_more}
 use Rattle.onfi_steady.proofs.finding.find_number.Goals as goal
 
 pub returns-then-has_number : goal.returns-then-has_number

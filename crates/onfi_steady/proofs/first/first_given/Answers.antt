@@ -1,4 +1,4 @@
-use Rattle.std.proofs.Common.{◌≡◌, ◌+◌, ◌≤◌, arith, length, refl, subst, sym, None}
+use Rattle.std.proofs.Common.{◌≡◌, ◌+◌, arith, length, refl, subst, sym, None}
 use Rattle.std.specs.Prelude.{IfSome, MatchOption}
 use Rattle.std.proofs.lemmas.Option.{slice_get_read}
 use Rattle.onfi_steady.specs.Waiting.{channel}

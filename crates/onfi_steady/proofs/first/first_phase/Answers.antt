@@ -1,8 +1,6 @@
-use Rattle.std.proofs.Common.{◌≡◌, ◌∙◌, length, refl, subst, sym, None}
-use Rattle.std.proofs.lemmas.List.{length-map}
-use Rattle.onfi_steady.specs.declared.lun_books.LunBooks.{LunBooks}
+use Rattle.std.proofs.Common.{length, subst}
 use Rattle.onfi_steady.specs.Waiting.{channel}
-use Rattle.onfi_steady.specs.LunBooks.{state_in, states_in}
+use Rattle.onfi_steady.specs.LunBooks.{states_in}
 use Rattle.onfi_steady.specs.Selecting.{IsFirstChoice}
 use Rattle.onfi_steady.proofs.Dispatching.{first_next, held_found}
 use Rattle.onfi_steady.proofs.first.first_phase.Goals as goal

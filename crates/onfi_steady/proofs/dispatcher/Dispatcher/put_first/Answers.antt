@@ -1,4 +1,4 @@
-use Rattle.std.proofs.Common.{◌≡◌, ◌∷◌, ◌∙◌, ap, get_or, refl, subst, sym}
+use Rattle.std.proofs.Common.{◌∷◌, ◌∙◌, ap, get_or, refl, subst, sym}
 use Rattle.std.proofs.lemmas.Option.{slice_get_within}
 use Rattle.onfi_steady.specs.declared.waiter.Waiter.{Waiter}
 use Rattle.onfi_steady.specs.LunBooks.{IsLun, states_in}

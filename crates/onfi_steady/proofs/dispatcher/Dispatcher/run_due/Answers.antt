@@ -9,8 +9,8 @@ use Rattle.onfi_steady.proofs.Dispatching.{begins_there, due_lun, gone_on, group
 use Rattle.onfi_steady.proofs.Selecting.{none_or_some}
 use Rattle.onfi_steady.proofs.dispatcher.Dispatcher.run_due.Goals as goal
 
-pub returns : goal.returns
-returns c = λ timing books is.
+pub returns-clause-ran : goal.returns-clause-ran
+returns-clause-ran c = λ timing books is.
     let old = c.args.self.now in
     let l = get_or old.lun c.from.result c.index-self-from.result in
     let after = c.run_phase-self.new.self in

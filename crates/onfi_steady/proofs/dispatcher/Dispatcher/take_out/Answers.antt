@@ -1,5 +1,4 @@
-use Rattle.std.proofs.Common.{◌≡◌, ◌≤◌, ◌<◌, ◌∙◌, ap, get_or, length, refl, subst, sym}
-use Rattle.onfi_steady.specs.declared.waiter.Waiter.{Waiter}
+use Rattle.std.proofs.Common.{◌≤◌, ◌<◌, ◌∙◌, ap, get_or, length, refl, subst, sym}
 use Rattle.onfi_steady.specs.Slots.{waiters_in}
 use Rattle.onfi_steady.specs.LunBooks.{IsLun, states_in}
 use Rattle.onfi_steady.specs.Dispatcher.{cancelled, is_request, luns_of}
