@@ -76,6 +76,7 @@ static void print_judgements(void)
         {"data output 1 ns sooner", 4, {.start = 113088}, FOUR, 0},
         {"gap 1 ns sooner", 2, {.start = 774}, FOUR, 0},
         {"array 1 ns sooner", 3, {.start = 75449, .lun = 1}, FOUR, 0},
+        {"no start", 3, {.start = NEVER, .lun = 1}, FOUR, 0},
         {"another LUN", 1, {.start = 175, .lun = 2}, FOUR, 0},
         {"nothing to go on with", 1, {.start = 175, .lun = 1}, FOUR, 0},
         {"a group in a group", 2, {.start = 775, .members = 1, .member = {2}}, FOUR, 0},

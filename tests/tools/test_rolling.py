@@ -37,6 +37,7 @@ nothing spoilt: legal
 data output 1 ns sooner: the bus isn't free (113088 ns, LUN 0, request 0, earliest 113089)
 gap 1 ns sooner: the LUN isn't ready (774 ns, LUN 0, request 1, earliest 775)
 array 1 ns sooner: the LUN isn't ready (75449 ns, LUN 1, request 2, earliest 75450)
+no start: a step without a start below 2^62 ns (18446744073709551615 ns, LUN 1, request 2, earliest 0)
 another LUN: there is no such LUN (175 ns, LUN 2, request -1, earliest 0)
 nothing to go on with: a LUN goes on that runs nothing (175 ns, LUN 1, request -1, earliest 0)
 a group in a group: a group begins while its LUN runs another one (775 ns, LUN 0, request 2, earliest 0)

@@ -7,7 +7,6 @@
 
 enum { MOST_LINE = 512, MOST_FIELDS = 8, MOST_BLOCK = 65535, MOST_PAGE = 4095 };
 
-#define MOST_TIME ((UINT64_C(1) << 62) - 1)
 #define MOST_LENGTH ((UINT64_C(1) << 50) - 1)
 
 /* A line of a file, and its fields, which commas end. */
@@ -165,7 +164,7 @@ static const char *put_request(const row *row, const setup *setup, uint64_t line
 {
     uint64_t lun, place[2], sectors[2] = {0, 0};
     *made = (arrival){.line = line};
-    if (!put_field(row, 0, MOST_TIME, &made->time) || row->fields < 5 || !put_kind(row->field[1], &made->want.kind) || !put_fields(row, 2, 1, MOST_PAGE, &lun)
+    if (!put_field(row, 0, TIMES - 1, &made->time) || row->fields < 5 || !put_kind(row->field[1], &made->want.kind) || !put_fields(row, 2, 1, MOST_PAGE, &lun)
         || !put_field(row, 3, MOST_BLOCK, &place[0]) || !put_field(row, 4, MOST_PAGE, &place[1]) || (row->fields > 5 && !put_fields(row, 5, 2, 255, sectors))
         || (row->fields > 7 && !put_field(row, 7, UINT64_MAX, &made->line)))
         return "not time,op,lun,block,page,first sector,sectors";

@@ -82,6 +82,8 @@ static const char *breach_of_turn(const judge *j, const step *step, fault *wrong
         return "a group begins while its LUN runs another one";
     if (!step->members && !lun->members)
         return "a LUN goes on that runs nothing";
+    if (step->start >= TIMES)
+        return "a step without a start below 2^62 ns";
     wrong->earliest = later_of(j->bus_free, lun->may);
     if (step->start < j->bus_free)
         return "the bus isn't free";

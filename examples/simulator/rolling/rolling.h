@@ -22,6 +22,9 @@
 
 #include <stdio.h>
 
+/* Times are below this. */
+#define TIMES (UINT64_C(1) << 62)
+
 enum { OF_THE_WAY = UINT16_MAX, PLAN_STEPS = ONFI_LUNS * ONFI_STARTS + 2 * ONFI_WANTS };
 
 /* What is simulated. */
@@ -121,9 +124,9 @@ typedef struct {
 
 /* What has the bus next: the next phase of a LUN's group, or the first one of a new group. */
 typedef struct step {
-    uint64_t start;
+    uint64_t start; /* at or after what soonest() gives for its LUN */
     unsigned lun;
-    size_t members; /* 0: the running group goes on */
+    size_t members; /* 0: the running group goes on; else each is of the LUN and waits, they are of one kind and page, and each on a plane of its own */
     uint64_t member[ONFI_MEMBERS]; /* the ids of the new group's wants */
 } step;
 
