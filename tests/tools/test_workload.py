@@ -208,8 +208,22 @@ class Pages(unittest.TestCase):
                 list(read_requests([self.TRACE.splitlines()[0], line], "us"))
 
     def test_a_script_of_it(self) -> None:
-        _, rows, _ = made(self.TRACE, "--unit", "us")
-        self.assertEqual(rows.splitlines()[4:], ["at,0", "opread,0,0,1,5,3,2,1", "at,500", "op,0,0,program,0,8,0,*03", "at,2000", "op,0,0,erase,0,12,0", "end"])
+        with tempfile.TemporaryDirectory() as room:
+            path = Path(room) / "device.onfi"
+            path.write_text("sector,4608\n" + (support.ROOT / "examples/devices/tlc.onfi").read_text())
+            _, rows, _ = made(self.TRACE, "--unit", "us", device=str(path))
+        found = rows[rows.index("at,0"):].splitlines()
+        self.assertEqual(found, ["at,0", "opread,0,0,1,5,3,2,1", "at,500", "op,0,0,program,0,8,0,*03", "at,2000", "op,0,0,erase,0,12,0", "end"])
+
+    def test_pages_and_sectors_that_the_device_doesnt_have(self) -> None:
+        mapping, place = Mapping(SMALL._replace(sectors=4), False, True), Place(0, 1, 7, 3)
+        fits = [Operation(9, 0, "read", place, 1, 3), Operation(9, 0, "program", place), Operation(9, 0, "erase", place._replace(page=0))]
+        self.assertEqual([mapping.operations(it) for it in fits], [[it] for it in fits])
+        wrong = [Operation(9, 0, "read", place._replace(**{name: value})) for name, value in (("lun", 2), ("block", 8), ("page", 4))]
+        wrong += [Operation(9, 0, "erase", place), Operation(9, 0, "read", place, 2, 3), Operation(9, 0, "program", place, 0, 1)]
+        for it in [*wrong, Operation(9, 0, "read", place, 0, 8)]:
+            with self.assertRaisesRegex(ValueError, "^line 9: (a page|sectors) that "):
+                mapping.operations(it)
 
     def test_operations_alone(self) -> None:
         """Those of bytes, each with the line that it is of; what is printed is read back."""

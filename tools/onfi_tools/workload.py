@@ -207,7 +207,7 @@ class Mapping:
     def operations(self, line: Line) -> List[Operation]:
         """Those of a line of a trace. ValueError where the drive can't take it."""
         if isinstance(line, Operation):
-            return [line]
+            return [self.fitting(line)]
         made: List[Operation] = []
         for page in self.pages_of(line):
             if line.kind == READ:
@@ -217,6 +217,16 @@ class Mapping:
             else:
                 self.moved[page % self.shape.logical_pages()] = None
         return made
+
+    def fitting(self, operation: Operation) -> Operation:
+        """An operation that the device has the page and the sectors for."""
+        (_, lun, block, page), shape = operation.place, self.shape
+        if lun >= shape.luns or block >= shape.blocks or page >= (1 if operation.kind == "erase" else shape.pages):
+            raise ValueError(f"line {operation.line}: a page that the device doesn't have, or an erase of another page than 0")
+        is_read = operation.kind == "read" and operation.sectors <= MOST_SECTORS and operation.first + operation.sectors <= shape.sectors
+        if operation.sectors and not is_read:
+            raise ValueError(f"line {operation.line}: sectors that a page of the device doesn't have, more than {MOST_SECTORS}, or not of a read")
+        return operation
 
     def pages_of(self, request: Request) -> range:
         """The pages that a byte of the request stands on, as its addresses count; a trim only those that it covers."""
