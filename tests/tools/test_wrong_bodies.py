@@ -131,7 +131,7 @@ class Entries(unittest.TestCase):
 
     def test_a_mistake_has_its_words(self) -> None:
         mistakes = [it.mistake for name in TOOL.PROVE.CRATES for it in TOOL.Crate(name).entries if it.mistake]
-        self.assertEqual(len(mistakes), 42)
+        self.assertGreaterEqual(len(mistakes), 42)
         self.assertTrue(all(" " in it for it in mistakes))
 
     CHANGES: Dict[str, List[List[Tuple[str, str]]]] = {
