@@ -84,7 +84,7 @@ static const char *breach_of_turn(const judge *j, const step *step, fault *wrong
         return "a LUN goes on that runs nothing";
     if (step->start >= TIMES)
         return "a step without a start below 2^62 ns";
-    wrong->earliest = later_of(j->bus_free, lun->may);
+    wrong->earliest = step->start < j->bus_free ? j->bus_free : lun->may;
     if (step->start < j->bus_free)
         return "the bus isn't free";
     return step->start < lun->may ? "the LUN isn't ready" : NULL;

@@ -273,7 +273,7 @@ typedef struct {
 
 typedef struct way {
     const char *name;
-    choice *choose;
+    choice *choose; /* which requests it looks at: `everything` where it looks at the machine itself */
     /* What has the bus next, and from when on; false where there is nothing to do. */
     bool (*decide)(const struct way *way, mind *mind, const machine *m, const batch *batch, step *step);
     const rule *rule; /* of a greedy way, and of a planner that is over */
