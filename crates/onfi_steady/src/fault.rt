@@ -20,7 +20,7 @@ pub enum AcceptFault {
 /// Why no phase ran.
 #[derive(Clone, Copy, Debug, PartialEq, Eq, Error)]
 pub enum RanFault {
-    /// No phase was given, or something changed since then.
+    /// No phase was given, or something changed after it.
     #[error("no phase is due")]
     NothingDue,
     /// The phase may not start so soon.
