@@ -16,10 +16,26 @@
  *   - It isn't called from a signal handler, nor from a forked child of a process with threads.
  *
  * All memory is the caller's, or is asked of malloc and given back before the call returns. Calls keep nothing, start no
- * thread and take no lock; several threads may call at the same time, each with memory of its own. A call takes some tens
- * of kilobytes of stack, onfi_plan_early some 110.
+ * thread and take no lock; several threads may call at the same time, each with memory of its own.
  *
  * Processors: any x86-64 and any 64-bit Arm.
+ *
+ * Stack: below its caller a call takes at most so much, as measured on these two and on a 32-bit Arm, of certificates as deep as they
+ * can be:
+ *
+ *     468,000 bytes: onfi_text_check_known
+ *     443,000 bytes: onfi_check_known, onfi_check_within, onfi_check_within_by
+ *     214,000 bytes: onfi_plan_early, onfi_plan_early_by
+ *     153,000 bytes: onfi_text_plan_known, onfi_text_trace, onfi_plan_within, onfi_plan_within_by
+ *     133,000 bytes: onfi_text_plan, onfi_text_check
+ *     112,000 bytes: onfi_plan_known
+ *     92,000 bytes: onfi_plan, onfi_check
+ *     74,000 bytes: onfi_text_audit, onfi_text_legal, onfi_plan_rule, onfi_plan_rule_by
+ *     48,000 bytes: onfi_timing_of_page, onfi_timing_of_strobes, onfi_lengths_of_page
+ *     23,000 bytes: onfi_breach, onfi_breach_by, onfi_next, onfi_queue_ran, onfi_audit_phase, onfi_audit_ready
+ *     11,400 bytes: onfi_ran, onfi_ran_by, onfi_audit_begin, onfi_audit_begin_by
+ *     5,600 bytes: onfi_due, onfi_due_by, onfi_choose, onfi_choose_by, onfi_choose_whole
+ *     150 bytes: onfi_queue_begin, onfi_queue_accept, onfi_output_of, onfi_row, onfi_status_text, onfi_version
  *
  * The shared library is libonfi.so.MAJOR. Within a MAJOR no call, struct or number changes its meaning or goes, and no call
  * asks its caller for more. What may come or change: further calls and numbers of refusals, the texts of numbers, how many

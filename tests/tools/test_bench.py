@@ -1,5 +1,7 @@
 """tools/bench: on programs whose work is known, what it makes of counts of instructions, and on the built program."""
 
+import contextlib
+import io
 import re
 import shutil
 import subprocess
@@ -9,7 +11,7 @@ import unittest
 from pathlib import Path
 
 import support
-from onfi_tools.bench import driver_costs, instructions, runs, whole_plans
+from onfi_tools.bench import driver_costs, instructions, pages, runs, whole_plans
 
 SEARCH = r"""
 #include <stdio.h>
@@ -119,6 +121,49 @@ class Instructions(unittest.TestCase):
             self.assertRaises(subprocess.CalledProcessError, driver_costs.turns_by, driver, "greedy", ["luns", "9"])
         self.assertEqual((sorted(few.calls), few.plans), (["onfi_output_of", "onfi_row"], 0))
         self.assertTrue(100 < few.whole < many.whole < 1_000_000, (few, many))
+
+
+class Pages(unittest.TestCase):
+    """Figures in a page that is made here."""
+
+    def setUp(self) -> None:
+        self.page = support.room_of(self) / "page.md"
+        self.page.write_text("A plan takes 1,000 us, 95 of 100.\n\n| within | 20 | | 3,456 |\n\nIt prints:\n\n    one 1\n    two 2\n\nNo more.\n")
+
+    def looked(self, place: str, *now: "str | None", share: float = 0.05, is_checked: bool = False) -> "tuple[int, str]":
+        with contextlib.redirect_stdout(io.StringIO()) as said:
+            count = pages.look_at(pages.Figure(str(self.page), place, lambda: now, share), is_checked)
+        return count, said.getvalue().replace(str(self.page), "page")
+
+    def test_what_differs_is_written(self) -> None:
+        found = self.looked(r"takes ([\d,]+) us, (\d+) of", "1,010", "95")
+        self.assertEqual(found, (1, "page:1: '1,000' is '1,010' now\n"))
+        self.assertEqual(self.looked(r"\| within " + 3 * r"\| *([\d,]*) *" + r"\|", "20", None), (0, ""))
+        self.assertEqual(self.looked(r"\| within " + 3 * r"\| *([\d,]*) *" + r"\|", "21", "9"), (2, "page:3: '3,456' is '9' now\npage:3: '20' is '21' now\n"))
+        self.assertEqual(self.looked(r"prints:\n\n((?:    [^\n]*\n?)*)\n\n", "    one 1\n    three 3"), (1, "page:7: 'two 2' is 'three 3' now\n"))
+        self.assertEqual(self.page.read_text(), "A plan takes 1,010 us, 95 of 100.\n\n| within | 21 | | 9 |\n\nIt prints:\n\n    one 1\n    three 3\n\nNo more.\n")
+        for near in ("1,010", "1,011"):
+            self.assertEqual(self.looked(r"takes ([\d,]+) us, (\d+) of", near, "95"), (0, ""))
+        self.assertEqual(self.looked(r"takes ([\d,]+) us, (\d+) of", "1,011", "95", share=0)[0], 1)
+
+    def test_what_differs_by_more_than_its_share_is_reported(self) -> None:
+        before = self.page.read_text()
+        for now, share, count in (("1,050", 0.05, 0), ("1,060", 0.05, 1), ("960", 0.05, 0), ("940", 0.05, 1), ("1,001", 0, 1), ("1,000", 0, 0), ("1,000 1", 0.5, 1)):
+            self.assertEqual(self.looked(r"takes ([\d,]+) us", now, share=share, is_checked=True)[0], count, now)
+        self.assertEqual(self.page.read_text(), before)
+
+    def test_a_place_that_is_not_there(self) -> None:
+        for place, now in ((r"takes ([\d,]+) ms", ["1"]), (r"takes ([\d,]+) us", ["1", "2"])):
+            self.assertRaises(ValueError, self.looked, place, *now)
+
+    def test_each_figure_has_its_place(self) -> None:
+        """In the pages as they are: as many groups as are measured, each with a number."""
+        found = [*pages.figures(pages.Measured("", Path("/nowhere"), Path("/nowhere")))]
+        for figure in found:
+            place = re.search(figure.place, (support.ROOT / figure.page).read_text(), re.DOTALL)
+            assert place is not None, figure
+            self.assertTrue(any(pages.numbers_in(group) for group in place.groups() if group), figure)
+        self.assertGreater(len(found), 30)
 
 
 # A program whose plain searches open 37 nodes and those that remember states so many.
