@@ -245,7 +245,8 @@ fn reads_of_sectors(rt: HostRuntime) -> Result<(), Fail> {
     Ok(())
 }
 
-// A phase that only comes too soon runs where the log goes on with it; a request that was withdrawn leaves its number.
+// A phase that only comes too soon runs where the log goes on with it, and leaves the bus taken for as long as it was; a request that was
+// withdrawn leaves its number.
 #[test]
 fn a_phase_that_runs_anyway(rt: HostRuntime) -> Result<(), Fail> {
     let mut audit = opened(rt.alloc())?;
@@ -264,6 +265,9 @@ fn a_phase_that_runs_anyway(rt: HostRuntime) -> Result<(), Fail> {
         })
     );
     assert_eq!(rt; audit.run_anyway(&post(55, 0, 4)), true);
+    assert_eq!(rt; audit.bus_free(), 75);
+    assert_eq!(rt; audit.accept(Kind::Read, 1, 0, 0), Ok(1));
+    assert_eq!(rt; audit.run_anyway(&command(60, 1, 0)), true);
     assert_eq!(rt; audit.bus_free(), 75);
     Ok(())
 }
