@@ -376,6 +376,17 @@ class Commands(unittest.TestCase):
         path.write_text(script)
         return support.run_tool("draw-trace", *words, "--script", str(path), given=given)
 
+    def test_a_log_without_ends_is_drawn_as_its_trace(self) -> None:
+        lines = [line.split() for line in support.trace_text("batch").splitlines()]
+        log = "".join(" ".join([start, *place]) + "\n" for start, _, *place in (line[:7] for line in lines))
+        script = str(support.ROOT / "examples/batch.onfi")
+        for form in ("svg", "vcd", "text"):
+            drawn = [support.run_tool("draw-trace", "--as", form, "--script", script, given=given) for given in (log, support.trace_text("batch"))]
+            self.assertEqual(drawn[0].stdout, drawn[1].stdout)
+            self.assertEqual((drawn[0].returncode, bool(drawn[0].stdout)), (0, True))
+        ran = support.run_tool("draw-trace", given=log)
+        self.assertEqual((ran.returncode, ran.stderr), (1, "draw-trace: line 1: not a line of a trace: 0 1 read cmd 0 0\n"))
+
     def test_a_script_of_another_device_is_told(self) -> None:
         batch, other = ((support.ROOT / f"examples/{name}.onfi").read_text() for name in ("batch", "simulator/batch"))
         soon = "0 140 1 read cmd 0 0 00 32\n740 880 1 read cmd 1 0 00 30\n"

@@ -78,12 +78,13 @@ class Window(NamedTuple):
         return [it._replace(start=max(it.start, self.begin), end=min(it.end, self.end)) for it in within]
 
 
-def read_trace(lines: Iterable[str]) -> List[Phase]:
-    """The phases of a trace, in its order; ValueError names the first line that is none."""
+def read_trace(lines: Iterable[str], lengths: Optional[Mapping[str, Spans]] = None) -> List[Phase]:
+    """The phases of a trace, in its order, or where the lengths are known those of a log that doesn't say when they end; ValueError
+    names the first line that is none."""
     phases: List[Phase] = []
     for number, line in enumerate(lines, 1):
         if line.strip():
-            phases.append(phase_of(number, line))
+            phases.append(phase_of(number, line if lengths is None else with_end(line, lengths)))
     return phases
 
 
@@ -101,6 +102,16 @@ def overlaps(phases: List[Phase]) -> List[Overlap]:
 
 def is_number(field: str) -> bool:
     return field.isascii() and field.isdigit()
+
+
+def with_end(line: str, lengths: Mapping[str, Spans]) -> str:
+    """A line of a log, START LUN KIND PART BLOCK PAGE [REQUEST], as a trace has it, without command bytes; any other as it is."""
+    fields = line.split()
+    if len(fields) not in (6, 7) or not is_number(fields[0]) or fields[2] not in lengths:
+        return line
+    spans = lengths[fields[2]]
+    end = int(fields[0]) + (spans.post if fields[3] == "post" else spans.cmd)
+    return " ".join([fields[0], str(end), *fields[1:6], "-", "-", *fields[6:]])
 
 
 def phase_of(number: int, line: str) -> Phase:
