@@ -1,9 +1,13 @@
 //! What a LUN does, what waits for it, and what it would begin.
 ghost use Rattle.std.specs.Prelude.{◌≡◌, ℕ, ◌+◌, ◌<◌, ◌≤◌, ◌^◌, ◌∷◌, ◌++◌, [], List, length, true};
+ghost use Rattle.std.specs.List.{list_any};
+ghost use Rattle.onfi_timing.specs.declared.kind.Kind.TheVariants.{Read};
 ghost use Rattle.onfi_timing.specs.declared.timing.Timing.{Timing as AnyTiming};
 ghost use Rattle.onfi_request.specs.declared.want.Want.{Want as AnyWant};
 ghost use Rattle.onfi_problem.specs.declared.lun_state.LunState.TheVariants.{Free};
 ghost use Rattle.onfi_group.specs.declared.rules.Rules.{Rules as AnyRules};
+ghost use Rattle.onfi_steady.specs.declared.waiter.Waiter.{Waiter as AnyWaiter};
+ghost use Rattle.onfi_steady.specs.Offer.{firsts, is_kind};
 ghost use Rattle.onfi_steady.specs.Slots.{AreSpansOf, IsBegin, others_of, slots_in, waiters_in};
 ghost use Rattle.onfi_steady.specs.LunBooks.{HasBegun, HasGoneOn, IsLun, IsLunOffer, begin_of, state_in};
 ghost use Rattle.onfi_steady.specs.Selecting.{begun_on, can_run};
@@ -19,10 +23,14 @@ use crate::offer::{group_with, may_grow, oldest_of, pick_request};
 use crate::ready::list_slots;
 use crate::run::Run;
 use crate::slot::{Slot, list_wants};
+use crate::waiter::Waiter;
 use arrayvec::ArrayVec;
 use onfi_group::Rules;
 use onfi_request::Want;
 use onfi_timing::Kind;
+
+// So many requests wait for a LUN at most in a short line.
+const SHORT: usize = 16;
 
 /// What a LUN would begin that runs nothing.
 #[repr(C)]
@@ -44,9 +52,29 @@ impl LunOffer {
         requires { length waiting.now ≤ 64 }
         ensures { (timing : AnyTiming) → AreSpansOf timing spans.now → IsLunOffer timing rules.now (waiters_in waiting.now) result }
     {
-        let mut list = ArrayVec::new();
+        if waiting.len() <= SHORT {
+            return Self::of_short(rules, spans, waiting);
+        }
+        let mut list: ArrayVec<Waiter, 64> = ArrayVec::new();
         let reads = list_slots(&mut list, waiting);
-        let ready = list.as_slice();
+        Self::of_ready(rules, spans, list.as_slice(), reads)
+    }
+
+    // That of a short line: its list is made in a few words of memory.
+    fn of_short(rules: &Rules, spans: &KindSpans, waiting: &[Slot]) -> LunOffer
+        requires { length waiting.now ≤ 16 }
+        ensures { (timing : AnyTiming) → AreSpansOf timing spans.now → IsLunOffer timing rules.now (waiters_in waiting.now) result }
+    {
+        let mut list: ArrayVec<Waiter, 16> = ArrayVec::new();
+        let reads = list_slots(&mut list, waiting);
+        Self::of_ready(rules, spans, list.as_slice(), reads)
+    }
+
+    // That of those that may begin, oldest first, where a read waits or not.
+    fn of_ready(rules: &Rules, spans: &KindSpans, ready: &[Waiter], reads: bool) -> LunOffer
+        ensures { (timing : AnyTiming) (waiting : List AnyWaiter) → AreSpansOf timing spans.now → ready.now ≡ firsts waiting → reads ≡ list_any (is_kind Read) waiting
+            → IsLunOffer timing rules.now waiting result }
+    {
         let head = pick_request(ready);
         let group = group_with(rules, ready, head);
         let erase = group_with(rules, ready, oldest_of(ready, Kind::Erase));

@@ -49,9 +49,9 @@ fn put(ready: &mut ArrayVec<Waiter, 64>, lun: u8, waiter: &Waiter) -> bool
 
 /// Puts those of a LUN's requests that may begin, oldest first, into the empty list. Answers whether a read waits, be it ready
 /// or not.
-pub fn list_slots(ready: &mut ArrayVec<Waiter, 64>, waiting: &[Slot]) -> bool
+pub fn list_slots<const N: usize>(ready: &mut ArrayVec<Waiter, N>, waiting: &[Slot]) -> bool
     requires none { ready.old.items ≡ [] }
-    requires few { length waiting.now ≤ 64 }
+    requires few { length waiting.now ≤ N }
     ensures ready { ready.new.items ≡ firsts (waiters_in waiting.now) }
     ensures reads { result ≡ list_any (is_kind Read) (waiters_in waiting.now) }
 {
@@ -65,8 +65,8 @@ pub fn list_slots(ready: &mut ArrayVec<Waiter, 64>, waiting: &[Slot]) -> bool
 }
 
 // Appends one to the others, where none of them is on its block. Answers whether it is a read.
-fn put_first(ready: &mut ArrayVec<Waiter, 64>, waiter: Waiter) -> bool
-    requires { length ready.old.items < 64 }
+fn put_first<const N: usize>(ready: &mut ArrayVec<Waiter, N>, waiter: Waiter) -> bool
+    requires { length ready.old.items < N }
     ensures items { ready.new.items ≡ firsts_with ready.old.items waiter }
     ensures few { length ready.new.items ≤ length ready.old.items + 1 }
     ensures read { result ≡ is_kind Read waiter }

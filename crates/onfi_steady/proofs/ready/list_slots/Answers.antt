@@ -13,7 +13,7 @@ abbrev blank : Slot
 blank = record { id = 0; block = 0; page = 0; passed = 0; kind = 0; first = 0; count = 0; lun = 0; plane = 0 }
 
 pub loop-slot-preserved : goal.loop-slot-preserved
-loop-slot-preserved c =
+loop-slot-preserved o c =
     let waiting = c.args.waiting.now in
     let i = c.loop-slot.slot-index in
     let test = c.loop-slot-test.true in
@@ -27,7 +27,7 @@ loop-slot-preserved c =
     }
 
 pub returns-clause-ready : goal.returns-clause-ready
-returns-clause-ready c = c.loop-slot.invariant.is ∙ ap (λ z. firsts (waiters_in z)) (take_all c.loop-slot.slot-index c.args.waiting.now c.loop-slot-test.false)
+returns-clause-ready o c = c.loop-slot.invariant.is ∙ ap (λ z. firsts (waiters_in z)) (take_all c.loop-slot.slot-index c.args.waiting.now c.loop-slot-test.false)
 
 pub returns-clause-reads : goal.returns-clause-reads
-returns-clause-reads c = c.loop-slot.invariant.reads ∙ ap (λ z. list_any (is_kind Read) (waiters_in z)) (take_all c.loop-slot.slot-index c.args.waiting.now c.loop-slot-test.false)
+returns-clause-reads o c = c.loop-slot.invariant.reads ∙ ap (λ z. list_any (is_kind Read) (waiters_in z)) (take_all c.loop-slot.slot-index c.args.waiting.now c.loop-slot-test.false)

@@ -6,7 +6,7 @@ use Rattle.onfi_steady.specs.Slots.{waiters_in}
 use Rattle.onfi_steady.proofs.ready.list_slots.Given as goal
 
 abbrev pub invariant-loop-slot : goal.invariant-loop-slot
-invariant-loop-slot l = record {
+invariant-loop-slot o l = record {
   is : l.ready.items ≡ firsts (waiters_in (take l.slot-index l.waiting));
   few : length l.ready.items ≤ l.slot-index;
   reads : l.reads ≡ list_any (is_kind Read) (waiters_in (take l.slot-index l.waiting));

@@ -1,24 +1,7 @@
-use Rattle.std.proofs.Common.{◌≡◌, ◌∙◌, ap, subst}
-use Rattle.std.specs.List.{find}
-use Rattle.onfi_timing.specs.declared.kind.Kind.TheVariants.{Erase}
-use Rattle.onfi_steady.specs.Offer.{erase_group, firsts, group_with, is_kind, may_grow, own_group, turned_to}
-use Rattle.onfi_steady.specs.Slots.{IsBegin, waiters_in}
+use Rattle.std.proofs.Common.{◌∙◌}
+use Rattle.onfi_steady.specs.Slots.{waiters_in}
 use Rattle.onfi_steady.proofs.lun_books.LunOffer.of.Goals as goal
 
 pub returns : goal.returns
 returns c = λ timing spans.
-    let rules = c.args.rules.now in
-    let first = firsts (waiters_in c.args.waiting.now) in
-    let ready : c.as_slice-ready.result.now ≡ first = c.as_slice-ready.ensures.value ∙ c.list_slots-reads.ensures.ready in
-    let head : c.pick_request-head.result ≡ turned_to first = c.pick_request-head.ensures ∙ ap turned_to ready in
-    let oldest : c.oldest_of.result ≡ find (is_kind Erase) first = c.oldest_of.ensures ∙ ap (find (is_kind Erase)) ready in
-    let group : c.group_with-group.result.items ≡ own_group rules first =
-    c.group_with-group.ensures ∙ (ap (λ z. group_with rules z c.pick_request-head.result) ready ∙ ap (group_with rules first) head) in
-    let erase : c.group_with-erase.result.items ≡ erase_group rules first =
-    c.group_with-erase.ensures ∙ (ap (λ z. group_with rules z c.oldest_of.result) ready ∙ ap (group_with rules first) oldest) in
-    record {
-      group = subst (λ z. IsBegin timing z c.of.result) (c.as_slice.ensures.value ∙ group) (c.of.ensures.begin timing spans);
-      erase = subst (λ z. IsBegin timing z c.of-2.result) (c.as_slice-2.ensures.value ∙ erase) (c.of-2.ensures.begin timing spans);
-      opened = c.may_grow.ensures ∙ (ap (λ z. may_grow rules z c.as_slice-3.result.now) head ∙ ap (may_grow rules (turned_to first)) (c.as_slice-3.ensures.value ∙ group));
-      reads = c.list_slots-reads.ensures.reads;
-    }
+    c.of_ready.ensures timing (waiters_in c.args.waiting.now) spans (c.as_slice.ensures.value ∙ c.list_slots-reads.ensures.ready) c.list_slots-reads.ensures.reads
