@@ -1,8 +1,8 @@
 -- Each line that breaks a condition is named, and lines that overlap break one.
 use Rattle.std.proofs.Common.{◌≡◌, ◌≢◌, ℕ, ◌+◌, ◌≤◌, ◌<◌, inl, inr, Bool, true, List, [], ◌∷◌, ◌++◌, Option, None, Some, refl, sym, ap, ◌∙◌, subst, append_assoc, append-nil, arith}
-use Rattle.std.specs.Prelude.{max, nat_le, nat_lt, slice_get, length}
+use Rattle.std.specs.Prelude.{◌==◌, max, nat_le, nat_lt, slice_get, length}
 use Rattle.std.specs.List.{AllByRecursion as All}
-use Rattle.std.proofs.lemmas.Bool.{cases_Bool}
+use Rattle.std.proofs.lemmas.Bool.{cases_Bool, eqb-true}
 use Rattle.onfi_request.specs.declared.want.Want.{Want}
 use Rattle.onfi_group.specs.Words.{Pairs}
 use Rattle.onfi_group.proofs.Lists.{All-weaker}
@@ -12,13 +12,14 @@ use Rattle.onfi_audit.specs.declared.stage.LunStage.{LunStage}
 use Rattle.onfi_audit.specs.declared.stage.LunStage.TheVariants as stage
 use Rattle.onfi_audit.proofs.Bus.{bus_law}
 use Rattle.onfi_log.specs.declared.breach.LineBreach.{LineBreach}
+use Rattle.onfi_log.specs.declared.breach.LineBreach.TheVariants.{OtherEnd}
 use Rattle.onfi_log.specs.declared.entry.LogEntry.{LogEntry}
 use Rattle.onfi_log.specs.declared.entry.LogEntry.TheVariants as says
 use Rattle.onfi_log.specs.declared.line.LogLine.{LogLine}
 use Rattle.onfi_log.specs.declared.readies.Readies.{Readies}
 use Rattle.onfi_log.specs.Entry.{entry_of, lun_in, phases_in}
-use Rattle.onfi_log.specs.Judging.{Judged, Takes, after_report, brings, ran, unclosed, with_brought}
-use Rattle.onfi_log.specs.Laws.{AreLines, EachLaw, Follow, Found, IsEach, Overlaps, found_text, found_texts, moment_of}
+use Rattle.onfi_log.specs.Judging.{Judged, Takes, after_report, brings, or_else, other_end, ran, unclosed, with_brought}
+use Rattle.onfi_log.specs.Laws.{AreLines, EachLaw, EndsAsSaid, Follow, Found, IsEach, Overlaps, found_text, found_texts, moment_of}
 use Rattle.onfi_log.specs.Parts.{parts}
 use Rattle.onfi_log.specs.Text.{Answer, AnswersFrom, OnBreach, OnEntry, breach_text, ended, ended_by, wrong}
 use Rattle.onfi_log.proofs.Answering.{Goes}
@@ -100,6 +101,28 @@ each_overlap (f ∷ found) j (e, follow) = (
   each_overlap found f.after follow,
 )
 
+-- Lines that say when they end
+
+end_is : (said : Option ℕ) (ends end : ℕ) (other : Option LineBreach) → or_else (other_end said ends) other ≡ None → said ≡ Some end → ends ≡ end
+end_is None ends end other none is = cc
+end_is (Some x) ends end other none is =
+    let same : x ≡ end = cc in
+    elim (cases_Bool (x == ends)) [
+      | inl k ↦ sym (eqb-true x ends k) ∙ same
+      | inr k ↦ (let q : Some (OtherEnd x ends) ≡ None = rw k at none in absurd (cc))
+    ]
+
+ends_as_said : (f : Found) → EndsAsSaid f
+ends_as_said f line end is none said =
+    let of_line : Takes f.before (says.Phase line) f.breach f.after = subst (λ e. Takes f.before e f.breach f.after) is f.takes in
+    let takes : Takes f.before (says.Phase line) None f.after = subst (λ b. Takes f.before (says.Phase line) b f.after) none of_line in
+    let (right, e) = takes in
+    ap (λ (x : Judged). bus x) e ∙ end_is line.end (after_line (with_brought f.before line.phase) line.phase).bus_free end _ right.fits said
+
+each_ends : (found : List Found) → All EndsAsSaid found
+each_ends [] = tt
+each_ends (f ∷ found) = (ends_as_said f, each_ends found)
+
 -- The answer
 
 -- what the answer says from a line on, where it has said so much
@@ -174,4 +197,4 @@ pub each_law : EachLaw
 each_law audit requests readies text answer (greatest, fresh, answers) =
     let j : Judged = record { requests = requests; audit = audit; greatest = greatest; closers = unclosed } in
     let is = found_from (parts 10 text) readies j 1 0 [] answer answers in
-    (j, refl, record { found = is.found; follow = is.follow; lines = is.lines; rest = is.rest; text = is.text; overlaps = each_overlap is.found j is.follow })
+    (j, refl, record { found = is.found; follow = is.follow; lines = is.lines; rest = is.rest; text = is.text; overlaps = each_overlap is.found j is.follow; ends = each_ends is.found })

@@ -1,5 +1,6 @@
 -- Laws of logs that are answered.
 use Rattle.std.specs.Prelude.{◌≡◌, ◌≢◌, ℕ, ◌+◌, ◌<◌, ◌≤◌, min, Bool, true, List, [], ◌∷◌, ◌++◌, length, map, Option, Some, None, slice_get, slice_set}
+use Rattle.std.specs.List.{AllByRecursion as Each}
 use Rattle.onfi_request.specs.declared.want.Want.{Want}
 use Rattle.onfi_group.specs.Words.{Pairs}
 use Rattle.onfi_problem.specs.declared.lun_state.LunState.{LunState}
@@ -137,8 +138,12 @@ moment_of (says.Ready lun moment) = moment
 abbrev pub Overlaps : Found → Found → Type 0
 Overlaps earlier later = moment_of later.entry < earlier.after.audit.bus_free
 
--- where all are asked for the answer has a line for each line that breaks a condition, and does so first; and what begins while an earlier
--- line is on the bus breaks one, whatever stands between them
+-- a line that breaks nothing ends when it says so: from then on the bus is free
+abbrev pub EndsAsSaid : Found → Type 0
+EndsAsSaid f = (line : LogLine) (end : ℕ) → f.entry ≡ says.Phase line → f.breach ≡ None → line.end ≡ Some end → f.after.audit.bus_free ≡ end
+
+-- where all are asked for the answer has a line for each line that breaks a condition, and does so first; what begins while an earlier
+-- line is on the bus breaks one, whatever stands between them; and so does what ends at another moment than it says
 pub record IsEach (readies : Readies) (j : Judged) (texts : List (List ℕ)) (answer : Answer) : Type 0 where
   pub found : List Found
   pub follow : Follow j found
@@ -146,6 +151,7 @@ pub record IsEach (readies : Readies) (j : Judged) (texts : List (List ℕ)) (an
   pub rest : List ℕ
   pub text : answer.text ≡ found_texts 1 found ++ rest
   pub overlaps : Pairs (λ earlier later. Overlaps earlier later → later.breach ≢ None) found
+  pub ends : Each EndsAsSaid found
 
 abbrev pub EachLaw : Type 0
 EachLaw = (audit : Audit) (requests : Requests) (readies : Readies) (text : List ℕ) (answer : Answer) → AnswersLogBy requests readies audit true text answer

@@ -13,8 +13,8 @@ pub fn reported_answer_is_legal()
     ensures { ReportedLaw }
 {}
 
-/// Where all are asked for, each line that breaks a condition has its line in the answer; and a line that begins while an earlier
-/// one is on the bus breaks one, whatever stands between them.
+/// Where all are asked for, each line that breaks a condition has its line in the answer; a line that begins while an earlier
+/// one is on the bus breaks one, whatever stands between them; and so does one that ends at another moment than it says.
 pub fn each_broken_line_is_named()
     ensures { EachLaw }
 {}
