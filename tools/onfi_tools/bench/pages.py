@@ -255,7 +255,7 @@ def example_figures(of: Measured) -> Iterator[Figure]:
 
 
 def embedded_figures(of: Measured) -> Iterator[Figure]:
-    page, sizes = "docs/EMBEDDED.md", r"[^|]*" + 6 * rf"\| {CELL} " + r"\|"
+    page, sizes = "docs/EMBEDDED.md", r"[^|]*" + 6 * rf"\|(?: {CELL})? " + r"\|"
     yield Figure(page, r"structs, " + ", ".join(rf"{name} {CELL}(?: bytes)?" for name in STRUCTS), of.structs, 0)
     yield Figure(page, rf"a turn goes {CELL} KB deep", of.phases_stack)
     yield Figure(page, rf"a request takes {CELL} instructions in all, {CELL} for `onfi_next` and {CELL} for", of.phase_by_phase)
@@ -310,6 +310,8 @@ def now_in(figure: Figure, text: str) -> Iterator[Tuple[int, int, str]]:
         raise ValueError(f"{figure.page} has no place of the form {figure.place}")
     groups = [at for at in range(1, len(found.groups()) + 1) if found[at]]
     now = figure.now()
+    if len(now) == len(found.groups()):
+        now = [now[at - 1] for at in groups]
     if len(now) != len(groups):
         raise ValueError(f"{figure.page}: {len(groups)} figures for {now} at {found[0]}")
     for at, value in zip(groups, now):
