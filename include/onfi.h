@@ -20,8 +20,8 @@
  *
  * Processors: any x86-64 and any 64-bit Arm.
  *
- * Stack: below its caller a call takes at most so much, as measured on these two and on a 32-bit Arm, of certificates as deep as they
- * can be:
+ * Stack: below its caller a call takes at most so much, as measured on these two, also of a certificate as deep as it can be; on a
+ * 32-bit Arm an eighth more:
  *
  *     468,000 bytes: onfi_text_check_known
  *     443,000 bytes: onfi_check_known, onfi_check_within, onfi_check_within_by

@@ -42,18 +42,18 @@ class Stacks(unittest.TestCase):
             self.assertEqual(sorted(found), sorted(stacks.calls_of(HEADER)), name)
 
     def test_no_call_takes_more_than_the_header_says(self) -> None:
+        """And no more than an eighth more on other processors."""
         self.assertIn("x86-64", self.found)
         for name, found in self.found.items():
             for row in ROWS:
                 for call in row.calls:
-                    self.assertLessEqual(found[call], row.most, (name, call))
+                    self.assertLessEqual(found[call], row.most * (1 if name in stacks.PROVED else stacks.OTHERS), (name, call))
 
     def test_less_by_a_tenth_would_be_too_little(self) -> None:
-        """Of each row some call takes more than nine tenths, on one of the processors that the library is proved for."""
-        if "64-bit Arm" not in self.found:
-            return
-        for row in ROWS:
-            self.assertGreater(stacks.most_of(row.calls, [*self.found.values()]), row.most * 9 // 10, row.calls)
+        """Of each row some call takes more than nine tenths, on one of the processors that the header speaks of."""
+        if {*stacks.PROVED} <= {*self.found}:
+            for row in ROWS:
+                self.assertGreater(stacks.most_of(row.calls, [self.found[name] for name in stacks.PROVED]), row.most * 9 // 10, row.calls)
 
     def test_a_stack_as_the_header_says_plans_checks_and_drives(self) -> None:
         """All calls are made on it; on the deepest that a call took less a kilobyte they end at memory that isn't there."""

@@ -140,6 +140,7 @@ class Pages(unittest.TestCase):
         self.assertEqual(found, (1, "page:1: '1,000' is '1,010' now\n"))
         self.assertEqual(self.looked(r"\| within " + 3 * r"\| *([\d,]*) *" + r"\|", "20", None), (0, ""))
         self.assertEqual(self.looked(r"\| within " + 3 * r"\| *([\d,]*) *" + r"\|", "21", "9"), (2, "page:3: '3,456' is '9' now\npage:3: '20' is '21' now\n"))
+        self.assertEqual(self.looked(r"\| within " + 3 * r"\| *([\d,]*) *" + r"\|", "21", "5", "9"), (0, ""))
         self.assertEqual(self.looked(r"prints:\n\n((?:    [^\n]*\n?)*)\n\n", "    one 1\n    three 3"), (1, "page:7: 'two 2' is 'three 3' now\n"))
         self.assertEqual(self.page.read_text(), "A plan takes 1,010 us, 95 of 100.\n\n| within | 21 | | 9 |\n\nIt prints:\n\n    one 1\n    three 3\n\nNo more.\n")
         for near in ("1,010", "1,011"):

@@ -203,11 +203,8 @@ class Measured:
         return [thousands(it) for it in (whole_plans.a_node(plain), whole_plans.a_node(known), whole_plans.a_token(plain), whole_plans.a_token(known))]
 
     def stack_of(self, calls: Sequence[str]) -> List[str]:
-        """What the header says that these calls take, by what is measured on each processor here."""
-        found = [self.stacks(name) for name in stacks.MACHINES if not stacks.lacks(stacks.MACHINES[name], self.libraries)]
-        if len(found) < 2:
-            raise Lacking("the stacks of one processor alone are no bound for others")
-        return [thousands(stacks.enough_for(stacks.most_of(calls, found)))]
+        """What the header says that these calls take, by what is measured on each processor that it speaks of."""
+        return [thousands(stacks.enough_for(stacks.most_of(calls, [self.stacks(name) for name in stacks.PROVED])))]
 
     @functools.lru_cache(maxsize=None)
     def stacks(self, name: str) -> Dict[str, int]:
@@ -258,7 +255,7 @@ def example_figures(of: Measured) -> Iterator[Figure]:
 
 
 def embedded_figures(of: Measured) -> Iterator[Figure]:
-    page, sizes = "docs/EMBEDDED.md", r"[^|]*" + 6 * rf"\| {CELL} " + r"\|"
+    page, sizes = "docs/EMBEDDED.md", r"[^|]*" + 6 * rf"\|(?: {CELL})? " + r"\|"
     yield Figure(page, r"structs, " + ", ".join(rf"{name} {CELL}(?: bytes)?" for name in STRUCTS), of.structs, 0)
     yield Figure(page, rf"a turn goes {CELL} KB deep", of.phases_stack)
     yield Figure(page, rf"a request takes {CELL} instructions in all, {CELL} for `onfi_next` and {CELL} for", of.phase_by_phase)
@@ -313,6 +310,8 @@ def now_in(figure: Figure, text: str) -> Iterator[Tuple[int, int, str]]:
         raise ValueError(f"{figure.page} has no place of the form {figure.place}")
     groups = [at for at in range(1, len(found.groups()) + 1) if found[at]]
     now = figure.now()
+    if len(now) == len(found.groups()):
+        now = [now[at - 1] for at in groups]
     if len(now) != len(groups):
         raise ValueError(f"{figure.page}: {len(groups)} figures for {now} at {found[0]}")
     for at, value in zip(groups, now):
