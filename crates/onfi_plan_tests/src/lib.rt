@@ -12,6 +12,8 @@ mod cert;
 #[cfg(test)]
 mod cross;
 #[cfg(test)]
+mod dispatching;
+#[cfg(test)]
 mod early;
 #[cfg(test)]
 mod gap;
