@@ -6,6 +6,8 @@
 #[cfg(test)]
 mod bound;
 #[cfg(test)]
+mod dispatching;
+#[cfg(test)]
 mod gap;
 #[cfg(test)]
 mod group;

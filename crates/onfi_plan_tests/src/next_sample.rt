@@ -69,7 +69,7 @@ pub(crate) fn made_again(waiting: &Waiting, newest: Option<u64>) -> Waiting {
     Waiting::of(*waiting.rules(), list, newest)
 }
 
-fn numbers(members: &[Want]) -> [u64; 4] {
+pub(crate) fn numbers(members: &[Want]) -> [u64; 4] {
     let mut ids = [99; 4];
     for (id, member) in ids.iter_mut().zip(members) {
         *id = member.id;
