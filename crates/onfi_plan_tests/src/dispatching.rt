@@ -119,7 +119,7 @@ fn run(alloc: Global, timing: &Timing, channel: &mut Channel, phase: &NextPhase,
     channel.luns[lun] = after(timing, group, number, ended);
 }
 
-// Both are told of up to three drawn requests.
+// Both are given up to three drawn requests.
 fn accept_some(
     dispatcher: &mut Dispatcher,
     waiting: &mut Waiting,
