@@ -15,7 +15,8 @@
 # make install-program  the program with its manual page alone
 # make install-library  the libraries with their header alone
 # make uninstall        removes from PREFIX and LIBDIR what these put there, and shared libraries of other versions
-# make object TARGET=P  the library for riscv64, riscv32, armv7 or thumbv7em as lib/P/libonfi.a: tried, and not proved for
+# make object TARGET=P  the library for riscv64, riscv32, armv7, thumbv7em (Cortex-M7), cortex-m33, cortex-r5 or cortex-r8 as
+#                       lib/P/libonfi.a: tried, and not proved for
 # make test             the whole gate: every proof, test, case and wrong body
 # make wrong-bodies     those of all crates; tools/wrong-bodies CRATE tries those of one
 # make clean            removes what was built, and keeps what was proved; make clean-proofs removes that too
@@ -143,7 +144,7 @@ try-test:
 object:
 	@$(kit)$(MAKE) --no-print-directory -j$(LANES) TARGET= lib/libonfi.a
 	@tools/keep-module onfi_c crates/onfi_c/out/kept
-	@tools/retarget crates/onfi_c/out/kept/module.bc $(or $(TARGET),$(error make object asks for TARGET=riscv64, riscv32, armv7 or thumbv7em)) lib/$(TARGET)
+	@tools/retarget crates/onfi_c/out/kept/module.bc $(or $(TARGET),$(error make object asks for TARGET=riscv64, riscv32, armv7, thumbv7em, cortex-m33, cortex-r5 or cortex-r8)) lib/$(TARGET)
 
 test:
 	$(kit)tools/gate

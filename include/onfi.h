@@ -26,16 +26,19 @@
  *     468,000 bytes: onfi_text_check_known
  *     443,000 bytes: onfi_check_known, onfi_check_within, onfi_check_within_by
  *     214,000 bytes: onfi_plan_early, onfi_plan_early_by
- *     153,000 bytes: onfi_text_plan_known, onfi_text_trace, onfi_plan_within, onfi_plan_within_by
+ *     175,000 bytes: onfi_text_plan_known, onfi_text_trace, onfi_plan_within, onfi_plan_within_by
  *     133,000 bytes: onfi_text_plan, onfi_text_check
- *     112,000 bytes: onfi_plan_known
+ *     134,000 bytes: onfi_plan_known
  *     92,000 bytes: onfi_plan, onfi_check
- *     74,000 bytes: onfi_text_audit, onfi_text_legal, onfi_plan_rule, onfi_plan_rule_by
+ *     74,000 bytes: onfi_text_audit, onfi_text_legal
+ *     132,000 bytes: onfi_plan_rule, onfi_plan_rule_by
+ *     110,000 bytes: onfi_dispatcher_begin
  *     48,000 bytes: onfi_timing_of_page, onfi_timing_of_strobes, onfi_lengths_of_page
- *     23,000 bytes: onfi_breach, onfi_breach_by, onfi_next, onfi_queue_ran, onfi_audit_phase, onfi_audit_ready
+ *     23,000 bytes: onfi_breach, onfi_breach_by, onfi_audit_phase, onfi_audit_ready
  *     11,400 bytes: onfi_ran, onfi_ran_by, onfi_audit_begin, onfi_audit_begin_by
- *     5,600 bytes: onfi_due, onfi_due_by, onfi_choose, onfi_choose_by, onfi_choose_whole
- *     150 bytes: onfi_queue_begin, onfi_queue_accept, onfi_output_of, onfi_row, onfi_status_text, onfi_version
+ *     6,900 bytes: onfi_due, onfi_due_by, onfi_dispatcher_accept, onfi_dispatcher_accept_again, onfi_dispatcher_cancel,
+ *         onfi_dispatcher_ran
+ *     770 bytes: onfi_dispatcher_next, onfi_dispatcher_ready, onfi_output_of, onfi_row, onfi_status_text, onfi_version
  *
  * The shared library is libonfi.so.MAJOR. Within a MAJOR no call, struct or number changes its meaning or goes, and no call
  * asks its caller for more. What may come or change: further calls and numbers of refusals, the texts of numbers, how many
@@ -60,7 +63,7 @@ extern "C" {
 #define ONFI_VERSION_NUMBER UINT32_C(10000) /* 10,000 times the first number, 100 times the second, and the third */
 
 /* The greatest counts. */
-enum { ONFI_LUNS = 8, ONFI_WANTS = 8, ONFI_MEMBERS = 4, ONFI_STARTS = 8, ONFI_WAITERS = 64, ONFI_SECTORS = 7 };
+enum { ONFI_LUNS = 8, ONFI_WANTS = 8, ONFI_MEMBERS = 4, ONFI_STARTS = 8, ONFI_WAITERS = 64, ONFI_SECTORS = 7, ONFI_DISPATCHER_WORDS = 2048 };
 
 /* The most nodes that a search may open. */
 #define ONFI_NODES UINT32_C(1048576)
@@ -80,21 +83,21 @@ enum onfi_status {
     ONFI_BAD_KIND = 13, /* The kind of a want is above 2. */
     ONFI_BAD_MEMBERS = 14, /* A running group has more than 4 members. */
     /* problems */
-    ONFI_TOO_MANY = 20, /* More than eight wants, no LUN, or more than eight. */
+    ONFI_TOO_MANY = 20, /* More than eight wants, no LUN, or more than eight; or 64 requests wait for the LUN. */
     ONFI_BAD_LUN = 21, /* A want or a running group that the LUNs can't have, an erase of another page than 0, or ids of wants that are equal or don't rise. */
     ONFI_CLOCK = 22, /* Times that reach 2^62 ns. */
     ONFI_BAD_PLACE = 23, /* A LUN, block or page that the device doesn't have. */
     ONFI_BAD_GEOMETRY = 24, /* A geometry that no parameter page gives. */
-    ONFI_BAD_CHOICE = 25, /* The choice of a batch is above 2. */
-    ONFI_BAD_BATCH = 26, /* A batch of no request, or of more than eight. */
-    ONFI_BAD_ORDER = 27, /* Numbers of requests are equal or don't rise, or reach the count of all that were accepted. */
+    ONFI_BAD_ORDER = 27, /* The number of a request isn't above that of the last one that waits for its LUN, or one of that number waits. */
     ONFI_NO_LENGTHS = 28, /* A read of so many sectors without a post of as many, or sectors of what is no read. */
     ONFI_BAD_SECTORS = 29, /* Sectors of a read that its page doesn't have, or that have no byte. */
     /* schedules */
     ONFI_BAD_SCHEDULE = 30, /* A count of a schedule is out of its range, or a start is 2^63 ns or more. */
-    ONFI_NOTHING_DUE = 31, /* No phase of the schedule is left. */
+    ONFI_NOTHING_DUE = 31, /* No phase is left, or none was given since something changed. */
     ONFI_NOT_DUE = 33, /* The phase isn't the one that is due. */
     ONFI_TOO_SOON = 34, /* The phase started before it may. */
+    ONFI_NOT_WAITING = 35, /* No request of that number waits. */
+    ONFI_BAD_DISPATCHER = 36, /* A dispatcher is none: something else wrote its memory. */
     /* texts of certificates */
     ONFI_BAD_HEADER = 40, /* The header line is none of a certificate. */
     ONFI_BAD_TOKEN = 41, /* No token stands at the place, or so many good ones do and the text doesn't end with one LF after them. */
@@ -150,7 +153,7 @@ enum { ONFI_SCRIPT_REFUSED = 1, ONFI_PLAN_REFUSED = 2 };
 /* Kinds of requests. */
 enum onfi_kind { ONFI_READ = 0, ONFI_PROGRAM = 1, ONFI_ERASE = 2 };
 
-/* The kind of a read that puts out so many sectors of its page, 1 to ONFI_SECTORS; only calls onfi_.._by take it. With 0 it is the onfi_kind. */
+/* The kind of a read that puts out so many sectors of its page, 1 to ONFI_SECTORS; only calls onfi_.._by and onfi_dispatcher_.. take it. With 0 it is the onfi_kind. */
 #define ONFI_KIND(operation, sectors) ((uint8_t)((operation) | (sectors) << 5))
 
 /*
@@ -187,9 +190,6 @@ enum onfi_difference { ONFI_OTHER_KIND = 1, ONFI_OTHER_LUN = 2, ONFI_OTHER_PAGE 
 /* What a phase is to its request: its command, the data output of a read, or the status of a program or an erase. */
 enum onfi_part { ONFI_COMMAND = 0, ONFI_DATA_OUTPUT = 1, ONFI_STATUS_OUTPUT = 2 };
 
-/* How a batch is chosen: the oldest requests; by LUN, the one that comes free soonest first; by LUN, and of each its reads first. */
-enum onfi_choice { ONFI_IN_ORDER = 0, ONFI_BY_LUN = 1, ONFI_READS_FIRST = 2 };
-
 /* How long the phases of a kind take, in ns. */
 typedef struct onfi_spans {
     uint64_t cmd;   /* a command with its address and data; at least 1 */
@@ -204,7 +204,7 @@ typedef struct onfi_timing {
     onfi_spans erase;
 } onfi_timing;
 
-/* How long an output of some sectors of a page holds the bus; all else is as for other reads. For calls onfi_.._by. */
+/* How long an output of some sectors of a page holds the bus; all else is as for other reads. For calls onfi_.._by and onfi_dispatcher_begin. */
 typedef struct onfi_lengths {
     uint64_t sectors[ONFI_SECTORS]; /* the post of a read of 1 to 7 sectors, in ns, below 2^50; 0 where none is stated */
 } onfi_lengths;
@@ -226,7 +226,7 @@ typedef struct onfi_channel {
 /* A request. Its plane is the one that the low bits of its block name. */
 typedef struct onfi_want {
     uint64_t id;    /* a number of the caller's; each want of a list has a greater one than that before it */
-    uint8_t kind;   /* an onfi_kind; for calls onfi_.._by also an ONFI_KIND */
+    uint8_t kind;   /* an onfi_kind; for calls onfi_.._by and onfi_dispatcher_.. also an ONFI_KIND */
     uint8_t lun;    /* from 0 */
     uint16_t block; /* from 0 */
     uint16_t page;  /* from 0; an erase names page 0 */
@@ -394,7 +394,7 @@ typedef struct onfi_phase {
     uint16_t block;
     uint16_t page;
     uint8_t lun;
-    uint8_t kind;       /* an onfi_kind; by onfi_due_by that of the want */
+    uint8_t kind;       /* an onfi_kind; by onfi_due_by and onfi_dispatcher_next that of the want */
     uint8_t number;     /* its number in its group: commands are 0 .., posts follow */
     uint8_t members;    /* how many requests its group has */
     uint8_t opener;     /* the first command byte (ONFI 4.2): 00h, 80h, 60h; of a data output 06h, of a status 78h */
@@ -409,22 +409,14 @@ typedef struct onfi_output {
     uint16_t bytes;  /* how many bytes the host takes; 0 where it takes no byte of a page */
 } onfi_output;
 
-/* A request that waits in a queue, and how many groups with a later request began on its LUN since it was accepted. */
-typedef struct onfi_waiter {
-    onfi_want want;
-    uint16_t passed;
-} onfi_waiter;
-
 /*
- * What waits on a channel that plans no batch: the caller's memory, which the four calls for it read and write. Whatever it has, no
- * call goes wrong: they do what it says.
+ * What is kept of a channel that goes phase by phase: 16 KiB of the caller's memory, which the calls onfi_dispatcher_.. alone write, and
+ * which nothing need clear before onfi_dispatcher_begin. It may be copied between two calls. Who writes it otherwise is answered as if
+ * the channel were another, or ONFI_BAD_DISPATCHER; no call reads or writes past it.
  */
-typedef struct onfi_queue {
-    uint64_t newest;    /* the id of the newest accepted program, whether it waits or not */
-    uint8_t count;      /* how many wait */
-    uint8_t has_newest; /* 0 where no program was accepted */
-    onfi_waiter waiter[ONFI_WAITERS]; /* in the order in which they were accepted; what is past the count means nothing */
-} onfi_queue;
+typedef struct onfi_dispatcher {
+    uint64_t kept[ONFI_DISPATCHER_WORDS];
+} onfi_dispatcher;
 
 /*
  * The ONFI_VERSION_NUMBER of the library. A program whose header has a greater one may use calls that the library doesn't
@@ -540,49 +532,6 @@ uint32_t onfi_breach(const onfi_channel *channel, const onfi_lun *luns, size_t l
                      const onfi_schedule *schedule, onfi_broken *broken);
 
 /*
- * Chooses a batch of at most `batch` requests, 1 to 8, of the want_count that wait, which may be more than eight: chosen[0 ..
- * *chosen_count - 1] are their places in the list of wants, rising. The list is in acceptance order, each id is the place of
- * acceptance, and `accepted` counts all that were accepted: those that are missing after a want started before it.
- *
- * Proved: ONFI_IN_ORDER takes the oldest. By each choice the later of two requests on one block is chosen only with the earlier;
- * the batch is full, or all are chosen; and once 64 later ones started before the oldest, it is chosen.
- *
- * Shown by tests alone: which requests the other two choices take beside that. LUNs give in turn, the one that comes free soonest
- * first, of equals the lower number, each its oldest request that may be taken, or by ONFI_READS_FIRST its oldest read, else
- * program, else erase, with those that can join its group; round and round until the batch is full.
- *
- * ONFI_DONE; else nothing is given, and the answer is the first of: ONFI_ZERO_SPAN or ONFI_LONG_SPAN of reads, programs, erases;
- * ONFI_BAD_PLANE_BITS; ONFI_BAD_MEMBERS; ONFI_BAD_KIND; ONFI_BAD_CHOICE; ONFI_BAD_BATCH; ONFI_BAD_ORDER; ONFI_MEMORY.
- */
-uint32_t onfi_choose(const onfi_channel *channel, const onfi_lun *luns, size_t lun_count, const onfi_want *wants, size_t want_count,
-                     uint64_t accepted, uint8_t choice, uint8_t batch, size_t chosen[ONFI_WANTS], size_t *chosen_count);
-
-/*
- * Chooses a batch by whole groups, as onfi_next begins them: at most `batch` requests, 1 to 8, of the want_count that wait;
- * chosen[0 .. *chosen_count - 1] are their places in the list of wants, rising. The list is in acceptance order, and the ids rise.
- * passed[at] counts how many groups with a later request began on the LUN of wants[at] since it was accepted: whoever begins a
- * group adds one to each request of its LUN that waits and was accepted before one of its members. Of wants past the last of the
- * passed_count counts it is 0. `newest` is the id of the newest accepted program, whether it waits or not, where has_newest is true.
- *
- * A program whose group lacks its last plane waits for its mates while the group holds the newest program and a LUN has work. So
- * the batch may have room left.
- *
- * Proved: of two requests on one block the later is chosen only with the earlier. Of a LUN the oldest request that is due and may
- * begin is chosen, but where the batch is full of such: one is due once 128 groups with a later request began on its LUN, an erase
- * once 512 did. The batch is full, or what may begin and isn't chosen is a program whose LUN holds it back as above. Where nothing
- * runs on any LUN and something waits, something is chosen.
- *
- * Shown by tests alone: which requests are taken beside that. LUNs give in turn, the one that comes free soonest first, each its
- * oldest read, else program, else erase, with those that can join its group; round and round until the batch is full.
- *
- * ONFI_DONE; else nothing is given, and the answer is the first of: ONFI_ZERO_SPAN or ONFI_LONG_SPAN of reads, programs, erases;
- * ONFI_BAD_PLANE_BITS; ONFI_BAD_MEMBERS; ONFI_BAD_KIND; ONFI_BAD_BATCH; ONFI_BAD_ORDER, also where an id is UINT64_MAX; ONFI_MEMORY.
- */
-uint32_t onfi_choose_whole(const onfi_channel *channel, const onfi_lun *luns, size_t lun_count, const onfi_want *wants, size_t want_count,
-                           const uint16_t *passed, size_t passed_count, bool has_newest, uint64_t newest, uint8_t batch,
-                           size_t chosen[ONFI_WANTS], size_t *chosen_count);
-
-/*
  * Gives the phase that is due: the undone one of least start, with its address and its command bytes. `schedule` is what is
  * left of a plan of these LUNs and wants, or any other legal schedule of them. Of the schedule only this phase is looked at:
  * that the bus is free and its LUN ready by then, and that a new group may start. So of a schedule that isn't legal a phase may
@@ -616,55 +565,88 @@ uint32_t onfi_ran(onfi_channel *channel, onfi_lun *luns, size_t lun_count, onfi_
                   onfi_schedule *schedule, uint8_t lun, uint8_t number, uint64_t started);
 
 /*
- * A channel without batches: onfi_next gives one phase after another, of what each LUN goes on with and of all that waits in the
- * caller's queue. No memory is asked for.
+ * A channel that goes phase by phase, without batches and plans: a dispatcher takes requests as they come, and gives one phase after
+ * another, of what each LUN goes on with and of all that waits. It keeps its books from call to call. No memory is asked for.
  *
- *     onfi_queue_begin(&queue);
+ *     status = onfi_dispatcher_begin(&dispatcher, &lengths, &channel, luns, lun_count, &geometry);
  *     for (;;) {
- *         .. onfi_queue_accept(&queue, &want) each request that has come ..
- *         status = onfi_next(&channel, luns, lun_count, &queue, &geometry, now, &phase);
- *         .. ONFI_NOTHING_DUE: wait for a request; phase.start > now: wait until then; else run it on the bus from `started` on ..
- *         status = onfi_queue_ran(&channel, luns, lun_count, &queue, now, phase.lun, phase.number, started);
+ *         .. onfi_dispatcher_accept(&dispatcher, &want) each request that has come; one that is refused changes nothing ..
+ *         status = onfi_dispatcher_next(&dispatcher, now, &phase);
+ *         .. ONFI_NOTHING_DUE: wait for a request; phase.start > now: wait until then, or for a request, and ask again ..
+ *         .. else run it on the bus from `started` on ..
+ *         status = onfi_dispatcher_ran(&dispatcher, started);
  *     }
- */
-
-/* Has a queue keep nothing: no request waits, and no program was accepted. ONFI_DONE. */
-uint32_t onfi_queue_begin(onfi_queue *queue);
-
-/*
- * Takes a request into a queue, after the others. Its id is above that of each one that waits.
  *
- * ONFI_DONE; else all is as it was, and the answer is the first of: ONFI_TOO_MANY, where ONFI_WAITERS wait; ONFI_BAD_KIND; ONFI_BAD_LUN,
- * where its LUN is above 7, or it erases another page than 0; ONFI_BAD_ORDER, where its id isn't above that of the newest that waits.
+ * Each of these calls answers ONFI_BAD_DISPATCHER before all else where it sees that something else wrote the dispatcher's memory.
  */
-uint32_t onfi_queue_accept(onfi_queue *queue, const onfi_want *want);
 
 /*
- * Gives the phase that is next where it is `now`, with its address and its command bytes. A LUN that runs a group goes on with it.
- * Another one begins the oldest of its requests that is due, else its oldest read, else program, else erase, with the mates that may
- * join it; a request is due once 128 groups with a later one began on its LUN, an erase once 512 did. Programs that lack their last
- * plane wait for mates while they have the newest accepted program and a LUN has work. Of these phases the one goes that may start
+ * Has a dispatcher begin with a channel, what its LUNs do, the lengths of reads of some sectors, and the device, as they are said:
+ * nothing waits. All of them are looked at here, and by no later call. Where no read puts out sectors, *lengths is all 0.
+ *
+ * ONFI_DONE; else *dispatcher is as it was, and the answer is the first of: the channel's faults as by onfi_audit_begin_by, of which
+ * ONFI_BAD_LUN is that of a running group with a member of another LUN; ONFI_BAD_GEOMETRY; ONFI_BAD_PLACE, where the device lacks a
+ * page of what a LUN runs.
+ */
+uint32_t onfi_dispatcher_begin(onfi_dispatcher *dispatcher, const onfi_lengths *lengths, const onfi_channel *channel, const onfi_lun *luns,
+                               size_t lun_count, const onfi_geometry *geometry);
+
+/*
+ * Takes a request in, after the others that wait for its LUN. Its id is one that none had before, its kind an onfi_kind or an ONFI_KIND.
+ *
+ * ONFI_DONE; else all is as it was, and the answer is the first of: ONFI_BAD_KIND, where the five low bits of its kind are above 2;
+ * ONFI_BAD_PLACE, where the device has no such LUN, block or page; ONFI_BAD_LUN, where it erases another page than 0; ONFI_NO_LENGTHS,
+ * where it puts out so many sectors that no length is stated of them, or is a program or an erase with sectors; ONFI_BAD_LUN, where
+ * the channel began with fewer LUNs; ONFI_TOO_MANY, where ONFI_WAITERS wait for its LUN; ONFI_BAD_ORDER, where its id isn't above that
+ * of the last of these.
+ */
+uint32_t onfi_dispatcher_accept(onfi_dispatcher *dispatcher, const onfi_want *want);
+
+/*
+ * Takes in a request that began and has to run once more, as after a read that is tried again or a reset: before all that waits for its
+ * LUN. It may have the id that it had.
+ *
+ * The same is answered, but for the last: ONFI_BAD_ORDER, where a request of its id waits for its LUN.
+ */
+uint32_t onfi_dispatcher_accept_again(onfi_dispatcher *dispatcher, const onfi_want *want);
+
+/*
+ * Has the request of that id wait no more: of the lowest LUN for which one does. What began goes on.
+ *
+ * ONFI_DONE; else all is as it was, and the answer is ONFI_NOT_WAITING, where none of that id waits.
+ */
+uint32_t onfi_dispatcher_cancel(onfi_dispatcher *dispatcher, uint64_t id);
+
+/*
+ * Gives the phase that is next where it is `now`, with its address and its command bytes; its kind is that of its request, an onfi_kind
+ * or an ONFI_KIND, as onfi_output_of takes it. It is due until the next call that changes something. A LUN that runs a group goes on
+ * with it. Another one begins the oldest of its requests that is due, else its oldest read, else program, else erase, with the mates
+ * that may join it; a request is due once 128 groups with a later one began on its LUN, an erase once 512 did. Programs that lack their
+ * last plane wait for mates while they have the newest accepted program and a LUN has work. Of these phases the one goes that may start
  * soonest; crates/onfi_steady has the rest. It starts as soon as the bus is free, its LUN is ready and it is `now`.
  *
- * ONFI_DONE; else nothing is given, and the answer is the first of: ONFI_ZERO_SPAN or ONFI_LONG_SPAN of reads, programs, erases;
- * ONFI_BAD_PLANE_BITS; ONFI_BAD_MEMBERS; ONFI_BAD_KIND of a member of a running group; ONFI_TOO_MANY, where there are more than
- * eight LUNs, or the count of the queue is above ONFI_WAITERS; then, where nothing runs and nothing waits for a LUN that is there,
- * ONFI_BAD_GEOMETRY or ONFI_NOTHING_DUE; else ONFI_CLOCK, where the phase would start at 2^62 ns or later; ONFI_BAD_LUN, where
- * the LUN that goes on has no phase left; ONFI_BAD_GEOMETRY; ONFI_BAD_PLACE. A kind above 2 in the queue is an erase.
+ * ONFI_DONE; else no phase is given and none is due, and the answer is: ONFI_NOTHING_DUE, where nothing runs and nothing waits; or
+ * ONFI_CLOCK, where the phase would start at 2^62 ns or later.
  */
-uint32_t onfi_next(const onfi_channel *channel, const onfi_lun *luns, size_t lun_count, const onfi_queue *queue, const onfi_geometry *geometry,
-                   uint64_t now, onfi_phase *phase);
+uint32_t onfi_dispatcher_next(onfi_dispatcher *dispatcher, uint64_t now, onfi_phase *phase);
 
 /*
- * Makes of all that is said what stands after the phase that is next, once it ran from `started` on, in ns, at or after its start:
- * the bus is free from its end, its LUN goes on or is free, and a group that began waits no more; it passed over what waits for its
- * LUN and was accepted before one of it. `now`, `lun` and `number` are what onfi_next was given and gave.
+ * Says that the phase that is due ran from `started` on, in ns, at or after its start: the bus is free from its end, its LUN goes on or
+ * is free, and a group that began waits no more; it passed over what waits for its LUN and was accepted before one of it.
  *
- * ONFI_DONE; else all is as it was, and the answer is the first of: what onfi_next answers, but for the device's; ONFI_NOT_DUE, where
- * another phase is next; ONFI_TOO_SOON, where `started` is before its start; ONFI_CLOCK, where it is 2^62 ns or later.
+ * ONFI_DONE; else all is as it was, and the answer is the first of: ONFI_NOTHING_DUE, where no phase was given since something changed;
+ * ONFI_TOO_SOON, where `started` is before its start; ONFI_CLOCK, where it is 2^62 ns or later.
  */
-uint32_t onfi_queue_ran(onfi_channel *channel, onfi_lun *luns, size_t lun_count, onfi_queue *queue, uint64_t now, uint8_t lun, uint8_t number,
-                        uint64_t started);
+uint32_t onfi_dispatcher_ran(onfi_dispatcher *dispatcher, uint64_t started);
+
+/*
+ * Says that the array of a LUN was done at that moment, in ns, as its status said: the first post of its group may start from then on,
+ * or as before where that is sooner.
+ *
+ * ONFI_DONE; else all is as it was, and the answer is the first of: ONFI_BAD_LUN, where the channel has no such LUN; ONFI_NOT_DUE,
+ * where its next phase isn't the first post of a group.
+ */
+uint32_t onfi_dispatcher_ready(onfi_dispatcher *dispatcher, uint8_t lun, uint64_t moment);
 
 /*
  * Logs: whether each phase that a channel had was legal after those before it, one at a time and of any number. What a log has left stands
@@ -682,7 +664,7 @@ uint32_t onfi_audit_begin(const onfi_channel *channel, const onfi_lun *luns, siz
 
 /*
  * Judges the next phase of a log. Of the phase start, lun, kind, block, page and is_post are looked at, and nothing else: it may be one of
- * onfi_due or onfi_next with the start that it really had. A command on a LUN that is free, or that has had commands alone since it was,
+ * onfi_due or onfi_dispatcher_next with the start that it really had. A command on a LUN that is free, or that has had commands alone since it was,
  * begins a request of its own; commands that follow each other on a LUN without a post between are one group. In which order requests of
  * one block were asked for isn't known here, so it isn't looked at.
  *
@@ -713,8 +695,7 @@ uint32_t onfi_audit_ready(onfi_audit *audit, uint8_t lun, uint64_t moment);
  *
  * What the call without _by answers is answered, and of sectors: ONFI_LONG_SPAN of the lengths of 1 to 7 of them, after those of
  * channel->timing; ONFI_BAD_KIND where the five low bits of a kind are above 2; and after ONFI_BAD_LUN, before ONFI_CLOCK, ONFI_NO_LENGTHS,
- * where a read puts out so many sectors that none is stated of them, or where a program or an erase has sectors. onfi_choose_by looks at
- * no want so closely: it never answers ONFI_NO_LENGTHS, and counts the post of a page where none is stated.
+ * where a read puts out so many sectors that none is stated of them, or where a program or an erase has sectors.
  */
 
 /* As onfi_plan_within. At ONFI_NODES it stands for onfi_plan_known too: the plan is optimal where plan->below is plan->finish. */
@@ -739,10 +720,6 @@ uint32_t onfi_check_within_by(const onfi_lengths *lengths, const onfi_channel *c
 uint32_t onfi_breach_by(const onfi_lengths *lengths, const onfi_channel *channel, const onfi_lun *luns, size_t lun_count, const onfi_want *wants,
                         size_t want_count, const onfi_schedule *schedule, onfi_broken *broken);
 
-/* As onfi_choose. */
-uint32_t onfi_choose_by(const onfi_lengths *lengths, const onfi_channel *channel, const onfi_lun *luns, size_t lun_count, const onfi_want *wants,
-                        size_t want_count, uint64_t accepted, uint8_t choice, uint8_t batch, size_t chosen[ONFI_WANTS], size_t *chosen_count);
-
 /* As onfi_due. */
 uint32_t onfi_due_by(const onfi_lengths *lengths, const onfi_channel *channel, const onfi_lun *luns, size_t lun_count, const onfi_want *wants,
                      size_t want_count, const onfi_geometry *geometry, const onfi_schedule *schedule, onfi_phase *phase);
@@ -756,7 +733,7 @@ uint32_t onfi_audit_begin_by(const onfi_lengths *lengths, const onfi_channel *ch
 
 /*
  * The column and the count of bytes of a data output, for its 06h .. E0h (ONFI 4.2, Change Read Column Enhanced): what a phase of
- * onfi_due, onfi_due_by or onfi_next puts out of its page. Of the phase its kind and is_post are looked at, and nothing else. No memory
+ * onfi_due, onfi_due_by or onfi_dispatcher_next puts out of its page. Of the phase its kind and is_post are looked at, and nothing else. No memory
  * is asked for.
  *
  * The post of a read puts out all of its page, data bytes and spare bytes from column 0 on, where its kind names no sectors. Where it

@@ -36,20 +36,16 @@ struct onfi_bus {
 
 enum { QUEUE = 256 + ONFI_MEMBERS }; /* how many wait in its own list at most */
 
-enum { ONE_KIND = 255 }; /* a choice of the driver's own, beside those of the library */
-
 enum { EARLY, WITHIN, RULE }; /* planners: requests end early; what ends first; by a rule, without a search */
 
 /* What the caller keeps of a request, by its number. */
 typedef struct {
-    uint8_t kind;  /* an onfi_kind, or the ONFI_KIND of a read of some sectors */
-    uint8_t first; /* the first of them */
+    uint8_t first; /* of the sectors that a read wants */
     uint8_t *data; /* of a program, all bytes of its page; of a read, room for what it puts out */
 } transfer;
 
 /* How it plans, where it does. */
 typedef struct {
-    uint8_t choice; /* an onfi_choice, or ONE_KIND */
     uint8_t planner;
     bool by_age;    /* the older a request, the more it counts */
     uint8_t reads;  /* how many times as much a read counts then */
@@ -61,27 +57,27 @@ typedef struct {
 typedef struct {
     const struct onfi_bus *bus;
     onfi_geometry geometry;
-    onfi_channel channel; /* the post of reads: by plans that of a page, else the least that one may have */
+    onfi_channel channel;
+    onfi_lengths lengths; /* the posts of reads of some sectors */
+    uint16_t sector_bytes;
     size_t luns;
     onfi_lun lun[ONFI_LUNS];
-    uint8_t status;    /* the last status byte */
-    uint16_t sector_bytes;
-    uint32_t refused;  /* the status of a call that refused; ONFI_DONE: none did */
-    uint64_t accepted; /* how many so far: a request's number is its place among them */
+    uint8_t status;   /* the last status byte */
+    uint32_t refused; /* the status of a call that refused; ONFI_DONE: none did */
+
+    /* of firmware.c: this and what stands above is all that it takes */
+    onfi_dispatcher dispatcher; /* the library's: what waits, and what runs */
+
+    /* of plans, and of the greedy way */
     size_t queued;
-    onfi_want queue[QUEUE];  /* what waits, in order of acceptance; of the pattern, what has found no room in the library's queue */
+    onfi_want queue[QUEUE];  /* what waits, in order of acceptance */
     uint64_t arrived[QUEUE]; /* when it came */
 
-    /* of firmware.c: these and those above but `arrived` are all that it takes */
-    onfi_queue waiting; /* the library's: what waits */
-    uint64_t asked;     /* when it was asked last which phase is next */
-
     /* of plans */
-    onfi_lengths lengths; /* the posts of reads of some sectors */
     planning plans;
     uint64_t member_arrived[ONFI_LUNS][ONFI_MEMBERS]; /* when the members of running groups came */
     size_t batched;
-    onfi_want batch[ONFI_WANTS]; /* what of the queue is planned */
+    onfi_want batch[ONFI_WANTS]; /* what of the queue is planned: its first ones */
     bool has_plan;
     bool has_news;          /* a LUN has reported that it is ready since the plan was made */
     onfi_schedule schedule; /* what is left of the plan */
@@ -91,29 +87,32 @@ typedef struct {
     onfi_lun goes_on; /* the LUN that it lets go on, with its group */
 } driver;
 
-/* A request has come, at that time; no more than QUEUE wait. Its kind is an onfi_kind, by plans also an ONFI_KIND. Gives it with its number. */
-onfi_want driver_accept(driver *d, onfi_want want, uint64_t arrived);
+/* Begins with nothing to do, of the channel above; false where the call refused. */
+bool driver_begin(driver *d);
+/* A request has come, with a number above those before it. A status other than ONFI_DONE says why it isn't taken, and nothing else is changed. */
+uint32_t driver_accept(driver *d, const onfi_want *want);
 /* R/B# of a LUN has risen at that time, before the stated one. */
-void driver_ready(driver *d, unsigned number, uint64_t since);
+void driver_ready(driver *d, unsigned lun, uint64_t since);
 /* Which phase is next, and when; false where none is, or a call refused. */
 bool driver_next(driver *d, uint64_t now, onfi_phase *phase);
 /* Has the phase that driver_next gave last on the bus from `start` on, at or after phase->start, for this request. False where a call refused. */
 bool driver_run(driver *d, const onfi_phase *phase, uint64_t start, const transfer *of);
 
-/* The same two by plans of eight. */
+/* The same by plans of eight; of a request that has come, when that was. */
+void plans_accept(driver *d, const onfi_want *want, uint64_t arrived);
+void plans_ready(driver *d, unsigned lun, uint64_t since);
 bool plans_next(driver *d, uint64_t now, onfi_phase *phase);
 bool plans_run(driver *d, const onfi_phase *phase, uint64_t start, const transfer *of);
 
-/* The same two without the library. */
+/* The last two without the library. */
 bool greedy_next(driver *d, uint64_t now, onfi_phase *phase);
 bool greedy_run(driver *d, const onfi_phase *phase, uint64_t start, const transfer *of);
 
 /* What the others have of firmware.c. */
-uint64_t later_of(uint64_t one, uint64_t other);
 bool went_well(driver *d, uint32_t status);
 bool drive(driver *d, const onfi_phase *phase, uint64_t start, const transfer *of, uint64_t *end);
-void note_end(driver *d, unsigned lun, uint64_t end);
 /* What the greedy way has of firmware_plans.c: a group has begun on a LUN, and its members leave the driver's own queue. */
 void note_begin(driver *d, unsigned lun);
+uint64_t later_of(uint64_t one, uint64_t other);
 
 #endif

@@ -24,6 +24,7 @@ typedef struct {
     bool told;                 /* R/B# shows when they are ready */
     bool ends;                 /* when each request ends is printed, in place of figures */
     double late, slow;         /* by how many ns phases start later, and take longer, at most */
+    uint64_t bad;              /* one of so many requests is also asked for on a block that isn't there; 0: none */
     size_t requests;           /* how many are answered before it ends */
     double seconds;            /* where not 0: how much time passes before it ends, in place of requests */
     uint64_t seed;

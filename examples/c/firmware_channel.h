@@ -1,10 +1,8 @@
 /*
- * What the mock of a board and the simulator of examples/simulator/rolling share: devices, requests by a seed, the greedy way, and a
- * choice by the library.
+ * What the mock of a board and the simulator of examples/simulator/rolling share: devices, requests by a seed, and the greedy way.
  *
- *   firmware_host.c    devices, and which requests come, and when
- *   firmware_rule.c    of what can start soonest what ranks first
- *   firmware_choice.c  of each LUN one kind
+ *   firmware_host.c  devices, and which requests come, and when
+ *   firmware_rule.c  of what can start soonest what ranks first
  *
  * Times are ns of the channel's clock.
  */
@@ -110,11 +108,5 @@ bool find_next(const onfi_channel *channel, const onfi_lun *lun, unsigned luns, 
 
 /* Puts the bytes that begin and end a phase (ONFI 4.2) of that kind and number, of so many members. */
 void put_bytes(onfi_phase *phase);
-
-/* The choice. */
-
-/* Chooses requests of one kind for each LUN, of at most MOST_WAITING, by their places; gives a status. */
-uint32_t choose_one_kind(const onfi_lengths *lengths, const onfi_channel *channel, const onfi_lun *lun, size_t luns, const onfi_want *want, size_t count,
-                         size_t chosen[ONFI_WANTS], size_t *chosen_count);
 
 #endif

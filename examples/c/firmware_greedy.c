@@ -34,7 +34,7 @@ static onfi_lun lun_of(const driver *d, const candidate *c)
 static bool put_phase(driver *d, const onfi_lun *lun, uint64_t start, onfi_phase *phase)
 {
     const onfi_want *want = &lun->member[lun->next % lun->members];
-    const onfi_spans *spans = spans_of(&d->channel.timing, want->kind);
+    const onfi_spans *spans = spans_of(&d->channel.timing, operation_of(want->kind));
     memset(phase, 0, sizeof *phase);
     phase->is_post = lun->next >= lun->members;
     phase->start = start;
@@ -68,7 +68,7 @@ bool greedy_run(driver *d, const onfi_phase *phase, uint64_t start, const transf
     if (!drive(d, phase, start, of, &end))
         return false;
     onfi_lun *lun = &d->lun[phase->lun];
-    const onfi_spans *spans = spans_of(&d->channel.timing, phase->kind);
+    const onfi_spans *spans = spans_of(&d->channel.timing, operation_of(phase->kind));
     *lun = d->goes_on;
     if (phase->number == 0)
         note_begin(d, phase->lun);

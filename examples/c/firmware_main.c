@@ -16,11 +16,12 @@
  *   told      yes: R/B# shows when a LUN is ready; no    yes
  *   late      ns by which phases start later at most     0
  *   slow      ns by which they take longer at most       0
+ *   bad       one of so many requests is also asked      0: none is
+ *             for on a block that isn't there; by phases
  *   requests  answered before it ends                    2000
  *   seconds   of simulated time, in place of requests    0: as many as are asked for
  *   seed      of all that is random                      1
  *   way       phases, plans, greedy, both, all           phases; both: plans and greedy
- *   choice    by-lun, in-order, reads-first, one-kind    by-lun
  *   plan      early: requests end early; within: no;     early
  *             rule: without a search
  *   weights   age, equal; reads: by age, 20 times theirs age
@@ -47,19 +48,19 @@ typedef struct {
     const char *name;
     bool (*next)(driver *d, uint64_t now, onfi_phase *phase);
     bool (*run)(driver *d, const onfi_phase *phase, uint64_t start, const transfer *of);
-    bool by_sectors; /* its calls take lengths of sectors; else all reads are pages to it, as long as those of the workload */
 } way;
 
 enum { PHASES, PLANS, GREEDY, WAYS };
 
 static const way WAY_OF[WAYS] = {
-    {"phases", driver_next, driver_run, false}, {"plans", plans_next, plans_run, true}, {"greedy", greedy_next, greedy_run, false},
+    {"phases", driver_next, driver_run}, {"plans", plans_next, plans_run}, {"greedy", greedy_next, greedy_run},
 };
 
 /* A request that the host has sent and that isn't answered. */
 typedef struct {
     onfi_want want;
-    uint8_t kind, first; /* what it asks for, whatever the driver gets */
+    uint8_t first; /* of the sectors that a read wants */
+    bool is_taken; /* whether the driver has it; else it has had no room for it */
     uint64_t arrived;
 } sent;
 
@@ -71,13 +72,15 @@ typedef struct {
 
 typedef struct {
     const simulation *of;
-    way has;
+    const way *has;
+    bool by_dispatcher; /* by the driver of firmware.c */
     driver firmware;
     board mock;
     host sender;
     struct onfi_bus bus;
     uint64_t now;
     uint64_t delays; /* a state of random numbers */
+    uint64_t came; /* how many requests so far: the number of one is its place among them */
     size_t outstanding;
     sent owed[MOST_WAITING]; /* in order of acceptance */
     uint8_t data[PAGE_BYTES + 1]; /* of the request whose phase is on the bus, and one more byte that no page has */
@@ -129,31 +132,63 @@ static void open_run(run *r, const simulation *of, const way *has)
 {
     memset(r, 0, sizeof *r);
     r->of = of;
-    r->has = *has;
+    r->has = has;
+    r->by_dispatcher = has == &WAY_OF[PHASES];
     board_open(&r->mock, of);
     r->bus = board_bus(&r->mock);
     r->firmware.bus = &r->bus;
     r->firmware.plans = of->plans;
     r->firmware.luns = of->luns;
     onfi_channel channel = channel_for(&of->made_of, of->byte, of->workload);
-    r->firmware.channel = has->by_sectors ? channel_of(&of->made_of, of->byte) : channel;
+    r->firmware.channel = has == &WAY_OF[GREEDY] ? channel : channel_of(&of->made_of, of->byte);
     r->firmware.lengths = lengths_of(&of->made_of, of->byte);
     r->firmware.sector_bytes = sector_bytes_of(&of->made_of);
     r->firmware.geometry = board_geometry(of);
     host_open(&r->sender, of->workload, of->luns, &channel, of->load, of->seed);
+    if (r->by_dispatcher && !driver_begin(&r->firmware))
+        r->wrong = "a call refuses the channel";
 }
 
 /* What comes in. */
 
+/* Another host asks for a block that isn't there, by the same number: that is its own mistake, and nothing else changes. */
+static void send_bad(run *r, onfi_want want)
+{
+    want.block = BLOCKS;
+    if (driver_accept(&r->firmware, &want) != ONFI_BAD_PLACE)
+        r->wrong = "a request of a block that isn't there isn't refused";
+}
+
+/* Gives the driver what it hasn't taken: in order, as far as there is room for what waits of a LUN. */
+static void give(run *r, sent *owed)
+{
+    uint32_t status = ONFI_DONE;
+    if (r->by_dispatcher)
+        status = driver_accept(&r->firmware, &owed->want);
+    else
+        plans_accept(&r->firmware, &owed->want, owed->arrived);
+    owed->is_taken = status == ONFI_DONE;
+    if (status != ONFI_DONE && status != ONFI_TOO_MANY)
+        r->wrong = "a request of a page that is there is refused";
+}
+
+static void give_all(run *r)
+{
+    for (size_t at = 0; at < r->outstanding; at++)
+        if (!r->owed[at].is_taken)
+            give(r, &r->owed[at]);
+}
+
 static void accept_next(run *r, uint64_t arrived)
 {
     sent *owed = &r->owed[r->outstanding++];
-    onfi_want want = host_want(&r->sender);
-    owed->kind = want.kind;
-    owed->first = host_first(&r->sender, &want);
-    want.kind = r->has.by_sectors ? want.kind : operation_of(want.kind);
-    owed->want = driver_accept(&r->firmware, want, arrived);
+    owed->want = host_want(&r->sender);
+    owed->first = host_first(&r->sender, &owed->want);
+    owed->want.id = r->came++;
     owed->arrived = arrived;
+    owed->is_taken = false;
+    if (r->by_dispatcher && r->of->bad && r->came % r->of->bad == 0)
+        send_bad(r, owed->want);
 }
 
 static bool has_room(const run *r)
@@ -181,7 +216,7 @@ static void tell_ready(run *r)
 {
     for (unsigned lun = 0; lun < r->of->luns; lun++)
         if (r->mock.lun[lun].rises <= r->now) {
-            driver_ready(&r->firmware, lun, r->mock.lun[lun].rises);
+            (r->by_dispatcher ? driver_ready : plans_ready)(&r->firmware, lun, r->mock.lun[lun].rises);
             r->mock.lun[lun].rises = NEVER;
         }
 }
@@ -203,7 +238,7 @@ static bool is_measured(const run *r)
 
 static void count_answer(run *r, const sent *owed)
 {
-    latencies *of_kind = &r->latency[operation_of(owed->kind)];
+    latencies *of_kind = &r->latency[operation_of(owed->want.kind)];
     uint64_t latency = r->now - owed->arrived;
     r->to = r->now;
     if (!is_measured(r)) {
@@ -233,7 +268,7 @@ static size_t place_of(const run *r, const onfi_phase *phase)
 /* Whether what a read put out are the bytes that its request asked for, and no more. */
 static bool has_its_bytes(const run *r, const sent *owed)
 {
-    unsigned sector = sector_bytes_of(&r->of->made_of), count = owed->kind >> 5, bytes = count ? count * sector : r->mock.page;
+    unsigned sector = sector_bytes_of(&r->of->made_of), count = owed->want.kind >> 5, bytes = count ? count * sector : r->mock.page;
     uint32_t row = row_of(owed->want.lun, owed->want.block, owed->want.page);
     return are_bytes_of_page(r->data, row, owed->first * sector, bytes) && r->data[bytes] == NO_BYTE;
 }
@@ -248,7 +283,7 @@ static const char *take_answer(run *r, const onfi_phase *phase)
     r->answered++;
     count_answer(r, &r->owed[at]);
     if (r->of->ends)
-        printf("%s %" PRIu64 " %" PRIu64 "\n", r->has.name, phase->want, r->now);
+        printf("%s %" PRIu64 " %" PRIu64 "\n", r->has->name, phase->want, r->now);
     r->outstanding--;
     memmove(r->owed + at, r->owed + at + 1, (r->outstanding - at) * sizeof *r->owed);
     return NULL;
@@ -257,12 +292,10 @@ static const char *take_answer(run *r, const onfi_phase *phase)
 /* What is kept of the request of a phase; with its data, where it is a program's. */
 static transfer transfer_of(run *r, const onfi_phase *phase)
 {
-    transfer of = {phase->kind, 0, r->data};
+    transfer of = {0, r->data};
     for (size_t at = 0; at < r->outstanding; at++)
-        if (r->owed[at].want.id == phase->want) {
-            of.kind = r->owed[at].kind;
+        if (r->owed[at].want.id == phase->want)
             of.first = r->owed[at].first;
-        }
     if (phase->kind == ONFI_PROGRAM && !phase->is_post)
         put_bytes_of_page(r->data, row_of(phase->lun, phase->block, phase->page), 0, r->mock.page);
     else
@@ -274,7 +307,7 @@ static void run_phase(run *r, const onfi_phase *phase)
 {
     uint64_t start = later_of(phase->start, r->now) + (uint64_t)(next_share(&r->delays) * r->of->late);
     transfer of = transfer_of(r, phase);
-    bool went = r->has.run(&r->firmware, phase, start, &of);
+    bool went = r->has->run(&r->firmware, phase, start, &of);
     r->now = r->mock.bus_free;
     if (r->mock.wrong)
         r->wrong = r->mock.wrong;
@@ -292,7 +325,7 @@ static bool ask_next(run *r, onfi_phase *phase)
     uint64_t planned = r->firmware.planned;
     stack_paint();
     clock_t begun = clock();
-    bool any = r->has.next(&r->firmware, r->now, phase);
+    bool any = r->has->next(&r->firmware, r->now, phase);
     double seconds = (double)(clock() - begun) / CLOCKS_PER_SEC;
     stack_note();
     if (r->firmware.planned > planned) {
@@ -307,9 +340,12 @@ static void turn(run *r)
 {
     onfi_phase phase;
     (r->of->load > 0 ? accept_open : accept_closed)(r);
+    give_all(r);
     tell_ready(r);
     bool any = ask_next(r, &phase);
     uint64_t event = next_event(r);
+    if (r->wrong)
+        return;
     if (r->firmware.refused)
         r->wrong = "a call refuses what is asked";
     else if (any && phase.start <= event)
@@ -341,7 +377,7 @@ static void print_run(const run *r)
     static const char *const NAMES[KINDS] = {"reads", "programs", "erases"};
     double span = (double)(r->to - r->from), busy = (double)(r->mock.busy - r->busy);
     size_t answered = r->latency[0].answered + r->latency[1].answered + r->latency[2].answered;
-    printf("%s: %.3f requests a second, bus busy %.3f %%, %" PRIu64 " plans\n", r->has.name, (double)answered * 1e9 / span, 100 * busy / span,
+    printf("%s: %.3f requests a second, bus busy %.3f %%, %" PRIu64 " plans\n", r->has->name, (double)answered * 1e9 / span, 100 * busy / span,
            r->firmware.planned);
     for (unsigned kind = 0; kind < KINDS; kind++) {
         const latencies *of_kind = &r->latency[kind];
@@ -367,8 +403,8 @@ static bool run_way(run *r, const simulation *of, const way *has)
 
 /* The words. */
 
-enum { BYTE, LUNS, DEPTH, LOAD, LATE, SLOW, REQUESTS, SECONDS, SEED, LIMIT, SLACK, NUMBERS };
-enum { DEVICE, WORKLOAD, TOLD, WAY, CHOICE, PLAN, WEIGHTS, ENDS, CHOICES };
+enum { BYTE, LUNS, DEPTH, LOAD, LATE, SLOW, BAD, REQUESTS, SECONDS, SEED, LIMIT, SLACK, NUMBERS };
+enum { DEVICE, WORKLOAD, TOLD, WAY, PLAN, WEIGHTS, ENDS, CHOICES };
 
 static const struct {
     const char *name;
@@ -377,7 +413,8 @@ static const struct {
 } NUMBER[NUMBERS] = {
     {"byte", 0.001, 1000, 2, false}, {"luns", 1, ONFI_LUNS, 8, true},     {"depth", 1, MOST_OUTSTANDING, 64, true},
     {"load", 0, 100, 0, false},      {"late", 0, 1e9, 0, false},          {"slow", 0, 1e9, 0, false},
-    {"requests", 1, 1e9, 2000, true}, {"seconds", 0, 1000, 0, false},     {"seed", 1, 1e15, 1, true},
+    {"bad", 0, 1e9, 0, true},        {"requests", 1, 1e9, 2000, true},    {"seconds", 0, 1000, 0, false},
+    {"seed", 1, 1e15, 1, true},
     {"limit", 1, ONFI_NODES, 2000, true}, {"slack", 0, 1000, 20, true},
 };
 
@@ -389,8 +426,7 @@ static const struct {
 } CHOSEN[CHOICES] = {
     {"device", {"tlc", "slc", "qlc"}}, {"workload", {"mixed", "reads", "sequential", "erases", "random-programs", "reads-4k", "mixed-4k"}},
     {"told", {"yes", "no"}},           {"way", {"phases", "plans", "greedy", "both", "all"}},
-    {"choice", {"by-lun", "in-order", "reads-first", "one-kind"}}, {"plan", {"early", "within", "rule"}},
-    {"weights", {"age", "equal", "reads"}}, {"ends", {"no", "yes"}},
+    {"plan", {"early", "within", "rule"}}, {"weights", {"age", "equal", "reads"}}, {"ends", {"no", "yes"}},
 };
 
 /* Which ways a value of `way` names. */
@@ -512,9 +548,8 @@ static void print_words(void)
 
 static planning planning_of(const words *w)
 {
-    static const uint8_t CHOICE_OF[] = {ONFI_BY_LUN, ONFI_IN_ORDER, ONFI_READS_FIRST, ONE_KIND}, PLANNER_OF[] = {EARLY, WITHIN, RULE};
+    static const uint8_t PLANNER_OF[] = {EARLY, WITHIN, RULE};
     planning made;
-    made.choice = CHOICE_OF[w->chosen[CHOICE]];
     made.planner = PLANNER_OF[w->chosen[PLAN]];
     made.by_age = w->chosen[WEIGHTS] != 1;
     made.reads = w->chosen[WEIGHTS] == 2 ? 20 : 1;
@@ -534,6 +569,7 @@ static simulation setup_of(const words *w)
     made.load = w->number[LOAD];
     made.late = w->number[LATE];
     made.slow = w->number[SLOW];
+    made.bad = (uint64_t)w->number[BAD];
     made.least_array = w->least_array;
     made.most_array = w->most_array;
     made.told = w->chosen[TOLD] == 0;

@@ -1,12 +1,35 @@
 /*
- * The same driver by plans of eight, in place of the library's queue: the library chooses of what waits, plans it, says which phase of
- * the plan is due, and what stands after it. It plans anew where a chosen request isn't planned yet, where R/B# rises before the stated
- * time, and after a phase that took longer than is stated. A plan takes memory and far more time than a phase of firmware.c.
+ * The same driver by plans of the first eight that wait, in place of the library's dispatcher: the library plans them, says which phase
+ * of the plan is due, and what stands after it. It plans anew where one of the eight isn't planned yet, where R/B# rises before the
+ * stated time, and after a phase that took longer than is stated. A plan takes memory and far more time than a phase of firmware.c.
  */
 #include "firmware.h"
 #include "firmware_channel.h"
 
 #include <string.h>
+
+uint64_t later_of(uint64_t one, uint64_t other)
+{
+    return one > other ? one : other;
+}
+
+/* A request has come; no more than QUEUE wait. */
+void plans_accept(driver *d, const onfi_want *want, uint64_t arrived)
+{
+    d->queue[d->queued] = *want;
+    d->arrived[d->queued++] = arrived;
+}
+
+/* R/B# of a LUN has risen. Where its array worked it is ready from then on, whatever was stated. */
+void plans_ready(driver *d, unsigned number, uint64_t since)
+{
+    onfi_lun *lun = &d->lun[number];
+    bool is_working = lun->members > 0 && lun->next == lun->members;
+    if (!is_working || since >= lun->since)
+        return;
+    lun->since = since;
+    d->has_news = true;
+}
 
 static bool is_planned(const driver *d, uint64_t id)
 {
@@ -16,32 +39,27 @@ static bool is_planned(const driver *d, uint64_t id)
     return false;
 }
 
-/* Which of the queue a plan from now on takes, by their places. */
-static uint32_t call_choice(const driver *d, uint64_t now, size_t place[ONFI_WANTS], size_t *count)
+/* How many of the queue a plan takes: its first ones. */
+static size_t batch_of(const driver *d)
 {
-    onfi_channel channel = d->channel;
-    channel.bus_free = later_of(channel.bus_free, now);
-    if (d->plans.choice == ONE_KIND)
-        return choose_one_kind(&d->lengths, &channel, d->lun, d->luns, d->queue, d->queued, place, count);
-    return onfi_choose_by(&d->lengths, &channel, d->lun, d->luns, d->queue, d->queued, d->accepted, d->plans.choice, ONFI_WANTS, place, count);
+    return d->queued < ONFI_WANTS ? d->queued : (size_t)ONFI_WANTS;
 }
 
-/* The same, and whether one of them isn't planned yet. */
-static bool choose_batch(driver *d, uint64_t now, size_t place[ONFI_WANTS], size_t *count, bool *is_new)
+/* Whether one of them isn't planned yet. */
+static bool is_new(const driver *d)
 {
-    uint32_t status = call_choice(d, now, place, count);
-    *is_new = false;
-    for (size_t at = 0; status == ONFI_DONE && at < *count; at++)
-        *is_new = *is_new || !is_planned(d, d->queue[place[at]].id);
-    return went_well(d, status);
+    bool any = false;
+    for (size_t at = 0; at < batch_of(d); at++)
+        any = any || !is_planned(d, d->queue[at].id);
+    return any;
 }
 
 /* The sum of the ages of the batch. */
-static double ages_waiting(const driver *d, const size_t *place, uint64_t now)
+static double ages_waiting(const driver *d, uint64_t now)
 {
     double sum = 0;
     for (size_t at = 0; at < d->batched; at++)
-        sum += (double)(now - d->arrived[place[at]]);
+        sum += (double)(now - d->arrived[at]);
     return sum;
 }
 
@@ -55,9 +73,9 @@ static double ages_running(const driver *d, unsigned lun, uint64_t now)
 }
 
 /* The mean age of what is planned, at least 1 ns. */
-static double mean_age(const driver *d, const size_t *place, uint64_t now)
+static double mean_age(const driver *d, uint64_t now)
 {
-    double sum = ages_waiting(d, place, now), count = (double)d->batched;
+    double sum = ages_waiting(d, now), count = (double)d->batched;
     for (unsigned lun = 0; lun < d->luns; lun++) {
         sum += ages_running(d, lun, now);
         count += d->lun[lun].members;
@@ -80,47 +98,46 @@ static void weigh_running(const driver *d, unsigned lun, uint64_t now, double me
         made->running[lun][at] = weight_of(d, now - d->member_arrived[lun][at], mean, d->lun[lun].member[at].kind);
 }
 
-static void weigh_waiting(const driver *d, const size_t *place, uint64_t now, double mean, onfi_weights *made)
+static void weigh_waiting(const driver *d, uint64_t now, double mean, onfi_weights *made)
 {
     for (size_t at = 0; at < d->batched; at++)
-        made->want[at] = weight_of(d, now - d->arrived[place[at]], mean, d->batch[at].kind);
+        made->want[at] = weight_of(d, now - d->arrived[at], mean, d->batch[at].kind);
 }
 
-static onfi_weights weights_of(const driver *d, const size_t *place, uint64_t now)
+static onfi_weights weights_of(const driver *d, uint64_t now)
 {
     onfi_weights made;
-    double mean = mean_age(d, place, now);
+    double mean = mean_age(d, now);
     memset(&made, 0, sizeof made);
-    weigh_waiting(d, place, now, mean, &made);
+    weigh_waiting(d, now, mean, &made);
     for (unsigned lun = 0; lun < d->luns; lun++)
         weigh_running(d, lun, now, mean, &made);
     return made;
 }
 
 /* The call. Nobody reads the certificate here, so it has no room. */
-static uint32_t call_planner(const driver *d, const size_t *place, uint64_t now, onfi_within *plan)
+static uint32_t call_planner(const driver *d, uint64_t now, onfi_within *plan)
 {
     size_t bytes;
     if (d->plans.planner == RULE)
         return onfi_plan_rule_by(&d->lengths, &d->channel, d->lun, d->luns, d->batch, d->batched, plan, NULL, 0, &bytes);
     if (d->plans.planner == WITHIN)
         return onfi_plan_within_by(&d->lengths, &d->channel, d->lun, d->luns, d->batch, d->batched, d->plans.limit, plan, NULL, 0, &bytes);
-    onfi_weights weights = weights_of(d, place, now);
+    onfi_weights weights = weights_of(d, now);
     return onfi_plan_early_by(&d->lengths, &d->channel, d->lun, d->luns, d->batch, d->batched, d->plans.limit, &weights, d->plans.slack, plan, NULL, 0, &bytes);
 }
 
 /*
- * Plans the chosen requests and what runs, from now on. Here alone the bus is shown that time has passed: a plan that was made before
+ * Plans the first requests and what runs, from now on. Here alone the bus is shown that time has passed: a plan that was made before
  * stays legal for what it was made of, and if its phases start late onfi_ran_by is given that.
  */
-static bool make_plan(driver *d, const size_t *place, size_t count, uint64_t now)
+static bool make_plan(driver *d, uint64_t now)
 {
     onfi_within plan;
     d->channel.bus_free = later_of(d->channel.bus_free, now);
-    d->batched = count;
-    for (size_t at = 0; at < count; at++)
-        d->batch[at] = d->queue[place[at]];
-    uint32_t status = call_planner(d, place, now, &plan);
+    d->batched = batch_of(d);
+    memcpy(d->batch, d->queue, d->batched * sizeof *d->batch);
+    uint32_t status = call_planner(d, now, &plan);
     if (!went_well(d, status))
         return false;
     d->schedule = plan.schedule;
@@ -131,16 +148,12 @@ static bool make_plan(driver *d, const size_t *place, size_t count, uint64_t now
 }
 
 /*
- * Which phase is due, and when; false where none is, or a call refused. It plans anew where a request is chosen that isn't
+ * Which phase is due, and when; false where none is, or a call refused. It plans anew where one of the first eight isn't
  * planned, or a LUN has reported that it is ready: else what is left of the plan is as good as it was.
  */
 bool plans_next(driver *d, uint64_t now, onfi_phase *phase)
 {
-    size_t place[ONFI_WANTS], count;
-    bool is_new;
-    if (!choose_batch(d, now, place, &count, &is_new))
-        return false;
-    if ((is_new || d->has_news) && !make_plan(d, place, count, now))
+    if ((is_new(d) || d->has_news) && !make_plan(d, now))
         return false;
     if (!d->has_plan)
         return false;
@@ -166,6 +179,16 @@ void note_begin(driver *d, unsigned lun)
 {
     for (unsigned at = 0; at < d->lun[lun].members; at++)
         d->member_arrived[lun][at] = leave_queue(d, d->lun[lun].member[at].id);
+}
+
+/* A phase ended then: where that is later than is stated, bus and LUN are ready so much later too. */
+static void note_end(driver *d, unsigned lun, uint64_t end)
+{
+    if (end <= d->channel.bus_free)
+        return;
+    d->lun[lun].since += end - d->channel.bus_free;
+    d->channel.bus_free = end;
+    d->has_news = true;
 }
 
 /* Runs the due phase from `start` on, at or after its start by the plan. */

@@ -137,10 +137,11 @@ void put_bytes(onfi_phase *phase)
 {
     static const uint8_t OPENER[KINDS] = {0x00, 0x80, 0x60}, LAST[KINDS] = {0x30, 0x10, 0xD0}, NOT_LAST[KINDS] = {0x32, 0x11, 0xD1};
     bool is_last = phase->number + 1 == phase->members;
-    phase->opener = OPENER[phase->kind];
-    phase->closer = is_last ? LAST[phase->kind] : NOT_LAST[phase->kind];
+    uint8_t kind = operation_of(phase->kind);
+    phase->opener = OPENER[kind];
+    phase->closer = is_last ? LAST[kind] : NOT_LAST[kind];
     if (phase->is_post) {
-        phase->opener = phase->kind == ONFI_READ ? 0x06 : 0x78;
-        phase->closer = phase->kind == ONFI_READ ? 0xE0 : 0;
+        phase->opener = kind == ONFI_READ ? 0x06 : 0x78;
+        phase->closer = kind == ONFI_READ ? 0xE0 : 0;
     }
 }

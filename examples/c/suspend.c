@@ -1,19 +1,18 @@
 /*
- * Programs that are stopped in their arrays for reads, over the driver by plans: reads' latency with and without.
+ * Programs that are stopped in their arrays for reads, over the driver of firmware.c: reads' latency with and without.
  *
- *     cc -std=c99 -O2 suspend.c firmware.c firmware_plans.c firmware_choice.c firmware_board.c firmware_host.c \
- *         $(pkg-config --cflags --libs onfi) -lm -o suspend
+ *     cc -std=c99 -O2 suspend.c firmware.c firmware_board.c firmware_host.c $(pkg-config --cflags --libs onfi) -lm -o suspend
  *     ./suspend [LOAD [REQUESTS [SEED]]]
  *
  * To stop is a device's own command, and so is to go on: ONFI 4.2 has neither. A LUN that gets that command is ready a while later, may read
  * blocks that the program isn't of, and goes on with what is left of the array and somewhat more.
  *
- * A plan knows no suspends. To stop is an event between two plans: the group leaves its LUN, and one want stands in the list for it until it
- * goes on. That want would have lengths of its own: the command to go on, what is left of the array, the statuses of all its members. The
- * library has no lengths by want but those of reads, so it stands as an erase, whose lengths are made these while a group sleeps: the
- * greatest of all that sleep, so none is planned too short. What the driver must hold back meanwhile (is_held_back): erases, since their
- * lengths are lent; programs of a LUN that sleeps; what is on a block of the group, and what comes after one of these on its block. What
- * is promised of a plan is promised for these lengths; the stops are nobody's plan.
+ * A dispatcher knows no suspends. So this driver keeps what LUNs do and what waits as well, and where a LUN stops or goes on the dispatcher
+ * begins anew with that. Until a group goes on one request stands for it among those that wait. That one would have lengths of its own: the
+ * command to go on, what is left of the array, the statuses of all its members. The library has no lengths by request but those of reads,
+ * so it stands as an erase, whose lengths are made these while a group sleeps: the greatest of all that sleep, so none comes too soon. What
+ * the driver must hold back meanwhile (is_held_back): erases, since their lengths are lent; programs of a LUN that sleeps; what is on a
+ * block of the group, and what comes after one of these on its block. What is promised of a phase is promised for these lengths.
  */
 #include "firmware_board.h"
 
@@ -31,8 +30,7 @@ enum { STOP_TIME = 30000, GO_ON_TIME = 20000, WORTH = 100000 };
 typedef struct {
     onfi_lun group;   /* no members: none */
     onfi_want stands; /* what stands for it */
-    uint64_t arrived[ONFI_MEMBERS];
-    uint64_t left; /* of its array */
+    uint64_t left;    /* of its array */
 } sleeper;
 
 /* A LUN of the board that was stopped. */
@@ -48,9 +46,15 @@ typedef struct {
     uint64_t arrived;
 } sent;
 
+/* What hasn't begun; the dispatcher has all but those that are held back. */
+typedef struct {
+    onfi_want want;
+    bool is_held;
+} waiter;
+
 typedef struct {
     simulation of;
-    driver firmware;
+    driver firmware; /* its LUNs and bus_free are kept as they stand */
     board mock;
     host sender;
     stopped chips[LUNS];
@@ -58,9 +62,9 @@ typedef struct {
     onfi_spans erase;         /* what an erase takes where nothing sleeps */
     sleeper asleep[LUNS];
     unsigned stops[LUNS], all_stops; /* of the group that a LUN is at or that sleeps there, and of all */
-    size_t held;
-    sent held_back[MOST_WAITING];
-    uint64_t now;
+    size_t waiting;
+    waiter waits[MOST_WAITING + LUNS]; /* by rising number */
+    uint64_t now, accepted;
     size_t outstanding;
     sent owed[MOST_WAITING];
     uint8_t data[PAGE_BYTES];
@@ -165,51 +169,50 @@ static uint64_t bus_status(void *self, uint64_t start, const onfi_phase *phase, 
 
 /* What waits. */
 
-/* Puts a request among those that wait, by its number. */
-static void put_waiting(driver *d, const onfi_want *want, uint64_t arrived)
+/* Puts a request among those that wait, by its number; gives its place. */
+static size_t put_waiting(run *r, const onfi_want *want)
 {
-    size_t at = d->queued++;
-    for (; at > 0 && d->queue[at - 1].id > want->id; at--) {
-        d->queue[at] = d->queue[at - 1];
-        d->arrived[at] = d->arrived[at - 1];
-    }
-    d->queue[at] = *want;
-    d->arrived[at] = arrived;
+    size_t at = r->waiting++;
+    for (; at > 0 && r->waits[at - 1].want.id > want->id; at--)
+        r->waits[at] = r->waits[at - 1];
+    r->waits[at].want = *want;
+    r->waits[at].is_held = false;
+    return at;
+}
+
+/* Takes it out. */
+static onfi_want take_waiting(run *r, uint64_t id)
+{
+    size_t at = 0;
+    while (at + 1 < r->waiting && r->waits[at].want.id != id)
+        at++;
+    onfi_want taken = r->waits[at].want;
+    find_wrong(r, taken.id != id, "a request begins that doesn't wait");
+    r->waiting--;
+    memmove(r->waits + at, r->waits + at + 1, (r->waiting - at) * sizeof *r->waits);
+    return taken;
 }
 
 /* Whether a request must wait until what sleeps has gone on. */
-static bool is_held_back(const run *r, const onfi_want *want, bool any_sleeps)
+static bool is_held_back(const run *r, size_t place, bool any_sleeps)
 {
+    const onfi_want *want = &r->waits[place].want;
     const onfi_lun *group = &r->asleep[want->lun].group;
     bool stands_for_it = group->members && want->id == r->asleep[want->lun].stands.id;
     bool is_on_block = is_of_group(group, want->block);
-    for (size_t at = 0; at < r->held; at++)
-        is_on_block = is_on_block || (r->held_back[at].want.lun == want->lun && r->held_back[at].want.block == want->block);
+    for (size_t at = 0; at < place; at++) {
+        const waiter *before = &r->waits[at];
+        is_on_block = is_on_block || (before->is_held && before->want.lun == want->lun && before->want.block == want->block);
+    }
     return !stands_for_it && (is_on_block || (want->kind == ONFI_ERASE && any_sleeps) || (want->kind == ONFI_PROGRAM && group->members));
 }
 
-/* Gives back all that was held back. */
-static void let_go(run *r)
+/* Gives the dispatcher one that waits, if it needn't be held back. */
+static void give(run *r, size_t place, bool any_sleeps)
 {
-    for (size_t at = 0; at < r->held; at++)
-        put_waiting(&r->firmware, &r->held_back[at].want, r->held_back[at].arrived);
-    r->held = 0;
-}
-
-/* Takes out what must wait; the others stay in their order. */
-static void hold_back(run *r, bool any_sleeps)
-{
-    driver *d = &r->firmware;
-    size_t left = 0;
-    for (size_t at = 0; at < d->queued; at++)
-        if (is_held_back(r, &d->queue[at], any_sleeps)) {
-            r->held_back[r->held].want = d->queue[at];
-            r->held_back[r->held++].arrived = d->arrived[at];
-        } else {
-            d->queue[left] = d->queue[at];
-            d->arrived[left++] = d->arrived[at];
-        }
-    d->queued = left;
+    r->waits[place].is_held = is_held_back(r, place, any_sleeps);
+    if (!r->waits[place].is_held)
+        find_wrong(r, driver_accept(&r->firmware, &r->waits[place].want) != ONFI_DONE, "a request is refused");
 }
 
 /* What stands for those that sleep has the lengths of the longest of them; erases have their own again where none sleeps. */
@@ -231,10 +234,13 @@ static bool lend_lengths(run *r)
     return any;
 }
 
-static void sort_out(run *r)
+/* The dispatcher begins anew, with what LUNs do and what waits as they stand. */
+static void restart(run *r)
 {
-    let_go(r);
-    hold_back(r, lend_lengths(r));
+    bool any_sleeps = lend_lengths(r);
+    find_wrong(r, !driver_begin(&r->firmware), "a call refuses the channel");
+    for (size_t at = 0; at < r->waiting; at++)
+        give(r, at, any_sleeps);
 }
 
 /* To stop. */
@@ -242,11 +248,11 @@ static void sort_out(run *r)
 /* Whether a read waits for a LUN whose block isn't of its group. */
 static bool is_read_waiting(const run *r, unsigned lun)
 {
-    const driver *d = &r->firmware;
     bool any = false;
-    for (size_t at = 0; at < d->queued; at++) {
-        bool is_read = d->queue[at].lun == lun && operation_of(d->queue[at].kind) == ONFI_READ;
-        any = any || (is_read && !is_of_group(&d->lun[lun], d->queue[at].block));
+    for (size_t at = 0; at < r->waiting; at++) {
+        const onfi_want *want = &r->waits[at].want;
+        bool is_read = want->lun == lun && operation_of(want->kind) == ONFI_READ;
+        any = any || (is_read && !is_of_group(&r->firmware.lun[lun], want->block));
     }
     return any;
 }
@@ -257,6 +263,14 @@ static bool is_erase_running(const run *r)
     bool any = false;
     for (unsigned lun = 0; lun < LUNS; lun++)
         any = any || (r->firmware.lun[lun].members && r->firmware.lun[lun].member[0].kind == ONFI_ERASE);
+    return any;
+}
+
+static bool does_any_sleep(const run *r)
+{
+    bool any = false;
+    for (unsigned lun = 0; lun < LUNS; lun++)
+        any = any || r->asleep[lun].group.members;
     return any;
 }
 
@@ -279,7 +293,7 @@ static onfi_want stand_for(const onfi_lun *group)
     return stands;
 }
 
-/* Stops a LUN's program: its group leaves it, and one want stands for it among those that wait. */
+/* Stops a LUN's program: its group leaves it, and one request stands for it among those that wait. */
 static void stop(run *r, unsigned number)
 {
     driver *d = &r->firmware;
@@ -289,14 +303,13 @@ static void stop(run *r, unsigned number)
     s->group = *lun;
     s->stands = stand_for(lun);
     s->left = lun->since - end + GO_ON_TIME;
-    memcpy(s->arrived, d->member_arrived[number], sizeof s->arrived);
     memset(lun, 0, sizeof *lun);
     lun->since = end + STOP_TIME;
-    put_waiting(d, &s->stands, s->arrived[0]);
+    put_waiting(r, &s->stands);
     r->now = d->channel.bus_free = end;
-    d->has_news = true;
     r->stops[number]++;
     r->all_stops++;
+    restart(r);
 }
 
 static void stop_for_reads(run *r, unsigned most)
@@ -306,16 +319,46 @@ static void stop_for_reads(run *r, unsigned most)
             stop(r, lun);
 }
 
-/* What stood for a group has begun: the group itself is on its LUN again, and its statuses are planned as any. */
+/* What stood for a group has begun: the group itself is on its LUN again, and has its statuses left. */
 static void wake(run *r, unsigned number)
 {
     driver *d = &r->firmware;
     sleeper *s = &r->asleep[number];
     d->lun[number] = s->group;
     d->lun[number].since = d->channel.bus_free + s->left;
-    memcpy(d->member_arrived[number], s->arrived, sizeof s->arrived);
     s->group.members = 0;
-    d->has_news = true;
+    restart(r);
+}
+
+/* What LUNs do. */
+
+/* A group begins with this phase: its members are those of the commands that follow on its LUN, in a copy that runs ahead. */
+static void note_group(run *r, const onfi_phase *first)
+{
+    onfi_lun *lun = &r->firmware.lun[first->lun];
+    onfi_dispatcher ahead = r->firmware.dispatcher;
+    onfi_phase next = *first;
+    uint32_t status = ONFI_DONE;
+    while (lun->members < first->members && status == ONFI_DONE) {
+        if (next.lun == first->lun)
+            lun->member[lun->members++] = take_waiting(r, next.want);
+        status = onfi_dispatcher_ran(&ahead, next.start);
+        if (status == ONFI_DONE)
+            status = onfi_dispatcher_next(&ahead, next.start, &next);
+    }
+    find_wrong(r, status != ONFI_DONE, "a group isn't whole");
+}
+
+/* A phase has run up to now: its LUN goes on, or is free. */
+static void note_phase(run *r, const onfi_phase *phase)
+{
+    onfi_lun *lun = &r->firmware.lun[phase->lun];
+    const onfi_spans *spans = spans_of(&r->firmware.channel.timing, operation_of(phase->kind));
+    r->firmware.channel.bus_free = r->now;
+    lun->next++;
+    lun->since = r->now + (lun->next < lun->members ? spans->gap : lun->next == lun->members ? spans->array : 0);
+    if (lun->next == 2 * lun->members)
+        lun->members = lun->next = 0;
 }
 
 /* The loop. */
@@ -324,10 +367,11 @@ static void accept_all(run *r)
 {
     while (r->outstanding < DEPTH && r->sender.next_arrival <= r->now) {
         sent *owed = &r->owed[r->outstanding++];
-        onfi_want want = host_want(&r->sender);
-        owed->first = host_first(&r->sender, &want);
+        owed->want = host_want(&r->sender);
+        owed->want.id = r->accepted++;
+        owed->first = host_first(&r->sender, &owed->want);
         owed->arrived = r->sender.next_arrival;
-        owed->want = driver_accept(&r->firmware, want, owed->arrived);
+        give(r, put_waiting(r, &owed->want), does_any_sleep(r));
         host_arrival(&r->sender);
     }
 }
@@ -364,7 +408,7 @@ static void take_answer(run *r, const onfi_phase *phase)
 static transfer transfer_of(run *r, const onfi_phase *phase)
 {
     size_t at = place_of(r, phase->want);
-    transfer of = {phase->kind, at < r->outstanding ? r->owed[at].first : (uint8_t)0, r->data};
+    transfer of = {at < r->outstanding ? r->owed[at].first : (uint8_t)0, r->data};
     if (phase->kind == ONFI_PROGRAM && !phase->is_post)
         put_bytes_of_page(r->data, row_of(phase->lun, phase->block, phase->page), 0, r->mock.page);
     return of;
@@ -374,11 +418,14 @@ static void run_phase(run *r, const onfi_phase *phase)
 {
     transfer of = transfer_of(r, phase);
     bool goes_on = r->asleep[phase->lun].group.members && phase->want == r->asleep[phase->lun].stands.id;
-    bool went = plans_run(&r->firmware, phase, later_of(phase->start, r->now), &of);
+    if (phase->number == 0)
+        note_group(r, phase);
+    bool went = driver_run(&r->firmware, phase, phase->start, &of);
     r->now = r->mock.bus_free;
     find_wrong(r, !went || r->mock.wrong, r->mock.wrong ? r->mock.wrong : "a call refuses what has run");
     if (r->wrong)
         return;
+    note_phase(r, phase);
     if (goes_on)
         wake(r, phase->lun);
     else if (phase->number == 0 && !r->asleep[phase->lun].group.members)
@@ -393,8 +440,7 @@ static void turn(run *r, unsigned most)
     onfi_phase phase;
     accept_all(r);
     stop_for_reads(r, most);
-    sort_out(r);
-    bool any = plans_next(&r->firmware, r->now, &phase);
+    bool any = driver_next(&r->firmware, r->now, &phase);
     find_wrong(r, r->firmware.refused != ONFI_DONE, "a call refuses what is asked");
     bool comes = r->outstanding < DEPTH;
     if (r->wrong)
@@ -402,7 +448,7 @@ static void turn(run *r, unsigned most)
     if (any && !(comes && r->sender.next_arrival < phase.start))
         run_phase(r, &phase);
     else if (comes)
-        r->now = later_of(r->sender.next_arrival, r->now);
+        r->now = r->sender.next_arrival > r->now ? r->sender.next_arrival : r->now;
     else
         r->wrong = "requests are left, and nothing is due";
 }
@@ -441,7 +487,6 @@ static void open_run(run *r, const simulation *of)
     driver *d = &r->firmware;
     d->bus = &r->bus;
     d->luns = LUNS;
-    d->plans = r->of.plans;
     d->channel = channel_of(&r->of.made_of, r->of.byte);
     d->lengths = lengths_of(&r->of.made_of, r->of.byte);
     d->sector_bytes = sector_bytes_of(&r->of.made_of);
@@ -449,6 +494,7 @@ static void open_run(run *r, const simulation *of)
     r->erase = d->channel.timing.erase;
     onfi_channel channel = channel_for(&r->of.made_of, r->of.byte, r->of.workload);
     host_open(&r->sender, r->of.workload, LUNS, &channel, r->of.load, r->of.seed);
+    restart(r);
 }
 
 static bool run_all(run *r, const simulation *of, unsigned most)
@@ -479,7 +525,6 @@ int main(int count, char **texts)
     of.requests = count > 2 ? strtoul(texts[2], NULL, 10) : 4000;
     of.seed = count > 3 ? strtoul(texts[3], NULL, 10) : 1;
     of.least_array = of.most_array = 1;
-    of.plans = (planning){ONFI_READS_FIRST, EARLY, true, 20, 20, 2000};
     if (count > 4 || !(of.load > 0) || of.load > 100 || of.requests < 1 || of.requests > MOST_REQUESTS || of.seed < 1) {
         fprintf(stderr, "suspend [LOAD [REQUESTS [SEED]]]: the share of the bus that arrivals ask for, 1 to 100000, a seed from 1\n");
         return 2;

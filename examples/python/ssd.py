@@ -1,11 +1,12 @@
-"""A drive of two channels of eight LUNs in SimPy: each channel plans in rolling use, and asks which phase is due.
+"""A drive of two channels of eight LUNs in SimPy: each channel asks again and again which phase is next.
 
     PYTHONPATH=python python3 examples/python/ssd.py [--requests N] [--seed N] [--load SHARE] [--sectors N] [--ends] ..
 
 A channel has 64 requests outstanding: a new one comes with each answer, or with --load by itself. It does what the driver of
-examples/c/firmware_plans.c does: channel 0 answers each request when `firmware way plans` with the same seed does, channel 1 when it
-does with the next seed. With --ends it prints when: channel, number, end. With --sectors 1 reads want 4 KiB, one sector of a page's four, as by
-`workload mixed-4k` of the driver: plans know how long such an output is, and the library says from which column on how many bytes are taken.
+examples/c/firmware.c does: channel 0 answers each request when `firmware` with the same seed does, channel 1 when it does with the next
+seed. With --ends it prints when: channel, number, end. With --sectors 1 reads want 4 KiB, one sector of a page's four, as by
+`workload mixed-4k` of the driver: the dispatcher knows how long such an output is, and the library says from which column on how many
+bytes are taken.
 
 SimPy 3 or later is wanted (Debian's python3-simpy3, or pip's simpy). Without it nothing is simulated. Times are ns.
 """
@@ -16,10 +17,9 @@ import argparse
 import dataclasses
 import importlib
 import math
-from typing import Any, Dict, Iterator, List, Optional, Tuple
+from typing import Any, Dict, Iterator, List, Tuple
 
-from onfi import (Channel, Geometry, Kind, Lengths, Lun, NothingDue, Phase, Rules, Schedule, Spans, Timing, Want, choose, due, kind_by, output_of,
-                  plan_early, ran)
+from onfi import Channel, Dispatcher, Geometry, Kind, Lengths, Lun, Phase, Rules, Spans, Timing, Want, kind_by, output_of
 
 CHANNELS, LUNS, PLANES, DEPTH = 2, 8, 4, 64
 PAGE_BYTES, PAGES, BLOCKS = 16_384 + 2_048, 1_152, 16_384
@@ -33,14 +33,12 @@ WORD = (1 << 64) - 1
 
 @dataclasses.dataclass(frozen=True)
 class Setup:
-    """How long a byte has the bus, what is simulated, and how it is planned."""
+    """How long a byte has the bus, and what is simulated."""
 
     byte: float
     requests: int
     load: float
     array: Tuple[float, float]
-    limit: int
-    slack: int
     sectors: int
     ends: bool
 
@@ -119,22 +117,19 @@ class Host:
 
 
 class Controller:
-    """One channel: what waits, what is planned, and what is on its bus."""
+    """One channel: its dispatcher, and what is on its bus."""
 
     def __init__(self, simpy: Any, env: Any, number: int, seed: int, setup: Setup) -> None:
         self.simpy, self.env, self.number, self.seed, self.setup = simpy, env, number, seed, setup
         self.host = Host(seed, setup.sectors)
-        self.channel, self.lengths = channel_of(setup.byte), lengths_of(setup.byte)
+        self.timing, self.lengths = channel_of(setup.byte).timing, lengths_of(setup.byte)
+        self.dispatcher = Dispatcher(channel_of(setup.byte), [Lun()] * LUNS, GEOMETRY, self.lengths)
         self.first: Dict[int, int] = {}
-        self.luns: List[Lun] = [Lun()] * LUNS
-        self.queue: List[Want] = []
-        self.batch: List[Want] = []
-        self.schedule: Optional[Schedule] = None
         self.arrived: Dict[int, int] = {}
-        self.accepted = self.outstanding = self.plans = self.busy = 0
+        self.begun: List[int] = [0] * LUNS
+        self.accepted = self.outstanding = self.busy = 0
         self.latencies: List[int] = []
         self.until = 0
-        self.is_told = False
         self.news = env.event()
         self.room = env.event()
         env.process(self.open_loop() if setup.load else self.closed_loop())
@@ -149,7 +144,7 @@ class Controller:
         want = self.host.want(self.accepted)
         self.accepted += 1
         self.outstanding += 1
-        self.queue.append(want)
+        self.dispatcher.accept(want)
         self.arrived[want.id] = arrived
         self.first[want.id] = self.host.first(want)
 
@@ -162,7 +157,7 @@ class Controller:
 
     def open_loop(self) -> Iterator[Any]:
         """Requests come one by one, and wait where there is no room."""
-        read, program = self.channel.timing.read, self.channel.timing.program
+        read, program = self.timing.read, self.timing.program
         mean = 0.7 * (read.cmd + (self.lengths.sectors[self.setup.sectors] if self.setup.sectors else read.post))
         mean = (mean + 0.3 * (program.cmd + program.post)) / self.setup.load
         arrival = 0
@@ -177,40 +172,9 @@ class Controller:
 
     def array(self, lun: int, time: int) -> Iterator[Any]:
         """R/B# of a LUN rises before the stated time."""
-        running = self.luns[lun]
         yield self.env.timeout(time)
-        if self.luns[lun] == running:
-            self.luns[lun] = dataclasses.replace(running, since=self.env.now)
-            self.is_told = True
-            self.tell()
-
-    def weights(self) -> Tuple[List[int], List[List[int]]]:
-        """Of what is planned, and of what runs: the older a request the more it counts."""
-        now = self.env.now
-        ages = [now - self.arrived[want.id] for want in self.batch]
-        running = [[now - self.arrived[want.id] for want in lun.members] for lun in self.luns]
-        count = len(ages) + sum(map(len, running))
-        mean = max((sum(ages) + sum(map(sum, running))) / max(count, 1), 1)
-
-        def weight(age: int) -> int:
-            return min(int(8 + 32 * (age / mean) * (age / mean)), 65_535)
-
-        return [weight(age) for age in ages], [[weight(age) for age in of] for of in running]
-
-    def next_phase(self) -> Optional[Phase]:
-        """Which phase is due. What is new is planned first, from now on."""
-        from_now = dataclasses.replace(self.channel, bus_free=max(self.channel.bus_free, self.env.now))
-        chosen = [self.queue[place] for place in choose(from_now, self.luns, self.queue, self.accepted, lengths=self.lengths)]
-        if self.is_told or any(want not in self.batch for want in chosen):
-            self.channel, self.batch, self.is_told = from_now, chosen, False
-            weights, running = self.weights()
-            plan = plan_early(self.channel, self.luns, self.batch, weights, self.setup.slack, self.setup.limit, running, self.lengths)
-            self.schedule = plan.schedule
-            self.plans += 1
-        try:
-            return due(self.channel, self.luns, self.batch, GEOMETRY, self.schedule, self.lengths) if self.schedule else None
-        except NothingDue:
-            return None
+        self.dispatcher.ready(lun, self.env.now)
+        self.tell()
 
     def bus_time(self, phase: Phase) -> int:
         """How long it has the bus: a data output by the bytes that are taken, which are those that its request wants."""
@@ -222,37 +186,30 @@ class Controller:
         return output_time(output.bytes, self.setup.byte)
 
     def run_phase(self, phase: Phase) -> Iterator[Any]:
-        """Has it on the bus, and reports to the library that it ran."""
-        assert self.schedule is not None
-        started = self.env.now
-        yield self.env.timeout(self.bus_time(phase))
-        members = self.luns[phase.lun].members
-        stand = ran(self.channel, self.luns, self.batch, self.schedule, phase.lun, phase.number, started, self.lengths)
-        self.channel, self.luns, self.batch, self.schedule = stand.channel, list(stand.luns), list(stand.wants), stand.schedule
+        """Reports to the library that it runs from now on, and has it on the bus."""
+        self.dispatcher.ran(self.env.now)
         self.busy += phase.end - phase.start
         if phase.number == 0:
-            begun = {want.id for want in self.luns[phase.lun].members}
-            self.queue = [want for want in self.queue if want.id not in begun]
+            self.begun[phase.lun] = phase.want
+        yield self.env.timeout(self.bus_time(phase))
         if phase.number + 1 == phase.members:
             self.begin_array(phase)
         if phase.is_post:
             self.answer(phase)
-        if phase.number + 1 == 2 * phase.members:
-            for want in members:
-                del self.arrived[want.id], self.first[want.id]
 
     def begin_array(self, phase: Phase) -> None:
         """The array of a LUN works from now on, mostly for less than is stated."""
-        first, stated = self.luns[phase.lun].members[0].id, ARRAYS[phase.kind & 31]
+        stated = ARRAYS[phase.kind & 31]
         least, most = self.setup.array
-        share = least + (most - least) * Numbers(self.seed * 0x2545F4914F6CDD1D & WORD ^ first << 20).share()
+        share = least + (most - least) * Numbers(self.seed * 0x2545F4914F6CDD1D & WORD ^ self.begun[phase.lun] << 20).share()
         if int(stated * share) < stated:
             self.env.process(self.array(phase.lun, int(stated * share)))
 
     def answer(self, phase: Phase) -> None:
         self.outstanding -= 1
         self.until = self.env.now
-        self.latencies.append(self.env.now - self.arrived[phase.want])
+        self.latencies.append(self.env.now - self.arrived.pop(phase.want))
+        del self.first[phase.want]
         if self.setup.ends:
             print(self.number, phase.want, self.env.now)
         if not self.setup.load:
@@ -261,23 +218,22 @@ class Controller:
             self.room.succeed()
 
     def loop(self) -> Iterator[Any]:
-        """Runs what is due, or waits until it is, or until there is news before."""
+        """Runs what is next, or waits until it may start, or until there is news before."""
         while len(self.latencies) < self.setup.requests:
             self.news = self.env.event()
-            phase = self.next_phase()
+            phase = self.dispatcher.next(self.env.now)
             if phase is None:
                 yield self.news
-                continue
-            if phase.start > self.env.now:
+            elif phase.start > self.env.now:
                 yield self.env.timeout(phase.start - self.env.now) | self.news
-            if phase.start <= self.env.now:
+            else:
                 yield from self.run_phase(phase)
 
     def print_figures(self) -> None:
         latencies, seconds = sorted(self.latencies), self.until / 1e9
         mean, most = sum(latencies) / len(latencies) / 1e3, latencies[len(latencies) * 99 // 100 - 1] / 1e3
-        print(f"channel {self.number}: {len(latencies) / seconds:.0f} requests a second, bus busy {self.busy / 1e9 / seconds:.1%}, "
-              f"{self.plans} plans; {mean:.1f} us in the mean, 99 % within {most:.1f} us")
+        print(f"channel {self.number}: {len(latencies) / seconds:.0f} requests a second, bus busy {self.busy / 1e9 / seconds:.1%}; "
+              f"{mean:.1f} us in the mean, 99 % within {most:.1f} us")
 
 
 def simulate(simpy: Any, seed: int, setup: Setup) -> None:
@@ -297,8 +253,6 @@ def main() -> None:
     parser.add_argument("--byte", type=float, default=2, metavar="NS", help="how long a byte has the bus")
     parser.add_argument("--load", type=float, default=0, metavar="SHARE", help="of the bus that arrivals ask for; 0: a new one comes with each answer")
     parser.add_argument("--array", type=float, nargs=2, default=(1, 1), metavar="SHARE", help="real array times, in shares of the stated ones")
-    parser.add_argument("--limit", type=int, default=2_000, metavar="N", help="nodes that a search may open")
-    parser.add_argument("--slack", type=int, default=20, metavar="N", help="thousandths that a plan may end later")
     parser.add_argument("--sectors", type=int, default=0, choices=range(SECTORS + 1), metavar="N", help="how many of four a read wants; 0: its page")
     parser.add_argument("--ends", action="store_true")
     asked = parser.parse_args()
@@ -308,7 +262,7 @@ def main() -> None:
         print("nothing is simulated: SimPy is not installed (Debian's python3-simpy3, or pip's simpy)")
         return
     least, most = asked.array
-    simulate(simpy, asked.seed, Setup(asked.byte, asked.requests, asked.load, (least, most), asked.limit, asked.slack, asked.sectors, asked.ends))
+    simulate(simpy, asked.seed, Setup(asked.byte, asked.requests, asked.load, (least, most), asked.sectors, asked.ends))
 
 
 if __name__ == "__main__":

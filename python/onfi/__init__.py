@@ -11,8 +11,8 @@ What judges a schedule or a log, whoever made it:
     find_breach       the first condition that a schedule breaks
     audit, audit_phases                 what a log breaks, as a whole or as it comes; `Audit` judges phase by phase
 What drives a channel:
-    choose, choose_whole                which of the requests that wait a batch takes
-    due, ran          the phase that is due, and what stands after it; `Driver` keeps all that stands, for a loop
+    Dispatcher        one phase after another, as requests come: `accept`, `next`, `ran`, `ready`; `phases` runs all
+    due, ran          of a plan the phase that is due, and what stands after it; `Driver` keeps all that stands, for a loop
     row, output_of    the row address of a page, and the column and bytes of a data output
 What a device is by its parameter page, and kinds of reads of some sectors:
     timing_of_page, lengths_of_page, kind_by
@@ -42,8 +42,6 @@ from onfi.calls import (
     check,
     check_known,
     check_within,
-    choose,
-    choose_whole,
     due,
     find_breach,
     lengths_of_page,
@@ -62,13 +60,13 @@ from onfi.calls import (
     text_plan,
     timing_of_page,
 )
+from onfi.dispatcher import Dispatcher
 from onfi.driver import Driver
 from onfi.logs import Audit, LogBreach, LogCondition, Logged, audit, audit_phases
 from onfi.model import (
     Answer,
     BusPhase,
     Channel,
-    Choice,
     Device,
     Geometry,
     Group,
@@ -91,8 +89,7 @@ from onfi.model import (
 from onfi.refused import (
     # from here on written by tools/make-statuses
     REFUSALS,
-    BadBatch,
-    BadChoice,
+    BadDispatcher,
     BadGeometry,
     BadHeader,
     BadKind,
@@ -120,6 +117,7 @@ from onfi.refused import (
     NoStatusEnhanced,
     NotDue,
     NotEnd,
+    NotWaiting,
     NothingDue,
     OtherLeft,
     OtherOption,
@@ -159,8 +157,7 @@ from onfi.refused import (
 __all__ = [
     "Answer",
     "Audit",
-    "BadBatch",
-    "BadChoice",
+    "BadDispatcher",
     "BadGeometry",
     "BadHeader",
     "BadKind",
@@ -177,12 +174,12 @@ __all__ = [
     "Breach",
     "BusPhase",
     "Channel",
-    "Choice",
     "Clock",
     "ColumnTooWide",
     "Condition",
     "Device",
     "Difference",
+    "Dispatcher",
     "Driver",
     "EndsBefore",
     "Geometry",
@@ -206,6 +203,7 @@ __all__ = [
     "NoStatusEnhanced",
     "NotDue",
     "NotEnd",
+    "NotWaiting",
     "NothingDue",
     "OtherLeft",
     "OtherOption",
@@ -258,8 +256,6 @@ __all__ = [
     "check",
     "check_known",
     "check_within",
-    "choose",
-    "choose_whole",
     "due",
     "find_breach",
     "kind_by",

@@ -3,11 +3,11 @@
 from __future__ import annotations
 
 import ctypes
-from typing import Callable, Iterable, List, Optional, Tuple, Union
+from typing import Callable, Iterable, Optional, Tuple, Union
 
 from onfi.breach import Breach
 from onfi.library import library
-from onfi.model import Answer, Channel, Choice, Device, Geometry, Lengths, Lun, Output, Phase, Plan, PlanWithin, Problem, Schedule, Stand, Want
+from onfi.model import Answer, Channel, Device, Geometry, Lengths, Lun, Output, Phase, Plan, PlanWithin, Problem, Schedule, Stand, Want
 from onfi.refused import REFUSALS, BadKind, BadLimit, BadLun, BadMembers, BadOrder, BadPlace, Clock, Illegal, Memory, NoLengths, Refused
 from onfi.structs import WANTS, CBroken, CChannel, CDevice, CGeometry, CLengths, CLun, COutput, CPhase, CPlan, CSchedule, CVerdict, CWant, CWeights, CWithin
 from onfi.structs import each_of, number, octets, text
@@ -279,68 +279,6 @@ def breach_of(said: CProblem, schedule: Schedule) -> Optional[Breach]:
     if status not in (DONE, Illegal.status):
         raise said.refused(status)
     return broken.told() if status == Illegal.status else None
-
-
-def choose(
-    channel: Channel,
-    luns: Iterable[Lun],
-    wants: Iterable[Want],
-    accepted: int,
-    choice: Choice = Choice.BY_LUN,
-    batch: int = WANTS,
-    lengths: Optional[Lengths] = None,
-) -> List[int]:
-    """The places, in the list of the requests that wait, of those that a batch of at most `batch` takes, 1 to 8; they rise.
-
-    The list is in acceptance order and may have more than eight; each id is the place of acceptance, and `accepted` counts
-    all that were accepted. It is proved that of two requests on one block the later is chosen only with the earlier; that the
-    batch is full, or all are chosen; that once 64 later ones started before the oldest, it is chosen; and that `IN_ORDER` takes
-    the oldest. Which requests the other choices take beside that is shown by tests alone.
-
-    With `lengths` reads may put out some sectors, as by `plan_within`; where none is stated of so many, the post of a page counts.
-
-    Raises what `plan` raises of lengths, plane bits, members and kinds; `BadChoice`, `BadBatch`, `BadOrder`; `Memory`.
-    """
-    words = (number(accepted, 1 << 64, "a count"), number(choice, 256, "a choice"), number(batch, 256, "a batch"))
-    return chosen_by("onfi_choose", CProblem(channel, luns, wants, lengths), *words)
-
-
-def choose_whole(
-    channel: Channel,
-    luns: Iterable[Lun],
-    wants: Iterable[Want],
-    passed: Iterable[int],
-    newest: Optional[int],
-    batch: int = WANTS,
-) -> List[int]:
-    """The places, in the list of the requests that wait, of those that a batch of at most `batch` takes by whole groups; they rise.
-
-    The list is in acceptance order, and the ids rise. `passed` counts for each how many groups with a later request began on
-    its LUN since it was accepted, 0 past the last count; `newest` is the id of the newest accepted program, whether it waits or
-    not, None where there is none. A program whose group lacks its last plane waits for its mates while the group holds the newest
-    one and a LUN has work, so the batch may have room left. It is proved that of two requests on one block the later is chosen only
-    with the earlier; that the oldest one of a LUN that is due and may begin is chosen, but where the batch is full of such: one is
-    due once 128 such groups began, an erase once 512 did; that else the batch is full, or what may begin is held back as a program
-    is; and that something is chosen where nothing runs.
-
-    Raises what `choose` raises but `BadChoice`.
-    """
-    told = [number(it, 65536, "a count") for it in passed]
-    words = (newest is not None, number(newest or 0, 1 << 64, "an id"), number(batch, 256, "a batch"))
-    return chosen_by("onfi_choose_whole", CProblem(channel, luns, wants), (ctypes.c_uint16 * len(told))(*told), len(told), *words)
-
-
-def chosen_by(name: str, said: CProblem, *words: object) -> List[int]:
-    """The places that a call chooses."""
-    chosen, count, call = (ctypes.c_size_t * WANTS)(), ctypes.c_size_t(), said.call(name)
-
-    def ask(luns: "ctypes.Array[CLun]", wants: int) -> int:
-        return call(*said.channel_words, luns, len(said.problem.luns), said.wants, wants, *words, ctypes.byref(chosen), ctypes.byref(count))
-
-    status = ask(said.luns, said.count.value)
-    if status != DONE:
-        raise said.refused(status, ask=ask)
-    return chosen[: count.value]
 
 
 def due(

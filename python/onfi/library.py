@@ -8,14 +8,14 @@ import os
 import pathlib
 from typing import List, Tuple
 
-from onfi.structs import WANTS, CAudit, CBroken, CChannel, CDevice, CGeometry, CLengths, CLogBroken, CLun, COutput, CPhase, CPlan, CQueue, CSchedule, CVerdict, CWant
+from onfi.structs import CAudit, CBroken, CChannel, CDevice, CDispatcher, CGeometry, CLengths, CLogBroken, CLun, COutput, CPhase, CPlan, CSchedule, CVerdict, CWant
 from onfi.structs import CWeights, CWithin
 
 SONAME = "libonfi.so.1"
 BYTES, SIZE = ctypes.c_char_p, ctypes.c_size_t
 ROOM = (ctypes.c_void_p, SIZE, ctypes.POINTER(SIZE))
 PROBLEM = (ctypes.POINTER(CChannel), ctypes.POINTER(CLun), SIZE, ctypes.POINTER(CWant), SIZE)
-LENGTHS = ctypes.POINTER(CLengths)
+LENGTHS, DISPATCHER = ctypes.POINTER(CLengths), ctypes.POINTER(CDispatcher)
 CALLS = {
     "onfi_version": (),
     "onfi_plan": (*PROBLEM, ctypes.c_uint32, ctypes.POINTER(CPlan), *ROOM),
@@ -27,23 +27,15 @@ CALLS = {
     "onfi_check_known": (*PROBLEM, ctypes.POINTER(CSchedule), BYTES, SIZE, ctypes.POINTER(CVerdict)),
     "onfi_check_within": (*PROBLEM, ctypes.POINTER(CSchedule), ctypes.c_uint64, BYTES, SIZE, ctypes.POINTER(CVerdict)),
     "onfi_breach": (*PROBLEM, ctypes.POINTER(CSchedule), ctypes.POINTER(CBroken)),
-    "onfi_choose": (*PROBLEM, ctypes.c_uint64, ctypes.c_uint8, ctypes.c_uint8, ctypes.POINTER(SIZE * WANTS), ctypes.POINTER(SIZE)),
-    "onfi_choose_whole": (
-        *PROBLEM,
-        ctypes.POINTER(ctypes.c_uint16),
-        SIZE,
-        ctypes.c_bool,
-        ctypes.c_uint64,
-        ctypes.c_uint8,
-        ctypes.POINTER(SIZE * WANTS),
-        ctypes.POINTER(SIZE),
-    ),
     "onfi_due": (*PROBLEM, ctypes.POINTER(CGeometry), ctypes.POINTER(CSchedule), ctypes.POINTER(CPhase)),
     "onfi_ran": (*PROBLEM[:4], ctypes.POINTER(SIZE), ctypes.POINTER(CSchedule), ctypes.c_uint8, ctypes.c_uint8, ctypes.c_uint64),
-    "onfi_queue_begin": (ctypes.POINTER(CQueue),),
-    "onfi_queue_accept": (ctypes.POINTER(CQueue), ctypes.POINTER(CWant)),
-    "onfi_next": (*PROBLEM[:3], ctypes.POINTER(CQueue), ctypes.POINTER(CGeometry), ctypes.c_uint64, ctypes.POINTER(CPhase)),
-    "onfi_queue_ran": (*PROBLEM[:3], ctypes.POINTER(CQueue), ctypes.c_uint64, ctypes.c_uint8, ctypes.c_uint8, ctypes.c_uint64),
+    "onfi_dispatcher_begin": (DISPATCHER, LENGTHS, *PROBLEM[:3], ctypes.POINTER(CGeometry)),
+    "onfi_dispatcher_accept": (DISPATCHER, ctypes.POINTER(CWant)),
+    "onfi_dispatcher_accept_again": (DISPATCHER, ctypes.POINTER(CWant)),
+    "onfi_dispatcher_cancel": (DISPATCHER, ctypes.c_uint64),
+    "onfi_dispatcher_next": (DISPATCHER, ctypes.c_uint64, ctypes.POINTER(CPhase)),
+    "onfi_dispatcher_ran": (DISPATCHER, ctypes.c_uint64),
+    "onfi_dispatcher_ready": (DISPATCHER, ctypes.c_uint8, ctypes.c_uint64),
     "onfi_audit_begin": (*PROBLEM[:3], ctypes.POINTER(CAudit)),
     "onfi_audit_phase": (ctypes.POINTER(CAudit), ctypes.POINTER(CPhase), ctypes.POINTER(CLogBroken)),
     "onfi_audit_ready": (ctypes.POINTER(CAudit), ctypes.c_uint8, ctypes.c_uint64),
@@ -62,7 +54,7 @@ CALLS = {
     "onfi_status_text": (ctypes.c_uint32, *ROOM),
 }
 # Those that are told lengths of sectors too, before all else.
-TOLD = ("onfi_plan_within", "onfi_plan_rule", "onfi_plan_early", "onfi_check_within", "onfi_breach", "onfi_choose", "onfi_due", "onfi_ran", "onfi_audit_begin")
+TOLD = ("onfi_plan_within", "onfi_plan_rule", "onfi_plan_early", "onfi_check_within", "onfi_breach", "onfi_due", "onfi_ran", "onfi_audit_begin")
 CALLS.update({f"{name}_by": (LENGTHS, *CALLS[name]) for name in TOLD})
 
 

@@ -35,6 +35,12 @@ class LogCondition(enum.Enum):
     """A group starts once its LUN is free."""
     NOT_READY = "NotReady"
     """A further phase of a group starts once the wait after the one before it is over."""
+    NOT_CLOSED = "NotClosed"
+    """After a closer that another plane's command must follow no post comes; of lines alone, as the two below."""
+    OTHER_END = "OtherEnd"
+    """END of a line is when its phase ends."""
+    OTHER_BYTES = "OtherBytes"
+    """The command bytes of a line are those of its phase."""
 
 
 @dataclass(frozen=True)
@@ -51,10 +57,25 @@ class Logged:
     block: int
     page: int
 
+    @classmethod
+    def of_line(cls, line: str) -> Logged:
+        """The phase of a line as `audit` takes it, of a read of a whole page; END, bytes and request aren't looked at. `ValueError` of another line."""
+        words = line.split()
+        at = {6: 1, 7: 1, 9: 2, 10: 2}.get(len(words))
+        if at is None or words[at + 1] not in KINDS or words[at + 2] not in ("cmd", "post"):
+            raise ValueError(f"a line that is no phase: {line}")
+        block, page = (int(word) for word in words[at + 3 : at + 5])
+        return cls(int(words[0]), int(words[at]), KINDS[words[at + 1]], words[at + 2] == "post", block, page)
+
+
+KINDS = {"read": Kind.READ, "program": Kind.PROGRAM, "erase": Kind.ERASE}
+# What a log has: phases, or lines of text.
+Entry = Union[Phase, Logged, str]
+
 
 @dataclass(frozen=True)
 class LogBreach:
-    """A condition that a phase breaks. What it doesn't tell is None. Times are ns."""
+    """A condition that a phase breaks. What it doesn't tell is None. Times are ns. `pandas.DataFrame` takes a list of `row`s."""
 
     at: int
     """The place of the phase in the log, from 0."""
@@ -73,6 +94,18 @@ class LogBreach:
     """The place in the list of wants of the request that comes first on the block."""
     later: Optional[int] = None
     """.. and of the one that began."""
+    end: Optional[int] = None
+    """END of the line."""
+    ends: Optional[int] = None
+    """.. and when its phase ends."""
+    opener: Optional[str] = None
+    """The first command byte of the phase, in hexadecimal."""
+    closer: Optional[str] = None
+    """.. and its last one; `-` where it has none."""
+
+    def row(self) -> Dict[str, Union[int, str, bool, None]]:
+        """All that it tells by name, the condition by its name too: a row of a table."""
+        return {**{name: getattr(self, name) for name in self.__dataclass_fields__}, "condition": self.condition.value}
 
 
 def number_of(word: str) -> int:
@@ -84,7 +117,7 @@ def is_post_of(word: str) -> bool:
 
 
 # What the words after a condition say.
-TOLD: Dict[LogCondition, Tuple[Tuple[str, Callable[[str], Union[int, bool]]], ...]] = {
+TOLD: Dict[LogCondition, Tuple[Tuple[str, Callable[[str], Union[int, bool, str]]], ...]] = {
     LogCondition.NO_LUN: (("lun", number_of),),
     LogCondition.NOTHING_RUNS: (("lun", number_of),),
     LogCondition.OTHER_PHASE: (("lun", number_of), ("is_post", is_post_of), ("block", number_of), ("page", number_of)),
@@ -94,6 +127,9 @@ TOLD: Dict[LogCondition, Tuple[Tuple[str, Callable[[str], Union[int, bool]]], ..
     LogCondition.BUS_NOT_FREE: (("start", number_of), ("earliest", number_of)),
     LogCondition.LUN_NOT_FREE: (("lun", number_of), ("start", number_of), ("earliest", number_of)),
     LogCondition.NOT_READY: (("lun", number_of), ("start", number_of), ("earliest", number_of)),
+    LogCondition.NOT_CLOSED: (("lun", number_of),),
+    LogCondition.OTHER_END: (("end", number_of), ("ends", number_of)),
+    LogCondition.OTHER_BYTES: (("opener", str), ("closer", str)),
 }
 
 
@@ -150,7 +186,12 @@ def script_of(channel: Channel, luns: Sequence[Lun], wants: Sequence[Want], leng
     return "\n".join([*rows, "end\n"])
 
 
-def line_of(phase: Union[Phase, Logged], lengths: Optional[Lengths]) -> str:
+def line_of(phase: Entry, lengths: Optional[Lengths]) -> str:
+    if isinstance(phase, str):
+        line = phase[:-1] if phase.endswith("\n") else phase
+        if "\n" in line:
+            raise ValueError(f"more than a line: {phase!r}")
+        return f"{line}\n"
     if not 0 <= phase.start < 1 << 62:
         raise ValueError(f"the start of a phase is not from 0 to 2^62 - 1: {phase.start}")
     word = word_of(kind_of(phase, lengths))
@@ -174,7 +215,7 @@ def refused_by(line: str) -> Union[Refused, ValueError]:
 def audit(
     channel: Channel,
     luns: Iterable[Lun],
-    phases: Iterable[Union[Phase, Logged]],
+    phases: Iterable[Entry],
     wants: Iterable[Want] = (),
     lengths: Optional[Lengths] = None,
 ) -> Iterator[LogBreach]:
@@ -184,13 +225,14 @@ def audit(
     judged. Commands of a LUN that follow each other without a post between are one group. With wants, of any number, each command is of
     the one that waits first on its block; their ids aren't looked at. Without, each command brings its own request.
 
-    With `lengths` reads may put out some sectors: of wants the first eight, as their kinds say, and without wants as a command's does.
+    A line of text is one as `onfi_sim audit` takes it, of reads of whole pages: its END, its command bytes and the number of its request are
+    judged too. With `lengths` reads may put out some sectors: of wants the first eight, as their kinds say, and without wants as a command's does.
 
     It is what `text_audit` says, with lengths and without wants what `Audit` does, so that it is proved. Raises `BadKind`, `BadLun`,
-    `NoLengths`, `Clock`, `Memory`; `ValueError` where another number of the channel or a phase is out of its range.
+    `NoLengths`, `Clock`, `Memory`; `ValueError` where another number of the channel or a phase is out of its range, or a line says no phase.
     """
-    luns, wants = tuple(luns), tuple(wants)
-    if lengths is not None and not wants:
+    luns, wants, phases = tuple(luns), tuple(wants), tuple(phases)
+    if lengths is not None and not wants and not any(isinstance(phase, str) for phase in phases):
         return iter([*audit_phases(channel, luns, phases, lengths)])
     log = [line_of(phase, lengths) for phase in phases]
     answer = text_audit(script_of(channel, luns, wants, lengths) + "".join(log), each=True)
@@ -199,7 +241,8 @@ def audit(
         raise refused_by(lines[0])
     for line in lines:
         if line.startswith("refused "):
-            raise ValueError(f"a number of phase {int(line.split()[-1]) - 1} is out of its range")
+            at = int(line.split()[-1]) - 1
+            raise ValueError(f"line {at} says no phase: {log[at]!r}" if isinstance(phases[at], str) else f"a number of phase {at} is out of its range")
     return (breach_in(line) for line in lines if line.startswith("illegal "))
 
 
@@ -242,19 +285,23 @@ class Audit:
         """From when on the bus is free, in ns."""
         return int(self._audit.channel.bus_free)
 
-    def judge(self, phase: Union[Phase, Logged]) -> Optional[LogBreach]:
-        """The condition that the next phase breaks; None where it is legal.
+    def judge(self, entry: Entry) -> Optional[LogBreach]:
+        """The condition that the next phase breaks; None where it is legal. Of a line its phase is judged, as `Logged.of_line` has it.
 
         One that only starts too soon counts as run, and any other that breaks a condition as not there. Raises `BadKind`, `Clock`;
         where it begins a request `BadLun` of an erase of another page than 0, `NoLengths`, `Memory`: then it isn't judged, nor counted.
         `ValueError` where a number doesn't fit its place in onfi.h.
         """
-        broken = CLogBroken()
+        phase, broken = Logged.of_line(entry) if isinstance(entry, str) else entry, CLogBroken()
         status = library().onfi_audit_phase(ctypes.byref(self._audit), ctypes.byref(logged(phase)), ctypes.byref(broken))
         if status not in (DONE, Illegal.status):
             raise refusal(status)
         at, self._judged = self._judged, self._judged + 1
         return None if status == DONE else breach_told(at, phase.lun, broken)
+
+    def judge_all(self, entries: Iterable[Entry]) -> Iterator[LogBreach]:
+        """The breaches of phases or lines that come next, in order: each is judged when it is taken from `entries`."""
+        return (breach for breach in map(self.judge, entries) if breach is not None)
 
     def ready(self, lun: int, moment: int) -> None:
         """Notes that the LUN was reported ready at that moment, in ns: what its group has next may come from then on. Raises `BadLun`."""
@@ -264,8 +311,7 @@ class Audit:
 
 
 def audit_phases(
-    channel: Channel, luns: Iterable[Lun], phases: Iterable[Union[Phase, Logged]], lengths: Optional[Lengths] = None
+    channel: Channel, luns: Iterable[Lun], phases: Iterable[Entry], lengths: Optional[Lengths] = None
 ) -> Iterator[LogBreach]:
     """The breaches of a log as it comes, as `Audit.judge` tells them: each phase is judged when it is taken from `phases`."""
-    log = Audit(channel, luns, lengths)
-    return (breach for breach in map(log.judge, phases) if breach is not None)
+    return Audit(channel, luns, lengths).judge_all(phases)

@@ -57,17 +57,6 @@ def keep_tuples(of: object, *names: str) -> None:
         object.__setattr__(of, name, tuple(getattr(of, name)))
 
 
-class Choice(enum.IntEnum):
-    """How a batch is chosen of the requests that wait."""
-
-    IN_ORDER = 0
-    """The oldest ones."""
-    BY_LUN = 1
-    """By LUN, the one that comes free soonest first: its oldest request and those that can join its group."""
-    READS_FIRST = 2
-    """By LUN, and of each its oldest read; where it has none its oldest program, else its oldest erase."""
-
-
 @dataclass(frozen=True)
 class Spans:
     """How long the phases of a kind take, in ns, each below 2^50."""

@@ -13,11 +13,21 @@ class Refused(Exception):
     status = 0
     """The number that onfi.h gives it."""
 
-    def __init__(self, text: str, place: int = 0, breach: Optional[Breach] = None, lun: Optional[int] = None, want: Optional[int] = None) -> None:
+    def __init__(
+        self,
+        text: str,
+        place: int = 0,
+        breach: Optional[Breach] = None,
+        lun: Optional[int] = None,
+        want: Optional[int] = None,
+        request: Optional[int] = None,
+    ) -> None:
         named = [f"luns[{lun}]"] * (lun is not None) + [f"wants[{want}]"] * (want is not None) + [str(breach)] * (breach is not None)
-        super().__init__(": ".join([text, *named]))
+        super().__init__(": ".join([text, *named, *([f"request {request}"] * (request is not None))]))
         self.lun, self.want = lun, want
         """The place, in the list that was given, of the LUN or of the want that it is of; None where it is of none alone."""
+        self.request = request
+        """The number of the request that it is of, by a `Dispatcher`; else None."""
         self.breach = breach
         """The condition that a schedule breaks, of `Illegal` by a check; else None."""
         self.place = place
@@ -74,7 +84,7 @@ class BadMembers(Refused):
 
 
 class TooMany(Refused):
-    """More than eight wants, no LUN, or more than eight."""
+    """More than eight wants, no LUN, or more than eight; or 64 requests wait for the LUN."""
 
     status = 20
 
@@ -103,20 +113,8 @@ class BadGeometry(Refused):
     status = 24
 
 
-class BadChoice(Refused):
-    """The choice of a batch is above 2."""
-
-    status = 25
-
-
-class BadBatch(Refused):
-    """A batch of no request, or of more than eight."""
-
-    status = 26
-
-
 class BadOrder(Refused):
-    """Numbers of requests are equal or don't rise, or reach the count of all that were accepted."""
+    """The number of a request isn't above that of the last one that waits for its LUN, or one of that number waits."""
 
     status = 27
 
@@ -140,7 +138,7 @@ class BadSchedule(Refused):
 
 
 class NothingDue(Refused):
-    """No phase of the schedule is left."""
+    """No phase is left, or none was given since something changed."""
 
     status = 31
 
@@ -155,6 +153,18 @@ class TooSoon(Refused):
     """The phase started before it may."""
 
     status = 34
+
+
+class NotWaiting(Refused):
+    """No request of that number waits."""
+
+    status = 35
+
+
+class BadDispatcher(Refused):
+    """A dispatcher is none: something else wrote its memory."""
+
+    status = 36
 
 
 class BadHeader(Refused):
@@ -409,8 +419,6 @@ REFUSALS: Dict[int, Type[Refused]] = {
         Clock,
         BadPlace,
         BadGeometry,
-        BadChoice,
-        BadBatch,
         BadOrder,
         NoLengths,
         BadSectors,
@@ -418,6 +426,8 @@ REFUSALS: Dict[int, Type[Refused]] = {
         NothingDue,
         NotDue,
         TooSoon,
+        NotWaiting,
+        BadDispatcher,
         BadHeader,
         BadToken,
         TooManyTokens,
@@ -465,8 +475,7 @@ __all__ = [
     "REFUSALS",
     "Refused",
     # from here on written by tools/make-statuses
-    "BadBatch",
-    "BadChoice",
+    "BadDispatcher",
     "BadGeometry",
     "BadHeader",
     "BadKind",
@@ -494,6 +503,7 @@ __all__ = [
     "NoStatusEnhanced",
     "NotDue",
     "NotEnd",
+    "NotWaiting",
     "NothingDue",
     "OtherLeft",
     "OtherOption",

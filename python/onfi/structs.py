@@ -8,7 +8,8 @@ from typing import Any, Callable, Dict, Iterable, Iterator, Sequence, TypeVar, U
 from onfi.breach import Breach, Condition, Difference, NamedPhase, Part, told_by
 from onfi.model import Channel, Device, Geometry, Group, Kind, Lengths, Lun, Output, Phase, Rules, Schedule, Spans, Timing, Want
 
-LUNS, WANTS, MEMBERS, STARTS, SECTORS, WAITERS = 8, 8, 4, 8, 7, 64
+LUNS, WANTS, MEMBERS, STARTS, SECTORS = 8, 8, 4, 8, 7
+DISPATCHER = 2048
 Given = TypeVar("Given")
 Made = TypeVar("Made")
 
@@ -230,12 +231,10 @@ class CPhase(ctypes.Structure):
         return Phase(**made)
 
 
-class CWaiter(ctypes.Structure):
-    _fields_ = [("want", CWant), ("passed", ctypes.c_uint16)]
+class CDispatcher(ctypes.Structure):
+    """What the library alone reads and writes."""
 
-
-class CQueue(ctypes.Structure):
-    _fields_ = [("newest", ctypes.c_uint64), ("count", ctypes.c_uint8), ("has_newest", ctypes.c_uint8), ("waiter", CWaiter * WAITERS)]
+    _fields_ = [("kept", ctypes.c_uint64 * DISPATCHER)]
 
 
 class CStage(ctypes.Structure):

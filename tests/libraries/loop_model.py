@@ -1,15 +1,14 @@
-"""A plain model of the calls of a firmware's own loop: which requests a batch takes, which phase is due, what stands after it.
+"""A plain model of the calls of a firmware's own loop: which phase is due, what stands after it.
 
 It is written from what include/onfi.h says of these calls, over the package's dataclasses, and calls nothing of the library.
 """
 
 from __future__ import annotations
 
-from typing import Dict, List, NamedTuple, Optional, Sequence, Tuple
+from typing import Dict, List, NamedTuple, Sequence, Tuple
 
-from onfi import Channel, Choice, Geometry, Group, Kind, Lun, Phase, Rules, Schedule, Spans, Stand, Want
+from onfi import Channel, Geometry, Group, Kind, Lun, Phase, Rules, Schedule, Spans, Stand, Want
 
-PASSED = 64
 OPENER: Dict[int, int] = {Kind.READ: 0x00, Kind.PROGRAM: 0x80, Kind.ERASE: 0x60}
 LAST: Dict[int, int] = {Kind.READ: 0x30, Kind.PROGRAM: 0x10, Kind.ERASE: 0xD0}
 NOT_LAST: Dict[int, int] = {Kind.READ: 0x32, Kind.PROGRAM: 0x11, Kind.ERASE: 0xD1}
@@ -115,9 +114,6 @@ def stand_behind(channel: Channel, luns: Sequence[Lun], wants: Sequence[Want], s
     return Stand(new_channel, new_luns, [want for want in wants if want.id not in begun], Schedule(tuple(rest), groups))
 
 
-# Which requests a batch takes.
-
-
 def can_join(rules: Rules, one: Want, other: Want) -> bool:
     """Whether two wants may run in one group."""
     planes = 1 << rules.plane_bits
@@ -127,65 +123,3 @@ def can_join(rules: Rules, one: Want, other: Want) -> bool:
         return False
     is_row = not rules.strict or one.block // planes == other.block // planes
     return is_row and one.block % planes != other.block % planes
-
-
-def free_from(channel: Channel, lun: Lun) -> int:
-    """When a LUN comes free if all that is left of its group is done as soon as it can be."""
-    time = max(channel.bus_free, lun.since)
-    if not lun.members:
-        return time
-    spans, members = spans_of(channel, lun.members[0].kind), len(lun.members)
-    lengths = [length_of(spans, members, number) for number in range(lun.next, 2 * members)]
-    waits = [wait_behind(spans, members, number) for number in range(lun.next, 2 * members - 1)]
-    return time + sum(lengths) + sum(waits)
-
-
-class Choosing:
-    """The places that a batch takes so far."""
-
-    def __init__(self, rules: Rules, wants: Sequence[Want], batch: int) -> None:
-        self.rules, self.wants, self.batch = rules, wants, batch
-        self.taken: List[int] = []
-
-    def may_take(self, at: int) -> bool:
-        """Whether it isn't taken, there is room, and all before it on its block are taken."""
-        want = self.wants[at]
-        before = (place for place, other in enumerate(self.wants[:at]) if (other.lun, other.block) == (want.lun, want.block))
-        return at not in self.taken and len(self.taken) < self.batch and all(place in self.taken for place in before)
-
-    def take_group(self, first: int) -> None:
-        """Takes a request and what can join its group, the oldest first."""
-        self.taken.append(first)
-        group = [self.wants[first]]
-        for at, want in enumerate(self.wants):
-            if len(group) < 4 and all(can_join(self.rules, member, want) for member in group) and self.may_take(at):
-                self.taken.append(at)
-                group.append(want)
-
-    def next_of(self, lun: int, reads_first: bool) -> Optional[int]:
-        """The oldest request of a LUN that may be taken, or its oldest read, else program, else erase."""
-        kinds: List[Tuple[Kind, ...]] = [(kind,) for kind in Kind] if reads_first else [tuple(Kind)]
-        for of in kinds:
-            for at, want in enumerate(self.wants):
-                if want.lun == lun and want.kind in of and self.may_take(at):
-                    return at
-        return None
-
-    def take_round(self, order: Sequence[int], reads_first: bool) -> None:
-        for lun in order:
-            at = self.next_of(lun, reads_first)
-            if at is not None:
-                self.take_group(at)
-
-
-def chosen_of(channel: Channel, luns: Sequence[Lun], wants: Sequence[Want], accepted: int, choice: Choice, batch: int) -> List[int]:
-    """The places of the requests that a batch takes, rising."""
-    if choice is Choice.IN_ORDER:
-        return list(range(min(batch, len(wants))))
-    choosing = Choosing(channel.rules, wants, batch)
-    if wants and accepted - wants[0].id - len(wants) >= PASSED:
-        choosing.take_group(0)
-    order = sorted(range(len(luns)), key=lambda lun: (free_from(channel, luns[lun]), lun))
-    for _ in range(batch):
-        choosing.take_round(order, choice is Choice.READS_FIRST)
-    return sorted(choosing.taken)

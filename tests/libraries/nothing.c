@@ -86,7 +86,7 @@ static void by_lengths(void)
     onfi_within plan;
     onfi_verdict verdict;
     uint8_t certificate[64];
-    size_t bytes, count, chosen[ONFI_WANTS];
+    size_t bytes;
     memset(&none, 0, sizeof none);
     expect("no LUN by lengths", onfi_plan_within_by(&none, &channel, NOTHING(onfi_lun), 0, NOTHING(onfi_want), 0, 1, &plan, NOTHING(uint8_t), 0, &bytes), ONFI_TOO_MANY);
     expect("no want by lengths", onfi_plan_within_by(&none, &channel, luns, 1, NOTHING(onfi_want), 0, 1, &plan, certificate, sizeof certificate, &bytes), ONFI_DONE);
@@ -97,8 +97,12 @@ static void by_lengths(void)
     expect("nothing to break", onfi_breach(&channel, luns, 1, NOTHING(onfi_want), 0, &plan.schedule, &broken), ONFI_DONE);
     expect("nothing is broken", broken.condition, ONFI_BREACH_NONE);
     expect("no LUN to break it", onfi_breach_by(&none, &channel, NOTHING(onfi_lun), 0, NOTHING(onfi_want), 0, &plan.schedule, &broken), ONFI_TOO_MANY);
-    expect("nothing to choose", onfi_choose_by(&none, &channel, luns, 1, NOTHING(onfi_want), 0, 0, ONFI_BY_LUN, 8, chosen, &count), ONFI_DONE);
-    expect("nothing is chosen", count, 0);
+    onfi_dispatcher dispatcher;
+    onfi_geometry geometry;
+    memset(&geometry, 0, sizeof geometry);
+    geometry.pages_per_block = geometry.blocks_per_lun = geometry.data_bytes = 1;
+    geometry.lun_count = geometry.row_address_cycles = geometry.column_address_cycles = 1;
+    expect("no LUN to begin with", onfi_dispatcher_begin(&dispatcher, &none, &channel, NOTHING(onfi_lun), 0, &geometry), ONFI_TOO_MANY);
 }
 
 static const char *const no_script = "script refused 0 NoEnd\n";

@@ -282,26 +282,6 @@ static void ruled(void)
     expect("no room", rule_of(&p, &again, NULL, 0, &told), ONFI_DONE);
 }
 
-static uint32_t choice_of(const problem *p, uint64_t accepted, uint8_t choice, uint8_t batch, size_t chosen[ONFI_WANTS], size_t *count)
-{
-    return onfi_choose(&p->channel, p->luns, p->lun_count, p->wants, p->want_count, accepted, choice, batch, chosen, count);
-}
-
-/* A refused choice leaves all as it was. */
-static void choices(void)
-{
-    problem p = usual();
-    size_t chosen[ONFI_WANTS] = {99}, count = 77;
-    expect("no such choice", choice_of(&p, 9, 3, 1, chosen, &count), ONFI_BAD_CHOICE);
-    expect("no request", choice_of(&p, 9, ONFI_BY_LUN, 0, chosen, &count), ONFI_BAD_BATCH);
-    expect("nine requests", choice_of(&p, 9, ONFI_BY_LUN, 9, chosen, &count), ONFI_BAD_BATCH);
-    expect("as many accepted as the last id", choice_of(&p, 8, ONFI_BY_LUN, 1, chosen, &count), ONFI_BAD_ORDER);
-    p.wants[1].id = 7, expect("equal numbers", choice_of(&p, 9, ONFI_BY_LUN, 1, chosen, &count), ONFI_BAD_ORDER);
-    p.wants[1].id = 6, expect("numbers that fall", choice_of(&p, 9, ONFI_IN_ORDER, 1, chosen, &count), ONFI_BAD_ORDER);
-    expect("nothing is chosen", count, 77);
-    expect("nor put there", chosen[0], 99);
-}
-
 /* The phase that is due of a schedule of the usual problem, on a small device. */
 static uint32_t due_of(const problem *p, const onfi_schedule *s, onfi_phase *phase)
 {
@@ -432,115 +412,198 @@ static void devices(void)
     expect("the device is as it was", (uint64_t)memcmp(&device, &before, sizeof device), 0);
 }
 
-typedef struct {
-    problem p;
-    onfi_queue queue;
-} kept;
-
 static const onfi_geometry SMALL = {
     .lun_count = 2, .plane_address_bits = 1, .pages_per_block = 4, .blocks_per_lun = 16, .page_bits = 2, .block_bits = 4, .lun_bits = 1,
     .column_address_cycles = 2, .row_address_cycles = 3, .data_bytes = 2048, .spare_bytes = 64,
 };
+static const onfi_lengths TWO_SECTORS = {.sectors = {0, 500}};
 
-static uint32_t next_of(const kept *k, uint64_t now, onfi_phase *phase)
+static uint32_t begin_of(onfi_dispatcher *d, const problem *p, const onfi_lengths *lengths, const onfi_geometry *device)
 {
-    return onfi_next(&k->p.channel, k->p.luns, k->p.lun_count, &k->queue, &SMALL, now, phase);
+    return onfi_dispatcher_begin(d, lengths, &p->channel, p->luns, p->lun_count, device);
 }
 
-static uint32_t ran_of(kept *k, uint64_t now, uint8_t lun, uint8_t number, uint64_t started)
+static void begins_not(const char *what, const problem *p, const onfi_lengths *lengths, const onfi_geometry *device, uint32_t wanted)
 {
-    return onfi_queue_ran(&k->p.channel, k->p.luns, k->p.lun_count, &k->queue, now, lun, number, started);
+    onfi_dispatcher d, before;
+    memset(&d, 0xA5, sizeof d);
+    memcpy(&before, &d, sizeof d);
+    expect(what, begin_of(&d, p, lengths, device), wanted);
+    expect(what, (uint64_t)memcmp(&d, &before, sizeof d), 0);
 }
 
-static void refuses_want(const char *what, onfi_queue *queue, onfi_want want, uint32_t wanted)
+static void begins(void)
 {
-    onfi_queue before;
-    memcpy(&before, queue, sizeof before);
-    expect(what, onfi_queue_accept(queue, &want), wanted);
-    expect(what, (uint64_t)memcmp(queue, &before, sizeof before), 0);
-}
-
-static void refuses_next(const char *what, const kept *k, uint32_t wanted)
-{
-    onfi_phase phase, before;
-    kept again;
-    memset(&phase, 0xA5, sizeof phase);
-    memcpy(&before, &phase, sizeof phase);
-    memcpy(&again, k, sizeof again);
-    expect(what, next_of(k, 0, &phase), wanted);
-    expect(what, (uint64_t)memcmp(&phase, &before, sizeof phase), 0);
-    expect(what, ran_of(&again, 0, 0, 0, 0), wanted);
-    expect(what, (uint64_t)memcmp(&again, k, sizeof again), 0);
-}
-
-static void refuses_ran(const char *what, const kept *k, uint8_t lun, uint8_t number, uint64_t started, uint32_t wanted)
-{
-    kept again;
-    memcpy(&again, k, sizeof again);
-    expect(what, ran_of(&again, 0, lun, number, started), wanted);
-    expect(what, (uint64_t)memcmp(&again, k, sizeof again), 0);
+    problem p = usual();
+    onfi_lengths lengths = TWO_SECTORS;
+    onfi_geometry device = SMALL;
+    p.channel.timing.erase.cmd = 0, begins_not("a command without length", &p, &lengths, &device, ONFI_ZERO_SPAN);
+    p = usual(), lengths.sectors[6] = UINT64_C(1) << 50, begins_not("a long output", &p, &lengths, &device, ONFI_LONG_SPAN);
+    lengths = TWO_SECTORS, p.channel.rules.plane_bits = 3, begins_not("three plane bits", &p, &lengths, &device, ONFI_BAD_PLANE_BITS);
+    p = usual(), p.luns[1].members = 5, begins_not("five members", &p, &lengths, &device, ONFI_BAD_MEMBERS);
+    p = usual(), p.luns[1].member[0].kind = 3, begins_not("no kind", &p, &lengths, &device, ONFI_BAD_KIND);
+    p = usual(), p.lun_count = 0, begins_not("no LUN", &p, &lengths, &device, ONFI_TOO_MANY);
+    p = usual(), p.lun_count = 9, begins_not("nine LUNs", &p, &lengths, &device, ONFI_TOO_MANY);
+    p = usual(), p.luns[1].next = 2, begins_not("a group that is over", &p, &lengths, &device, ONFI_BAD_LUN);
+    p = usual(), p.luns[1].member[0].lun = 0, begins_not("a member of another LUN", &p, &lengths, &device, ONFI_BAD_LUN);
+    p = usual(), p.luns[1].member[0].kind = ONFI_KIND(ONFI_READ, 1), begins_not("a sector that runs", &p, &lengths, &device, ONFI_NO_LENGTHS);
+    p = usual(), p.channel.bus_free = UINT64_C(1) << 62, begins_not("the end of time", &p, &lengths, &device, ONFI_CLOCK);
+    p = usual(), device.page_bits = 3, begins_not("no device", &p, &lengths, &device, ONFI_BAD_GEOMETRY);
+    device = SMALL, p.luns[1].member[0].block = 16, begins_not("a block that runs", &p, &lengths, &device, ONFI_BAD_PLACE);
 }
 
 /* A read of LUN 0 waits, and LUN 1 runs an erase whose array is ready at 1,000. */
-static kept queued(void)
+static onfi_dispatcher waiting(void)
 {
-    kept k;
-    const onfi_want read = {.id = 7, .kind = ONFI_READ};
-    memset(&k, 0xA5, sizeof k);
-    k.p = usual();
-    expect("an empty queue", onfi_queue_begin(&k.queue), ONFI_DONE);
-    expect("a read comes", onfi_queue_accept(&k.queue, &read), ONFI_DONE);
-    return k;
+    onfi_dispatcher d;
+    const problem p = usual();
+    memset(&d, 0xA5, sizeof d);
+    expect("a dispatcher", begin_of(&d, &p, &TWO_SECTORS, &SMALL), ONFI_DONE);
+    expect("a read comes", onfi_dispatcher_accept(&d, &(onfi_want){.id = 7}), ONFI_DONE);
+    return d;
 }
 
-/* The read's command at once, the erase's status 500 ns late, the read's data; then nothing is left. */
-static void queue_runs(void)
+static void refuses_want(const char *what, onfi_dispatcher *d, onfi_want want, uint32_t wanted)
 {
-    kept k = queued();
-    onfi_phase phase;
-    expect("a command", next_of(&k, 0, &phase), ONFI_DONE);
-    expect("of the read", phase.want, 7);
-    expect("at once", phase.start + phase.number + phase.is_post, 0);
-    expect("ran", ran_of(&k, 0, 0, 0, 0), ONFI_DONE);
-    expect("the bus is free behind it", k.p.channel.bus_free, 140);
-    expect("its array works", k.p.luns[0].since, 25240);
-    expect("it runs on its LUN", k.p.luns[0].members + k.p.luns[0].member[0].id, 8);
-    expect("and waits no more", k.queue.count, 0);
-    expect("a status", next_of(&k, 140, &phase), ONFI_DONE);
-    expect("of the erase", phase.kind, ONFI_ERASE);
-    expect("when its array is ready", phase.start, 1000);
-    expect("ran late", ran_of(&k, 140, 1, 1, 1500), ONFI_DONE);
-    expect("the bus is free later", k.p.channel.bus_free, 1780);
-    expect("its LUN is free", k.p.luns[1].members, 0);
-    expect("the data", next_of(&k, 1780, &phase), ONFI_DONE);
-    expect("of the read", phase.start + phase.is_post, 25241);
-    expect("ran", ran_of(&k, 1780, 0, 1, 25240), ONFI_DONE);
-    expect("nothing is left", next_of(&k, 40000, &phase), ONFI_NOTHING_DUE);
+    onfi_dispatcher before = *d;
+    expect(what, onfi_dispatcher_accept(d, &want), wanted);
+    expect(what, (uint64_t)memcmp(d, &before, sizeof before), 0);
+    if (wanted != ONFI_BAD_ORDER) {
+        expect(what, onfi_dispatcher_accept_again(d, &want), wanted);
+        expect(what, (uint64_t)memcmp(d, &before, sizeof before), 0);
+    }
 }
 
-static void queues(void)
+static void refuses_again(const char *what, onfi_dispatcher *d, onfi_want want, uint32_t wanted)
 {
-    kept k = queued();
-    refuses_want("an id again", &k.queue, (onfi_want){.id = 7}, ONFI_BAD_ORDER);
-    refuses_want("a kind", &k.queue, (onfi_want){.id = 8, .kind = 3}, ONFI_BAD_KIND);
-    refuses_want("LUN 8", &k.queue, (onfi_want){.id = 8, .lun = 8}, ONFI_BAD_LUN);
-    refuses_want("an erase of a page", &k.queue, (onfi_want){.id = 8, .kind = ONFI_ERASE, .page = 1}, ONFI_BAD_LUN);
-    refuses_ran("another LUN", &k, 1, 0, 0, ONFI_NOT_DUE);
-    refuses_ran("another phase", &k, 0, 1, 0, ONFI_NOT_DUE);
-    refuses_ran("the end of time", &k, 0, 0, UINT64_C(1) << 62, ONFI_CLOCK);
-    k.p.channel.bus_free = 10, refuses_ran("too soon", &k, 0, 0, 9, ONFI_TOO_SOON);
-    k = queued(), k.queue.waiter[0].want.block = 16;
+    onfi_dispatcher before = *d;
+    expect(what, onfi_dispatcher_accept_again(d, &want), wanted);
+    expect(what, (uint64_t)memcmp(d, &before, sizeof before), 0);
+}
+
+static void next_is(const char *what, onfi_dispatcher *d, uint64_t now, uint64_t start, uint64_t want, uint8_t kind, bool is_post)
+{
     onfi_phase phase;
-    expect("a block that isn't there", next_of(&k, 0, &phase), ONFI_BAD_PLACE);
-    k = queued(), k.queue.count = 65, refuses_next("65 requests", &k, ONFI_TOO_MANY);
-    k = queued(), k.p.lun_count = 9, refuses_next("nine LUNs", &k, ONFI_TOO_MANY);
-    k = queued(), k.p.luns[1].members = 5, refuses_next("five members", &k, ONFI_BAD_MEMBERS);
-    k = queued(), k.queue.count = 0, k.p.luns[1].next = 2, refuses_next("a group that is over", &k, ONFI_BAD_LUN);
-    k = queued(), k.queue.count = 0, k.p.luns[1].members = 0, refuses_next("nothing", &k, ONFI_NOTHING_DUE);
-    k = queued(), k.p.channel.bus_free = UINT64_C(1) << 62, refuses_next("the end of time", &k, ONFI_CLOCK);
+    expect(what, onfi_dispatcher_next(d, now, &phase), ONFI_DONE);
+    expect(what, phase.start, start);
+    expect(what, phase.want, want);
+    expect(what, phase.kind, kind);
+    expect(what, phase.is_post, is_post);
+}
+
+static void next_is_none(const char *what, onfi_dispatcher *d, uint64_t now, uint32_t wanted)
+{
+    onfi_phase phase, before;
+    memset(&phase, 0xA5, sizeof phase);
+    memcpy(&before, &phase, sizeof phase);
+    expect(what, onfi_dispatcher_next(d, now, &phase), wanted);
+    expect(what, (uint64_t)memcmp(&phase, &before, sizeof phase), 0);
+}
+
+/* The read's command at once, the erase's status 500 ns late, the read's data; then nothing is left. What is refused changes nothing. */
+static void dispatched(void)
+{
+    onfi_dispatcher d = waiting();
+    next_is("the read's command", &d, 0, 0, 7, ONFI_READ, false);
+    refuses_want("a page that isn't there", &d, (onfi_want){.id = 8, .page = 4}, ONFI_BAD_PLACE);
+    expect("the command ran all the same", onfi_dispatcher_ran(&d, 0), ONFI_DONE);
+    next_is("the erase's status", &d, 140, 1000, usual().luns[1].member[0].id, ONFI_ERASE, true);
+    expect("ran late", onfi_dispatcher_ran(&d, 1500), ONFI_DONE);
+    expect("two sectors come", onfi_dispatcher_accept(&d, &(onfi_want){.id = 8, .kind = ONFI_KIND(ONFI_READ, 2), .lun = 1}), ONFI_DONE);
+    next_is("their command", &d, 1780, 1780, 8, ONFI_KIND(ONFI_READ, 2), false);
+    expect("ran", onfi_dispatcher_ran(&d, 1780), ONFI_DONE);
+    next_is("the read's data", &d, 1920, 25240, 7, ONFI_READ, true);
+    expect("its LUN is ready early", onfi_dispatcher_ready(&d, 0, 2000), ONFI_DONE);
+    next_is("the read's data by then", &d, 1920, 2000, 7, ONFI_READ, true);
+    expect("ran", onfi_dispatcher_ran(&d, 2000), ONFI_DONE);
+    expect("it comes once more", onfi_dispatcher_accept_again(&d, &(onfi_want){.id = 7}), ONFI_DONE);
+    expect("and isn't wanted", onfi_dispatcher_cancel(&d, 7), ONFI_DONE);
+    onfi_phase phase;
+    expect("the sectors", onfi_dispatcher_next(&d, 30000, &phase), ONFI_DONE);
+    expect("as long as they are", phase.end - phase.start, 500);
+    expect("ran", onfi_dispatcher_ran(&d, 30000), ONFI_DONE);
+    next_is_none("nothing is left", &d, 40000, ONFI_NOTHING_DUE);
+}
+
+static void dispatches(void)
+{
+    onfi_dispatcher d = waiting(), before;
+    begins();
+    expect("nothing was given", onfi_dispatcher_ran(&d, 0), ONFI_NOTHING_DUE);
+    refuses_want("an id again", &d, (onfi_want){.id = 7}, ONFI_BAD_ORDER);
+    refuses_again("one that waits", &d, (onfi_want){.id = 7}, ONFI_BAD_ORDER);
+    refuses_want("a kind", &d, (onfi_want){.id = 8, .kind = 3}, ONFI_BAD_KIND);
+    refuses_want("LUN 2", &d, (onfi_want){.id = 8, .lun = 2}, ONFI_BAD_PLACE);
+    refuses_want("block 16", &d, (onfi_want){.id = 8, .block = 16}, ONFI_BAD_PLACE);
+    refuses_want("an erase of a page", &d, (onfi_want){.id = 8, .kind = ONFI_ERASE, .page = 1}, ONFI_BAD_LUN);
+    refuses_want("a sector", &d, (onfi_want){.id = 8, .kind = ONFI_KIND(ONFI_READ, 1)}, ONFI_NO_LENGTHS);
+    refuses_want("two sectors of a program", &d, (onfi_want){.id = 8, .kind = ONFI_KIND(ONFI_PROGRAM, 2)}, ONFI_NO_LENGTHS);
+    next_is("a command", &d, 10, 10, 7, ONFI_READ, false);
+    before = d;
+    expect("too soon", onfi_dispatcher_ran(&d, 9), ONFI_TOO_SOON);
+    expect("the end of time", onfi_dispatcher_ran(&d, UINT64_C(1) << 62), ONFI_CLOCK);
+    expect("a LUN that isn't there", onfi_dispatcher_ready(&d, 2, 0), ONFI_BAD_LUN);
+    expect("a LUN that runs nothing", onfi_dispatcher_ready(&d, 0, 0), ONFI_NOT_DUE);
+    expect("no such request", onfi_dispatcher_cancel(&d, 8), ONFI_NOT_WAITING);
+    expect("all is as it was", (uint64_t)memcmp(&d, &before, sizeof d), 0);
+    next_is_none("no phase at the end of time", &d, UINT64_C(1) << 62, ONFI_CLOCK);
     for (uint64_t id = 8; id < 71; id++)
-        expect("64 requests", onfi_queue_accept(&k.queue, &(onfi_want){.id = id}), ONFI_DONE);
-    refuses_want("one more", &k.queue, (onfi_want){.id = 71}, ONFI_TOO_MANY);
+        expect("64 requests", onfi_dispatcher_accept(&d, &(onfi_want){.id = id}), ONFI_DONE);
+    refuses_want("one more", &d, (onfi_want){.id = 71}, ONFI_TOO_MANY);
+    problem p = usual();
+    p.lun_count = 1;
+    expect("one LUN", begin_of(&d, &p, &TWO_SECTORS, &SMALL), ONFI_DONE);
+    next_is_none("on which nothing waits", &d, 0, ONFI_NOTHING_DUE);
+    refuses_want("the other", &d, (onfi_want){.id = 8, .lun = 1}, ONFI_BAD_LUN);
+}
+
+/* A dispatcher's memory is enough: what begins writes 16,016 bytes of it, and none past it. */
+static void dispatcher_size(void)
+{
+    const problem p = usual();
+    uint64_t room[ONFI_DISPATCHER_WORDS + 16];
+    memset(room, 0xA5, sizeof room);
+    expect("a dispatcher", begin_of((onfi_dispatcher *)room, &p, &TWO_SECTORS, &SMALL), ONFI_DONE);
+    for (unsigned word = 16016 / 8; word < ONFI_DISPATCHER_WORDS + 16; word++)
+        expect("a word after it", room[word], UINT64_C(0xA5A5A5A5A5A5A5A5));
+    expect("its words", sizeof(onfi_dispatcher), 16384);
+}
+
+/* Memory that no call wrote is no dispatcher. */
+static void foreign_memory(void)
+{
+    onfi_dispatcher d;
+    onfi_phase phase;
+    const onfi_want want = {.id = 9};
+    for (int byte = 0; byte < 256; byte += 255) {
+        memset(&d, byte, sizeof d);
+        expect("a request", onfi_dispatcher_accept(&d, &want), ONFI_BAD_DISPATCHER);
+        expect("one that comes again", onfi_dispatcher_accept_again(&d, &want), ONFI_BAD_DISPATCHER);
+        expect("one that goes", onfi_dispatcher_cancel(&d, 9), ONFI_BAD_DISPATCHER);
+        expect("a phase", onfi_dispatcher_next(&d, 0, &phase), ONFI_BAD_DISPATCHER);
+        expect("a phase that ran", onfi_dispatcher_ran(&d, 0), ONFI_BAD_DISPATCHER);
+        expect("a LUN that is ready", onfi_dispatcher_ready(&d, 0, 0), ONFI_BAD_DISPATCHER);
+    }
+}
+
+/* Whatever else a dispatcher's memory has, no call reads or writes past it. */
+static void broken_memory(void)
+{
+    onfi_phase phase;
+    for (unsigned seed = 0; seed < 20000; seed++) {
+        onfi_dispatcher *d = malloc(sizeof *d);
+        if (!d)
+            exit(EXIT_FAILURE);
+        *d = waiting();
+        for (unsigned count = 0; count < 1 + seed % 50; count++)
+            ((uint8_t *)d)[(seed * 7919u + count * 104729u) % sizeof *d] = (uint8_t)(seed % 3 ? seed * 31 + count : 255);
+        onfi_dispatcher_accept(d, &(onfi_want){.id = 9, .lun = seed % 2});
+        for (unsigned turn = 0; turn < 8; turn++)
+            if (onfi_dispatcher_next(d, turn, &phase) == ONFI_DONE)
+                onfi_dispatcher_ran(d, phase.start);
+        onfi_dispatcher_ready(d, 1, 5), onfi_dispatcher_cancel(d, 7), onfi_dispatcher_accept_again(d, &(onfi_want){.id = 3});
+        free(d);
+    }
 }
 
 static void texts(void)
@@ -572,19 +635,24 @@ static void texts(void)
         expect("texts are short", onfi_status_text(status, room, sizeof room, &bytes), ONFI_DONE);
 }
 
-int main(void)
+/* With an argument also on memory of which every byte may be anything: not of a library whose sums are checked as they run. */
+int main(int count, char **words)
 {
+    (void)words;
     channels();
     rooms();
     schedules();
     remembered();
     within();
     ruled();
-    choices();
     phases();
     last_times();
-    queue_runs();
-    queues();
+    dispatched();
+    dispatches();
+    dispatcher_size();
+    foreign_memory();
+    if (count > 1)
+        broken_memory();
     devices();
     texts();
     printf("%u tried, %u failed\n", tried, failed);

@@ -164,7 +164,7 @@ static void refuses(const char *what, const problem *p, uint32_t wanted)
     onfi_phase phase, same;
     onfi_verdict verdict;
     onfi_schedule left = none;
-    size_t bytes = 1, count = p->want_count, chosen[ONFI_WANTS];
+    size_t bytes = 1, count = p->want_count;
     memset(&plan, 0xA5, sizeof plan), memcpy(&before, &plan, sizeof plan);
     memset(&phase, 0xA5, sizeof phase), memcpy(&same, &phase, sizeof phase);
     expect(what, onfi_plan_within_by(SAID(p), ONFI_NODES, &plan, NULL, 0, &bytes), wanted);
@@ -179,8 +179,6 @@ static void refuses(const char *what, const problem *p, uint32_t wanted)
         expect(what, onfi_ran_by(&q.lengths, &q.channel, q.luns, q.lun_count, q.wants, &count, &left, 0, 0, 0), wanted);
         expect(what, (uint64_t)memcmp(&q, p, sizeof q) + (uint64_t)memcmp(&left, &none, sizeof left), 0);
     }
-    if (wanted < ONFI_TOO_MANY)
-        expect(what, onfi_choose_by(SAID(p), 9, ONFI_BY_LUN, 8, chosen, &count), wanted);
 }
 
 static void refusals(void)
@@ -224,22 +222,15 @@ static void without(void)
     onfi_phase phase;
     onfi_schedule none = {.luns = 2};
     onfi_verdict verdict;
-    size_t bytes, count = 1, chosen[ONFI_WANTS];
+    size_t bytes, count = 1;
     add(&p, SECTORS(1), 0, 0, 0);
 #define PLAIN &p.channel, p.luns, p.lun_count, p.wants, p.want_count
     expect("onfi_plan", onfi_plan(PLAIN, ONFI_NODES, &plan, NULL, 0, &bytes), ONFI_BAD_KIND);
     expect("onfi_plan_within", onfi_plan_within(PLAIN, ONFI_NODES, &within, NULL, 0, &bytes), ONFI_BAD_KIND);
     expect("onfi_plan_rule", onfi_plan_rule(PLAIN, &within, NULL, 0, &bytes), ONFI_BAD_KIND);
     expect("onfi_check_within", onfi_check_within(PLAIN, &none, 0, NULL, 0, &verdict), ONFI_BAD_KIND);
-    expect("onfi_choose", onfi_choose(PLAIN, 1, ONFI_BY_LUN, 1, chosen, &count), ONFI_BAD_KIND);
     expect("onfi_due", onfi_due(PLAIN, &geometry, &none, &phase), ONFI_BAD_KIND);
     expect("onfi_ran", onfi_ran(&p.channel, p.luns, p.lun_count, p.wants, &count, &none, 0, 0, 0), ONFI_BAD_KIND);
-    onfi_queue queue;
-    onfi_queue_begin(&queue);
-    expect("onfi_queue_accept", onfi_queue_accept(&queue, &p.wants[0]), ONFI_BAD_KIND);
-    queue.count = 1, queue.waiter[0] = (onfi_waiter){.want = p.wants[0]};
-    expect("what a queue has all the same", onfi_next(&p.channel, p.luns, p.lun_count, &queue, &geometry, 0, &phase), ONFI_DONE);
-    expect("is an erase", phase.kind, ONFI_ERASE);
 }
 
 /* Phase by phase: bytes and kinds are those of reads, posts are as long as is stated, and what began waits no more. */
@@ -281,22 +272,6 @@ static void phases(void)
     to_the_end(p, &plan);
     onfi_phase phase;
     expect("a start in the later half of the clock is looked at too", onfi_due_by(SAID(&p), &geometry, &plan.schedule, &phase), ONFI_DONE);
-}
-
-/* By which LUN comes free first: a sector is out before a page. */
-static void chosen(void)
-{
-    problem p = usual();
-    size_t places[ONFI_WANTS], count;
-    p.luns[0] = (onfi_lun){.since = 0, .members = 1, .next = 1, .member = {{.kind = ONFI_READ}}};
-    p.luns[1] = (onfi_lun){.since = 0, .members = 1, .next = 1, .member = {{.kind = SECTORS(1), .lun = 1}}};
-    add(&p, SECTORS(2), 0, 2, 0), add(&p, SECTORS(2), 1, 2, 0);
-    expect("a choice", onfi_choose_by(SAID(&p), 2, ONFI_BY_LUN, 1, places, &count), ONFI_DONE);
-    expect("of one", count, 1);
-    expect("that of the LUN whose sector is out first", places[0], 1);
-    p.luns[1].member[0].kind = ONFI_READ;
-    expect("pages", onfi_choose_by(SAID(&p), 2, ONFI_BY_LUN, 1, places, &count), ONFI_DONE);
-    expect("of equals the first", places[0], 0);
 }
 
 /* The column and the count of bytes of what a phase puts out, in one number; else the status, or 0 where something was given beside it. */
@@ -403,7 +378,6 @@ int main(void)
     without();
     phases();
     outputs();
-    chosen();
     same();
     printf("%u tried, %u failed\n", tried, failed);
     return failed != 0;

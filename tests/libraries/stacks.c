@@ -213,33 +213,24 @@ static void try_phases(const onfi_lengths *lengths, problem *p)
     }
 }
 
-/* As many requests as may wait, chosen of and run without batches. */
+/* As many requests as may wait for a LUN, run phase by phase. */
 static void try_waiting(const onfi_lengths *lengths, problem *p)
 {
-    static onfi_queue queue;
-    static onfi_want waiting[ONFI_WAITERS];
-    static uint16_t passed[ONFI_WAITERS];
-    size_t chosen[ONFI_WANTS], count;
-    FLAT(onfi_queue_begin, &queue);
-    for (uint32_t at = 0; at < ONFI_WAITERS; at++) {
-        waiting[at] = (onfi_want){at, (uint8_t)drawn(3), (uint8_t)drawn((uint32_t)p->lun_count), (uint16_t)drawn(16), 0};
-        passed[at] = (uint16_t)drawn(600);
-        FLAT(onfi_queue_accept, &queue, &waiting[at]);
+    static onfi_dispatcher dispatcher;
+    FLAT(onfi_dispatcher_begin, &dispatcher, lengths, &p->channel, p->luns, p->lun_count, &geometry);
+    for (uint32_t at = 0; at < p->lun_count * ONFI_WAITERS; at++) {
+        onfi_want want = {at + 1, drawn_kind(true), (uint8_t)(at % p->lun_count), (uint16_t)drawn(16), 0};
+        FLAT(onfi_dispatcher_accept, &dispatcher, &want);
     }
-    for (uint8_t choice = 0; choice < 3; choice++) {
-        FLAT(onfi_choose, &p->channel, p->luns, p->lun_count, waiting, ONFI_WAITERS, ONFI_WAITERS, choice, 8, chosen, &count);
-        FLAT(onfi_choose_by, lengths, &p->channel, p->luns, p->lun_count, waiting, ONFI_WAITERS, ONFI_WAITERS, choice, 8, chosen, &count);
-    }
-    FLAT(onfi_choose_whole, &p->channel, p->luns, p->lun_count, waiting, ONFI_WAITERS, passed, ONFI_WAITERS, true, 63, 8, chosen, &count);
-    for (int turn = 0; turn < 100; turn++) {
-        uint64_t now = p->channel.bus_free;
-        if (onfi_next(&p->channel, p->luns, p->lun_count, &queue, &geometry, now, &phase) != ONFI_DONE)
+    for (int turn = 0; turn < 200; turn++) {
+        FLAT(onfi_dispatcher_next, &dispatcher, 0, &phase);
+        if (status != ONFI_DONE)
             break;
-        FLAT(onfi_next, &p->channel, p->luns, p->lun_count, &queue, &geometry, now, &phase);
-        problem before = *p;
-        onfi_queue left = queue;
-        FLAT(onfi_queue_ran, &before.channel, before.luns, before.lun_count, &left, now, phase.lun, phase.number, phase.start);
-        onfi_queue_ran(&p->channel, p->luns, p->lun_count, &queue, now, phase.lun, phase.number, phase.start);
+        onfi_want again = {1000u + (uint32_t)turn, drawn_kind(true), phase.lun, 40, 0};
+        FLAT(onfi_dispatcher_ran, &dispatcher, phase.start);
+        FLAT(onfi_dispatcher_ready, &dispatcher, phase.lun, phase.end);
+        FLAT(onfi_dispatcher_accept_again, &dispatcher, &again);
+        FLAT(onfi_dispatcher_cancel, &dispatcher, again.id);
     }
 }
 

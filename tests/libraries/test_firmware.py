@@ -28,18 +28,18 @@ WAYS = ["phases", "plans", "greedy"]
 # Runs by each way, whose plans are more than 10,000 together: what a loop, a device, a choice and a planner can be.
 RUNS = [
     "requests 500",
-    "requests 800 byte 0.833 slack 0 workload erases choice reads-first weights equal",
+    "requests 800 byte 0.833 slack 0 workload erases weights equal",
     "requests 1000 device slc load 0.7 array 0.4-0.7",
-    "requests 300 byte 0.833 depth 256 workload erases choice one-kind weights reads",
+    "requests 300 byte 0.833 depth 256 workload erases weights reads",
     "requests 800 device slc late 700 slow 90 array 0.4-0.7 depth 256 workload sequential",
     "requests 2000 plan within",
     "requests 1500 plan within load 0.5 array 0.7-0.9 told no workload erases luns 2 byte 0.833",
-    "requests 1500 plan within device slc workload reads luns 4 depth 16 choice in-order",
+    "requests 1500 plan within device slc workload reads luns 4 depth 16",
     "requests 1000 plan within device qlc byte 20 limit 200 load 0.8",
-    "requests 1500 plan within load 0.9 array 0.4-0.9 choice reads-first",
+    "requests 1500 plan within load 0.9 array 0.4-0.9",
     "requests 800 plan rule byte 0.833 workload erases depth 256",
-    "requests 800 plan rule choice one-kind load 0.7 array 0.4-0.7 late 300 slow 60",
-    "requests 800 workload mixed-4k choice one-kind weights reads byte 0.833",
+    "requests 800 plan rule load 0.7 array 0.4-0.7 late 300 slow 60",
+    "requests 800 workload mixed-4k weights reads byte 0.833",
     "requests 800 workload reads-4k plan within load 0.7 array 0.4-0.7",
 ]
 PLANS = 10_000
@@ -181,6 +181,13 @@ class Driver(unittest.TestCase):
             told = self.told(sane(), f"{word} requests 20")
             self.assertEqual(re.findall(r"^(\w+): ", told, re.MULTILINE), ways, word)
 
+    def test_a_bad_request_is_refused_and_the_others_go_on(self) -> None:
+        """Every third one is asked for on a block that isn't there as well: each request ends when it does without."""
+        for words in ("requests 300", "requests 300 device slc workload erases load 0.7 array 0.4-0.7 depth 256"):
+            alone = self.told(sane(), f"{words} ends yes")
+            self.assertEqual(self.told(sane(), f"{words} ends yes bad 3"), alone)
+            self.assertEqual(len(ends_of(alone)), 300)
+
     def test_so_much_time_in_place_of_so_many_requests(self) -> None:
         ends = ends_of(self.told(sane(), "way greedy seconds 0.05 ends yes"))
         self.assertAlmostEqual(max(ends.values()), 50_000_000, delta=1_000_000)
@@ -226,24 +233,9 @@ class Simulated(unittest.TestCase):
         simulator = rolling_use.build(Path(ROOM.name) / "planned", LIBRARY)
         for words in SIMULATED:
             both = [*words.split(), "requests", "200", "limit", "2000", "slack", "20"]
-            found = ends_of(run(sane(), *both, "way", "plans", "choice", "in-order", "ends", "yes").stdout)
+            found = ends_of(run(sane(), *both, "way", "plans", "ends", "yes").stdout)
             self.assertEqual(found, simulated_ends(simulator, [*both, "way", "plan-early"]), words)
             self.assertEqual(len(found), 200, words)
-
-    def test_plans_by_choice(self) -> None:
-        simulator = rolling_use.build(Path(ROOM.name) / "chosen", LIBRARY)
-        settings = {
-            "plan-near-by-lun": "choice by-lun weights age",
-            "plan-near-reads-first": "choice reads-first weights equal",
-            "plan-near-heavy-reads": "choice reads-first weights reads",
-            "plan-near-one-kind": "choice one-kind weights reads",
-        }
-        for way, setting in settings.items():
-            for words in SIMULATED:
-                both = [*words.split(), "requests", "100", "limit", "2000"]
-                found = ends_of(run(sane(), *both, *setting.split(), "slack", "20", "way", "plans", "ends", "yes").stdout)
-                self.assertEqual(found, simulated_ends(simulator, [*both, "way", way]), (way, words))
-                self.assertEqual(len(found), 100, words)
 
 
 class Board(unittest.TestCase):
@@ -256,7 +248,7 @@ class Board(unittest.TestCase):
 class Suspends(unittest.TestCase):
     """Programs that are stopped for reads: the board's mock judges each phase, and reads are answered sooner."""
 
-    SOURCES = ["suspend.c", *(f"firmware{part}.c" for part in ("", "_plans", "_choice", "_board", "_host"))]
+    SOURCES = ["suspend.c", *(f"firmware{part}.c" for part in ("", "_board", "_host"))]
     LINES = re.compile(r"without: 0 stops\n(.*\n)(.*\n)with suspends: (\d+) stops\n(.*\n)(.*\n)")
     LATENCY = re.compile(r"  (\d+) (reads|programs): ([\d.]+) us in the mean, 99 % within ([\d.]+) us\n")
 
@@ -344,7 +336,7 @@ class Drive(unittest.TestCase):
             told = self.by_python(python, f"--ends {words}")
             for channel in (0, 1):
                 found = ends_of("\n".join(line for line in told.splitlines() if line.startswith(f"{channel} ")))
-                wanted = ends_of(run(sane(), *in_c.split(), *f"way plans ends yes requests 150 seed {channel + 1}".split()).stdout)
+                wanted = ends_of(run(sane(), *in_c.split(), *f"ends yes requests 150 seed {channel + 1}".split()).stdout)
                 self.assertEqual({at: found.get(at) for at in wanted}, wanted, (words, channel))
 
 

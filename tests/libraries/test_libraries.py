@@ -161,24 +161,15 @@ class Examples(unittest.TestCase):
 
 class Refusals(unittest.TestCase):
     def test_in_c(self) -> None:
-        told = run(build(ROOT / "tests/libraries/refusals.c"))
+        words = [] if b"onfi_c: unproved" in (LIBRARY / "libonfi.a").read_bytes() else ["memory"]
+        told = run(build(ROOT / "tests/libraries/refusals.c"), *words)
         self.assertEqual((told.returncode, told.stderr), (0, b""), told.stdout.decode())
-
-
-class Choices(unittest.TestCase):
-    def test_batches_by_hand(self) -> None:
-        told = run(build(ROOT / "tests/libraries/choices.c", C11, ROOT / "examples/c/firmware_choice.c"))
-        self.assertEqual((told.returncode, told.stderr, told.stdout), (0, b"", b"40 tried, 0 failed\n"))
-
-    def test_whole_groups_by_hand(self) -> None:
-        told = run(build(ROOT / "tests/libraries/wholes.c"))
-        self.assertEqual((told.returncode, told.stderr, told.stdout), (0, b"", b"26 tried, 0 failed\n"))
 
 
 class Sectors(unittest.TestCase):
     def test_in_c(self) -> None:
         told = run(build(ROOT / "tests/libraries/sectors.c"))
-        self.assertEqual((told.returncode, told.stderr, told.stdout), (0, b"", b"1542 tried, 0 failed\n"))
+        self.assertEqual((told.returncode, told.stderr, told.stdout), (0, b"", b"1524 tried, 0 failed\n"))
 
 
 class Audits(unittest.TestCase):
@@ -258,7 +249,7 @@ class Nothing(unittest.TestCase):
         for compiler in (C11, CXX):
             told = run(build(ROOT / "tests/libraries/nothing.c", compiler), str(page))
             self.assertEqual((told.returncode, told.stderr), (0, b""), told.stdout.decode())
-            self.assertEqual(told.stdout, b"94 tried, 0 failed\n")
+            self.assertEqual(told.stdout, b"93 tried, 0 failed\n")
 
 
 def said(script: str) -> Tuple[onfi.Channel, List[onfi.Lun], List[onfi.Want]]:

@@ -1,4 +1,4 @@
-"""Random loops of a firmware: choose, plan, run phase after phase, each call against a plain model of it."""
+"""Random loops of a firmware: plan, run phase after phase, each call against a plain model of it."""
 
 from __future__ import annotations
 
@@ -17,7 +17,7 @@ os.environ.setdefault("ONFI_LIBRARY", str(Path(os.environ.get("ONFI_LIBRARIES", 
 
 import onfi  # noqa: E402
 from drawn_loops import bits_for, drawn_channel, drawn_geometry, drawn_schedule, drawn_want  # noqa: E402
-from loop_model import Part, chosen_of, parts_of, phase_of, row_of, stand_behind  # noqa: E402
+from loop_model import Part, parts_of, phase_of, row_of, stand_behind  # noqa: E402
 
 LOOPS = int(os.environ.get("ONFI_LOOPS", "1000"))
 PLANS = 4
@@ -39,26 +39,18 @@ class Loop:
         self.phases = 0
 
     def accept(self) -> None:
-        """Takes requests in. Now and then others have come before one, that have started: they passed over what waits."""
+        """Takes requests in."""
         for _ in range(self.draw.randint(0, 12)):
-            self.accepted += self.draw.randint(55, 66) if self.draw.random() < 0.06 else 0
             want = drawn_want(self.draw, self.accepted, self.geometry)
             self.test.assertEqual(onfi.row(self.geometry, want.lun, want.block, want.page), row_of(self.geometry, want))
             self.queue.append(want)
             self.accepted += 1
 
-    def choose(self) -> None:
-        choice, size = self.draw.choice(list(onfi.Choice)), self.draw.choice((1, 3, 8, 8))
-        said = (self.channel, self.luns, self.queue, self.accepted, choice, size)
-        places = chosen_of(*said)
-        self.test.assertEqual(list(onfi.choose(*said)), places)
-        self.batch = [self.queue[place] for place in places]
-
     def plan(self) -> None:
-        """From now on: time may have passed, and a LUN may be ready before its time."""
+        """The first ones, from now on: time may have passed, and a LUN may be ready before its time."""
         self.channel = dataclasses.replace(self.channel, bus_free=self.channel.bus_free + self.draw.choice((0, 0, 500)))
         self.luns = [dataclasses.replace(lun, since=lun.since - self.draw.choice((0, 0, lun.since // 2))) for lun in self.luns]
-        self.choose()
+        self.batch = self.queue[: self.draw.choice((1, 3, 8, 8))]
         if self.draw.random() < 0.5:
             self.schedule = onfi.plan_within(self.channel, self.luns, self.batch, NODES).schedule
         else:

@@ -10,6 +10,7 @@ import dataclasses
 import hashlib
 import inspect
 import io
+import itertools
 import os
 import pickle
 import random
@@ -22,7 +23,7 @@ import textwrap
 import unittest
 import zipfile
 from pathlib import Path
-from typing import Any, Callable, Dict, Iterator, List, Optional, Sequence, Tuple, Type
+from typing import Any, Callable, Dict, Iterator, List, Optional, Sequence, Tuple, Type, Union
 
 sys.path.insert(0, str(Path(__file__).resolve().parent))
 import test_libraries  # noqa: E402, F401
@@ -127,9 +128,6 @@ class Plans(unittest.TestCase):
             named(onfi.Clock, None, None, lambda: way(dataclasses.replace(CHANNEL, bus_free=1 << 62), LUNS, WANTS))
             named(onfi.BadPlaneBits, None, None, lambda: way(changed(CHANNEL, plane_bits=3), LUNS, with_want(lun=2)))
         named(onfi.NoLengths, None, 1, lambda: onfi.plan_rule(CHANNEL, LUNS, [WANTS[0], dataclasses.replace(WANTS[1], kind=64)], lengths=onfi.Lengths({})))
-        named(onfi.BadOrder, None, 1, lambda: onfi.choose(CHANNEL, LUNS, [WANTS[0], dataclasses.replace(WANTS[1], id=3)], 99))
-        named(onfi.BadOrder, None, 2, lambda: onfi.choose(CHANNEL, LUNS, WANTS, 9))
-        named(onfi.BadOrder, None, 1, lambda: onfi.choose_whole(CHANNEL, LUNS, [WANTS[1], WANTS[0]], (), None))
         named(onfi.BadMembers, 0, None, lambda: onfi.Audit(CHANNEL, [onfi.Lun(0, WANTS[:1] * 5, 1)]))
         narrow = dataclasses.replace(GEOMETRY, blocks_per_lun=1, block_bits=0)
         named(onfi.BadPlace, None, 0, lambda: onfi.due(CHANNEL, LUNS, WANTS[1:2], narrow, onfi.plan(CHANNEL, LUNS, WANTS[1:2]).schedule))
@@ -239,8 +237,6 @@ class Given(unittest.TestCase):
         made = onfi.plan(CHANNEL, luns(), wants())
         self.assertEqual(made, onfi.plan(CHANNEL, LUNS, WANTS))
         self.assertEqual(onfi.check(CHANNEL, luns(), wants(), made.schedule, made.certificate), made.finish)
-        self.assertEqual(onfi.choose(CHANNEL, luns(), wants(), 99), [0, 1, 2])
-        self.assertEqual(onfi.choose_whole(CHANNEL, luns(), wants(), (it for it in (0, 0)), None), [0, 1, 2])
         weights = onfi.plan_early(CHANNEL, luns(), wants(), (it for it in (1, 9)), running=(iter([it]) for it in range(2)))
         self.assertEqual(weights, onfi.plan_early(CHANNEL, LUNS, WANTS, (1, 9), running=((0,), (1,))))
         phase = onfi.due(CHANNEL, luns(), wants(), GEOMETRY, made.schedule)
@@ -392,6 +388,144 @@ class Drivers(unittest.TestCase):
         self.assertEqual(told.exception.want, 1)
 
 
+class Dispatchers(unittest.TestCase):
+    """A channel that goes on, phase by phase."""
+
+    def test_by_hand(self) -> None:
+        """The read of LUN 1 goes in the gap between the two of LUN 0, which run as one, and is answered first."""
+        channel = onfi.Dispatcher(CHANNEL, LUNS, GEOMETRY)
+        for want in WANTS:
+            channel.accept(want)
+        told = [(phase.start, phase.end, phase.want, phase.number, phase.is_post) for phase in channel.phases()]
+        commands = [(0, 140, 3, 0, False), (500, 640, 9, 0, False), (740, 880, 5, 1, False)]
+        self.assertEqual(told, [*commands, (25_740, 36_740, 9, 1, True), (36_740, 47_740, 3, 2, True), (47_740, 58_740, 5, 3, True)])
+        self.assertIsNone(channel.next(58_740))
+
+    def test_drawn_loads(self) -> None:
+        """Each phase is legal, each request is answered once, and those of a block in their order; some arrays are early, some phases late."""
+        answered = 0
+        for seed in range(40):
+            draw = random.Random(seed)
+            kinds = [onfi.Kind.READ, onfi.kind_by(onfi.Kind.READ, 2), onfi.Kind.PROGRAM]
+            wants = [onfi.Want(number, draw.choice(kinds), draw.randrange(2), draw.randrange(6), draw.randrange(3)) for number in range(30)]
+            answers = self.driven(draw, wants)
+            self.assertEqual(sorted(answers), list(range(30)))
+            for block in itertools.product(range(2), range(6)):
+                own = [number for number in answers if (wants[number].lun, wants[number].block) == block]
+                self.assertEqual(own, sorted(own), (seed, block))
+            answered += len(answers)
+        self.assertEqual(answered, 1_200)
+
+    def driven(self, draw: random.Random, wants: Sequence[onfi.Want]) -> List[int]:
+        """The requests as they are answered, of a loop in which they come by and by."""
+        channel, log = onfi.Dispatcher(CHANNEL, LUNS, GEOMETRY, LENGTHS), onfi.Audit(CHANNEL, LUNS, LENGTHS)
+        left, answers, now = list(wants), [], 0
+        phase = None
+        while left or phase:
+            for want in left[: draw.randrange(4)]:
+                channel.accept(left.pop(0))
+            phase = channel.next(now)
+            if phase is None:
+                continue
+            started = phase.start + draw.choice((0, 0, 90))
+            channel.ran(started)
+            self.assertIsNone(log.judge(dataclasses.replace(phase, start=started)))
+            now = started + phase.end - phase.start
+            answers += [phase.want] * phase.is_post
+            if phase.number + 1 == phase.members and draw.random() < 0.5:
+                channel.ready(phase.lun, now + 5)
+                log.ready(phase.lun, now + 5)
+        return answers
+
+    def test_what_waits_is_cancelled_and_taken_in_again(self) -> None:
+        channel = onfi.Dispatcher(CHANNEL, LUNS, GEOMETRY)
+        for number in range(3):
+            channel.accept(onfi.Want(number, onfi.Kind.READ, 0, 2, number))
+        channel.cancel(1)
+        first = channel.next()
+        assert first is not None
+        channel.ran(first.start)
+        channel.accept_again(onfi.Want(0, onfi.Kind.READ, 0, 2, 0))
+        self.assertEqual([(phase.want, phase.is_post) for phase in channel.phases(first.end)], [(0, True), (0, False), (0, True), (2, False), (2, True)])
+
+    def test_a_lun_that_is_not_ready_is_asked_again(self) -> None:
+        """A phase that isn't said to have run is next once more, no sooner than it is now."""
+        channel = onfi.Dispatcher(CHANNEL, LUNS, GEOMETRY)
+        channel.accept(onfi.Want(0, onfi.Kind.PROGRAM, 0, 2))
+        command = channel.next()
+        assert command is not None
+        channel.ran(command.start)
+        status = channel.next(command.end)
+        assert status is not None and status.is_post
+        for now in (status.end, status.end + 50):
+            self.assertEqual(channel.next(now), dataclasses.replace(status, start=now, end=now + status.end - status.start))
+        channel.ran(status.end + 50)
+        self.assertIsNone(channel.next())
+
+    def test_a_lun_that_is_reset(self) -> None:
+        """What its group has left is said to have run, and what ran and waits is given in again later, in its order."""
+        channel = onfi.Dispatcher(CHANNEL, LUNS, GEOMETRY)
+        wants = [onfi.Want(number, onfi.Kind.READ, 0, 2, number) for number in range(3)]
+        for want in wants:
+            channel.accept(want)
+        command = channel.next()
+        assert command is not None
+        channel.ran(command.start)
+        for want in wants[1:]:
+            channel.cancel(want.id)
+        self.assertEqual([(phase.want, phase.is_post) for phase in channel.phases(command.end)], [(0, True)])
+        for want in wants:
+            channel.accept(want)
+        self.assertEqual([phase.want for phase in channel.phases(900_000)], [0, 0, 1, 1, 2, 2])
+
+    def test_refusals_name_their_request_and_leave_all(self) -> None:
+        channel = onfi.Dispatcher(CHANNEL, LUNS, GEOMETRY, LENGTHS)
+        channel.accept(WANTS[0])
+
+        def refused(name: Type[onfi.Refused], call: Callable[[], object], request: Optional[int] = None, lun: Optional[int] = None) -> None:
+            with self.assertRaises(name) as told:
+                call()
+            self.assertEqual((told.exception.request, told.exception.lun, told.exception.want), (request, lun, None))
+            self.assertEqual(str(told.exception).endswith(f": request {request}"), request is not None)
+
+        def asked(**how: Any) -> Callable[[], None]:
+            return lambda: channel.accept(dataclasses.replace(WANTS[1], **how))
+
+        for how in ({"lun": 2}, {"block": 16}, {"page": 64}):
+            refused(onfi.BadPlace, asked(**how), 5)
+        refused(onfi.BadKind, asked(kind=3), 5)
+        refused(onfi.BadLun, asked(kind=onfi.Kind.ERASE), 5)
+        refused(onfi.NoLengths, asked(kind=onfi.kind_by(onfi.Kind.READ, 7)), 5)
+        refused(onfi.BadOrder, asked(id=3), 3)
+        refused(onfi.BadOrder, lambda: channel.accept_again(WANTS[0]), 3)
+        refused(onfi.NotWaiting, lambda: channel.cancel(9), 9)
+        refused(onfi.BadLun, lambda: channel.ready(2, 0), lun=2)
+        refused(onfi.NotDue, lambda: channel.ready(1, 0), lun=1)
+        refused(onfi.NothingDue, lambda: channel.ran(0))
+        refused(onfi.Clock, lambda: channel.next(1 << 62))
+        channel.next(7)
+        refused(onfi.TooSoon, lambda: channel.ran(6))
+        self.assertRaises(ValueError, channel.next, -1)
+        self.assertEqual([phase.want for phase in channel.phases()], [3, 3])
+
+    def test_64_wait_for_a_lun(self) -> None:
+        channel = onfi.Dispatcher(CHANNEL, LUNS, GEOMETRY)
+        for number in range(128):
+            channel.accept(onfi.Want(number, onfi.Kind.READ, number % 2, number % 16))
+        self.assertRaises(onfi.TooMany, channel.accept, onfi.Want(128, onfi.Kind.READ, 0, 0))
+        self.assertEqual(len([phase for phase in channel.phases() if phase.is_post]), 128)
+
+    def test_what_it_cant_begin_with_is_named(self) -> None:
+        runs = [onfi.Lun(), onfi.Lun(0, [onfi.Want(0, onfi.Kind.READ, 1, 1)], 1)]
+        for how, name, lun in (({"lun": 0}, onfi.BadLun, 1), ({"block": 16}, onfi.BadPlace, 1), ({"kind": 3}, onfi.BadKind, 1)):
+            wrong = [runs[0], onfi.Lun(0, [dataclasses.replace(runs[1].members[0], **how)], 1)]
+            with self.assertRaises(name) as told:
+                onfi.Dispatcher(CHANNEL, wrong, GEOMETRY)
+            self.assertEqual(told.exception.lun, lun)
+        self.assertRaises(onfi.BadGeometry, onfi.Dispatcher, CHANNEL, LUNS, dataclasses.replace(GEOMETRY, lun_count=0))
+        self.assertEqual([phase.want for phase in onfi.Dispatcher(CHANNEL, runs, GEOMETRY).phases()], [0])
+
+
 class Checks(unittest.TestCase):
     def refused(self, name: Type[onfi.Refused], schedule: onfi.Schedule, certificate: bytes, place: int = 0, channel: onfi.Channel = CHANNEL) -> None:
         with self.assertRaises(name) as told:
@@ -458,7 +592,6 @@ class Sectors(unittest.TestCase):
         for other in (onfi.plan_early(CHANNEL, LUNS, SECTORS, (1, 9), lengths=LENGTHS), onfi.plan_rule(CHANNEL, LUNS, SECTORS, lengths=LENGTHS)):
             finish = onfi.check_within(CHANNEL, LUNS, SECTORS, other.schedule, other.below, other.certificate, lengths=LENGTHS)
             self.assertEqual((finish, finish >= made.finish), (other.finish, True))
-        self.assertEqual(onfi.choose(CHANNEL, LUNS, SECTORS, 10, lengths=LENGTHS), [0, 1, 2])
 
     def test_pages_are_planned_as_without_lengths(self) -> None:
         for lengths in (onfi.Lengths({}), onfi.Lengths({7: 11_000})):
@@ -701,7 +834,30 @@ class Logs(unittest.TestCase):
             told = list(onfi.audit(self.CHANNEL, luns, phases))
             self.assertEqual(list(onfi.audit_phases(self.CHANNEL, luns, phases)), told)
             seen |= {breach.condition for breach in told}
-        self.assertEqual(seen, {*onfi.LogCondition} - {onfi.LogCondition.UNKNOWN_REQUEST, onfi.LogCondition.BLOCK_ORDER})
+        of_lines = {onfi.LogCondition.NOT_CLOSED, onfi.LogCondition.OTHER_END, onfi.LogCondition.OTHER_BYTES}
+        self.assertEqual(seen, {*onfi.LogCondition} - of_lines - {onfi.LogCondition.UNKNOWN_REQUEST, onfi.LogCondition.BLOCK_ORDER})
+
+    def test_lines(self) -> None:
+        """Lines stand beside phases; END, command bytes and closers of lines are judged too."""
+        condition, first = onfi.LogCondition, "0 10 0 read cmd 0 0 00 30"
+        legal: List[Union[onfi.Logged, str]] = [first, "110 130 0 read post 0 0 06 E0\n", "130 0 read cmd 1 0 7", self.read(240, True, 1)]
+        self.assertEqual(list(onfi.audit(self.CHANNEL, self.TWO, legal)), [])
+        self.assertEqual(list(onfi.audit_phases(self.CHANNEL, self.TWO, legal)), [])
+        late = onfi.LogBreach(1, condition.OTHER_END, end=131, ends=130)
+        self.assertEqual(list(onfi.audit(self.CHANNEL, self.TWO, [first, "110 131 0 read post 0 0 06 E0"])), [late])
+        other = onfi.LogBreach(1, condition.OTHER_BYTES, opener="06", closer="E0")
+        self.assertEqual(list(onfi.audit(self.CHANNEL, self.TWO, [first, "110 130 0 read post 0 0 78 -"])), [other])
+        alone = onfi.LogBreach(1, condition.NOT_CLOSED, lun=0)
+        self.assertEqual(list(onfi.audit(self.CHANNEL, self.TWO, ["0 10 0 read cmd 0 0 00 32", legal[1]])), [alone])
+        self.assertRaisesRegex(ValueError, r"^line 1 says no phase: 'ZZ", onfi.audit, self.CHANNEL, self.TWO, [first, "ZZ hello"])
+        self.assertRaisesRegex(ValueError, r"^more than a line", onfi.audit, self.CHANNEL, self.TWO, ["0 0 read cmd 0 0\n\n"])
+        self.assertRaises(ValueError, onfi.Audit(self.CHANNEL, self.TWO).judge, "ZZ hello")
+
+    def test_a_row_of_a_table(self) -> None:
+        early = next(onfi.Audit(self.CHANNEL, self.TWO).judge_all(["0 0 read cmd 0 0", "109 0 read post 0 0"]))
+        told = {name: value for name, value in early.row().items() if value is not None}
+        self.assertEqual(told, {"at": 1, "condition": "NotReady", "lun": 0, "start": 109, "earliest": 110})
+        self.assertEqual([*early.row()], [it.name for it in dataclasses.fields(onfi.LogBreach)])
 
     def test_whole_logs_of_sectors(self) -> None:
         """With wants their kinds say how many sectors, without them the commands'; lengths say how long the bus is held."""

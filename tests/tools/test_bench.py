@@ -49,7 +49,7 @@ calls=2 40
 fn=(2)
 20 100
 cfi=(3) choosing.c
-cfn=(5) onfi_choose
+cfn=(5) onfi_dispatcher_next
 calls=4 1
 +1 600
 cfn=(6) onfi_due
@@ -107,8 +107,8 @@ class Instructions(unittest.TestCase):
 
     def test_a_turn_is_the_driver_without_the_board(self) -> None:
         turns = driver_costs.turns_of(TURNS, SAID, 2)
-        self.assertEqual(turns, driver_costs.Turns((1370 - 240) / 2, {"onfi_choose": 300, "onfi_due": 100}, 3.5))
-        self.assertEqual(driver_costs.cells_of(turns, ["onfi_choose", "onfi_next", "onfi_due"]), ["565", "165", "300", "", "100", "3.50"])
+        self.assertEqual(turns, driver_costs.Turns((1370 - 240) / 2, {"onfi_dispatcher_next": 300, "onfi_due": 100}, 3.5))
+        self.assertEqual(driver_costs.cells_of(turns, ["onfi_dispatcher_next", "onfi_ran", "onfi_due"]), ["565", "165", "300", "", "100", "3.50"])
 
     @unittest.skipUnless(shutil.which("valgrind"), "Debian's valgrind is not installed")
     def test_turns_of_the_greedy_way(self) -> None:

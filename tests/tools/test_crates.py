@@ -5,12 +5,13 @@ import re
 import tempfile
 import unittest
 import xml.etree.ElementTree as ET
+from collections import Counter
 from pathlib import Path
 from typing import Dict, List, NamedTuple, Set, Tuple
 
 import support
 from onfi_tools import layers
-from onfi_tools.calls import exported
+from onfi_tools.calls import exported, unstated
 from onfi_tools.crates import crates_below, lines_below
 
 SVG = "{http://www.w3.org/2000/svg}"
@@ -168,6 +169,69 @@ class Page(unittest.TestCase):
         self.assertRegex(sections()["onfi_core"], r"- \[`Core`\]\(.*\): `open`, `last`, `open_with`, `step`, `run`")
         self.assertRegex(sections()["onfi_core"], r"Laws: .*`headline`")
         self.assertIn("[`plan`](../crates/onfi_planner/src/", sections()["onfi_planner"])
+
+
+SOURCE = """\
+pub trait Read {
+    fn read(&self) -> u8
+        ensures { result ≡ 1 };
+
+    fn skip(&mut self);
+
+    fn look(&self);
+}
+
+impl Read for One {
+    fn read(&self) -> u8 {
+        1
+    }
+}
+
+impl<'a> One<'a> {
+    pub fn new(
+        of: &'a mut u8,
+    ) -> One<'a> {
+        One { of }
+    }
+
+    pub fn set(&mut self, to: u8)
+        requires { to < 8 }
+        ensures { self.new ≡ to }
+    {
+        self.to = to;
+    }
+}
+
+pub fn half(of: u8) -> u8
+    requires { of < 8 }
+{
+    // what a line of it says has no part in this: ensures
+    of / 2
+}
+
+fn own(of: u8) -> u8 {
+    of
+}
+"""
+
+
+class Unstated(unittest.TestCase):
+    def test_a_source(self) -> None:
+        """Public functions that give or change something and have no clause that says what."""
+        room = support.room_of(self)
+        (room / "low/src").mkdir(parents=True)
+        (room / "low/src/one.rt").write_text(SOURCE)
+        self.assertEqual(unstated(room, "low"), ["One::new", "Read::skip", "half"])
+
+    def test_the_page_says_why_of_each(self) -> None:
+        page = dict(re.findall(r"^- `(\w+)`: ([^;\n]+); \w", (support.ROOT / "docs/CLAIMS.md").read_text().split("## Public functions")[1], re.MULTILINE))
+        found = {}
+        for line in support.run_tool("list-calls", "--unstated").stdout.splitlines():
+            crate, names = line.split(": ")
+            owners = Counter(it.partition("::")[0] for it in names.split(", ") if "::" in it)
+            alone = [f"`{it}`" for it in names.split(", ") if "::" not in it]
+            found[crate] = ", ".join([*(f"`{name}` {count}" for name, count in owners.items()), *alone])
+        self.assertEqual(found, page)
 
 
 class Below(unittest.TestCase):

@@ -8,6 +8,7 @@ import unittest
 from typing import Dict, List, Optional, Tuple
 
 import support
+from gap_model import Piece, bound_of, pieces_of
 from log_model import CLOSERS, FURTHER, Entry, Judge, Line, Poll, answer_of
 
 # How many logs, and how many phases one has at most.
@@ -201,3 +202,24 @@ class Logs(unittest.TestCase):
 
     def test_so_they_do_where_statuses_are_polled(self) -> None:
         self.compare(True)
+
+    def test_pieces_are_of_their_own_requests_and_nothing_passes_the_bound(self) -> None:
+        many = 0
+        for seed in range(COUNT):
+            rng = random.Random(seed)
+            script = script_of(rng, PHASES)
+            lines = [it for it in legal_log(rng, script, PHASES, False) if isinstance(it, Line)]
+            log = "".join(f"{it.start} {it.lun} {it.kind} {it.part} {it.block} {it.page}\n" for it in lines)
+            ran = support.run_program("audit", "--optimum", "--limit", "32", given=script + log)
+            self.assertEqual((ran.returncode, ran.stderr), (0, ""), f"seed {seed}\n{script}{log}")
+            said = [line.split() for line in ran.stdout.splitlines()]
+            found = [[int(word) for word in words[1:]] for words in said if words[0] == "piece"]
+            judge = Judge([row.split(",") for row in script.split("\n")[:-2]])
+            self.assertEqual([Piece(*it[:4]) for it in found], pieces_of(judge.copied(), lines), f"seed {seed}\n{script}{log}")
+            self.assertTrue(all(below <= best and below <= end for _, _, _, end, best, below in found), ran.stdout)
+            bounds = [[int(word) for word in words[1:]] for words in said if words[0] == "bound"]
+            bound = bound_of(judge, lines)
+            self.assertEqual(bounds, [] if bound is None else [[*bound, bound.share]], f"seed {seed}\n{script}{log}")
+            self.assertTrue(bound is None or max(bound.bus, bound.die) <= bound.end, bound)
+            many += len(found)
+        self.assertGreater(many, COUNT)

@@ -98,7 +98,7 @@ class Help(unittest.TestCase):
                         "-q, --quiet", "[FILE]"],
                "check": ["--remember", "--within", "--legal", "-q, --quiet", "[FILE]", "[PLAN]"],
                "audit": ["--all", "--ready-by-status", "--optimum", "--limit <N>", "--csv", "-q, --quiet", "[FILE]", "[LOG]"],
-               "run": ["--limit <N>", "--remember", "--within", "--slack <N>", "--rule", "--clock <CLOCK>", "-q, --quiet", "[FILE]"],
+               "run": ["--limit <N>", "--remember", "--within", "--slack <N>", "--rule", "--by <WAY>", "--clock <CLOCK>", "-q, --quiet", "[FILE]"],
                "device": ["-q, --quiet", "[FILE]"]}
 
     def help(self, *words: str) -> str:

@@ -42,6 +42,12 @@ HEADER = """\
 #include <stdint.h>
 uint32_t onfi_tried(const uint8_t *text, size_t text_size);
 """
+# A function for each unit that a core of 32-bit Arm may lack.
+UNITS = """\
+void of_vectors(unsigned *a, const unsigned *b) { for (int at = 0; at < 64; at++) a[at] += b[at]; }
+int of_floats(int a) { return (int)((float)a * 1.5f); }
+int of_signals(short a, short b, int c) { return a * b + c; }
+"""
 KIT_WORDS = ["--target=x86_64-unknown-linux-gnu", "--sysroot=/none", "-march=x86-64", "-mllvm", "-no-x86-call-frame-opt", "-mllvm", "-trap-unreachable",
              "-ffunction-sections", "--no-default-config", "-Werror", "-c", "-x", "ir", "module.bc", "-o", "module.o", "-fPIC", "-O3"]
 
@@ -224,11 +230,44 @@ class Tool(unittest.TestCase):
         self.assertIn("invalid choice: 'sparc'", self.tool("sparc", str(self.room / "lib")).stderr)
 
 
+class Units(unittest.TestCase):
+    """No instruction needs a unit that a core may lack."""
+
+    def setUp(self) -> None:
+        self.room = support.room_of(self)
+        (self.room / "units.c").write_text(UNITS)
+
+    def check(self, processor: str, words: List[str]) -> None:
+        target = f"--target={PROCESSORS[processor].triple}"
+        retarget.run("clang", target, *words, "-O3", "-ffreestanding", "-c", "units.c", "-o", "units.o", room=self.room)
+        retarget.check_units("units.o", PROCESSORS[processor], self.room)
+
+    def test_of_what_a_processor_is_made_by(self) -> None:
+        found = [name for name, it in PROCESSORS.items() if it.lacks]
+        self.assertEqual(found, ["thumbv7em", "cortex-m33", "cortex-r5", "cortex-r8"])
+        for name in found:
+            self.check(name, PROCESSORS[name].words)
+
+    def test_one_that_needs_it(self) -> None:
+        rows = {
+            ("thumbv7em", "-mcpu=cortex-m7 -mfloat-abi=softfp"): "<of_floats>: an instruction needs a unit that such a core may lack (fpregs)",
+            ("cortex-m33", "-mcpu=cortex-m33 -mfloat-abi=softfp"): "<of_floats>: an instruction needs a unit that such a core may lack (fpregs, dsp)",
+            ("cortex-m33", "-mcpu=cortex-m33 -mfloat-abi=soft"): "<of_signals>: ",
+            ("cortex-r5", "-mcpu=cortex-r5 -mfloat-abi=hard"): "<of_floats>: ",
+            ("cortex-r8", "-march=armv7-a -mfpu=neon -mfloat-abi=hard"): "<of_vectors>: ",
+        }
+        for (name, words), stopped in rows.items():
+            with self.assertRaises(retarget.Stop) as found:
+                self.check(name, words.split())
+            self.assertTrue(str(found.exception).startswith(stopped), (name, str(found.exception)))
+
+
 class LeftOut(unittest.TestCase):
     def test_what_is_not_installed(self) -> None:
         tool = [sys.executable, "-B", str(support.ROOT / "tools/test-targets"), "no-program"]
         told = subprocess.run(tool, env={**os.environ, "PATH": "/nowhere"}, capture_output=True, text=True)
         self.assertEqual((told.returncode, told.stderr), (0, ""))
         lines = told.stdout.splitlines()
-        self.assertEqual([line.split(",")[0] for line in lines], ["aarch64: left out", "riscv64: left out", "0 passed"])
+        self.assertEqual([line.split(",")[0] for line in lines], ["aarch64: left out", "riscv64: left out", "cortex-r5: left out", "0 passed"])
         self.assertIn("gcc-riscv64-linux-gnu", lines[1])
+        self.assertIn("picolibc-arm-none-eabi", lines[2])

@@ -19,7 +19,7 @@ from onfi_tools.rolling_load import WINDOWS, Load, run_load, write_load
 from onfi_tools.rolling_tables import gain_table, of_bound, room_table, sector_table, spread_table
 from onfi_tools.rolling_use import (ALL, OF_SECTORS, SOURCES, STRICT, TWELVE, WITH_ERASES, Asked, Configuration, Figures, Measured, Rows, bounds_there,
                                     build, key_of, measure, run_way, six_of, sources_of)
-from onfi_tools.rolling_ways import BASE, GREEDY, PLANS, QUICK, SETTINGS, WAYS, WITHOUT_SEARCH
+from onfi_tools.rolling_ways import BASE, GREEDY, PLANS, WAYS, WITHOUT_SEARCH
 from onfi_tools.script import first_form
 from onfi_tools.workload import Operation, Place, Shape
 from test_devices import commands_of
@@ -31,7 +31,7 @@ READ, ARRAY, OUTPUT = 175, 75100, 37639
 FOUR = 4 * 37439 + 3 * 600 + 800100 + 4 * 305
 PROCESSOR_TIME = ("planning_us", "planning_longest_us")
 # Plans that end first; the others end early.
-EXACT = ("plan", "plan-by-lun", "plan-reads-first")
+EXACT = ("plan",)
 PARTS = """\
 nothing spoilt: legal
 data output 1 ns sooner: the bus isn't free (113088 ns, LUN 0, request 0, earliest 113089)
@@ -449,7 +449,7 @@ def measured_by(rates: Dict[str, List[float]]) -> List[Measured]:
 
 class Tables(unittest.TestCase):
     def test_what_is_measured(self) -> None:
-        self.assertEqual((len(ALL), len(set(ALL)), len(TWELVE), set(TWELVE) - set(ALL), set(SETTINGS) - set(QUICK)), (216, 216, 12, set(), set()))
+        self.assertEqual((len(ALL), len(set(ALL)), len(TWELVE), set(TWELVE) - set(ALL)), (216, 216, 12, set()))
 
     def test_spread_by_hand(self) -> None:
         """Ten configurations: nine of ten are at least the second least. Reads take twice as long on all but one, which has none."""

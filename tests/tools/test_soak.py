@@ -8,6 +8,7 @@ from typing import Any, Dict, List, Set, Tuple
 
 import support
 from onfi_tools.die import Block, Device, Operation
+from onfi_tools.next_run import report_of
 
 SOAK: Any = support.load("soak")
 
@@ -27,7 +28,8 @@ sys.exit(status)
 OVER = """
 if {where}:
     channels = sorted(set(re.findall("^op(?:read)?,.,(.)", script, re.MULTILINE)))
-    lines, status = [*(f"over,{{it}},{count}" for it in channels), "closed"], 6
+    buses = [line for line in lines if line.startswith("bus,")]
+    lines, status = [*(f"over,{{it}},{count}" for it in channels), *buses, "closed"], 6
 """
 
 
@@ -103,6 +105,12 @@ DIFFERENCES = {
     "a channel that must stop and says nothing within a limit": ('lines = [line for line in lines if not limit or "stopped" not in line]', BEHIND, "--seed 2"),
     "status 0 where a channel was over": (over("limit").replace("6\n", "0\n"), "status 0", ""),
     "another cause": (every("(stopped,.),.*", r"\1,Clock"), BEHIND, ""),
+    "a channel that goes phase by phase and is over": (over('"next" in words', "1"), BEHIND, ""),
+    "a reply before its operation": (every(r"^(reply,\d+,\d+,\d+),\d+,", r"\1,0,"), "a reply at 0 to what arrived at", ""),
+    "no moments by a clock": (every(r"^(reply,\d+,\d+,\d+),\d+,", r"\1,"), "moments", ""),
+    "a phase later": (every(r"^(bus,\d,\d+),(\d+)$", r"\1,\g<2>0"), "another report than the model's", ""),
+    "another latency": (every(r"^(latency,\w+,\d+,\d+),\d+$", r"\1,0"), "the lines of latencies", ""),
+    "a bus that is busy for too long": (every(r"^(bus,\d),\d+,(\d+)$", r"\1,\g<2>9,\2"), "the lines of buses", ""),
 }
 # What a program reads in place of the sectors that are asked for: the page, those from the first on, one.
 OTHER_READS = (r"op,\1,read,\2", r"opread,\1,\2,0,\4", r"opread,\1,\2,\3,1")
@@ -129,6 +137,34 @@ class Soak(unittest.TestCase):
             with self.subTest(other):
                 status, said = soaked("", changed=f'script = re.sub(r"opread,(.,.),(.,.,.),(.+),(.)", r"{other}", script)')
                 self.assertEqual((status, "no order of acceptance" in said), (1, True))
+
+
+LENGTHS = """channels,1
+geometry,8,4,4,0
+shape,2,1,1,1
+spans,read,10,5,100,20
+spans,program,30,5,500,2
+spans,erase,3,5,900,2
+"""
+# Operations, and the report that a run phase by phase has of them, worked by hand.
+WORKED = {
+    "outputs one after the other": ("op,0,0,read,0,0,0\nop,0,0,read,1,0,0\n",
+                                    "reply,0,0,0,130,read,*FF\nreply,0,0,1,150,read,*FF\nbus,0,60,150\nlatency,read,2,140,150\n"),
+    "a program waits for its mate, which comes at 50": (
+        "op,0,0,read,1,0,0\nop,0,0,program,0,0,0,*01\nat,50\nop,0,0,program,0,1,0,*02\n",
+        "reply,0,0,0,135,read,*FF\nreply,0,0,1,617,done\nreply,0,0,2,619,done\nbus,0,94,619\nlatency,read,1,135,135\nlatency,program,2,593,617\n"),
+    "an array that is done early": ("op,0,0,read,0,0,0\narray,0,0,0,40\n", "reply,0,0,0,70,read,*FF\nbus,0,30,70\nlatency,read,1,70,70\n"),
+    "a fault tears": ("op,0,0,program,0,1,0,*01\nop,0,0,read,0,1,0\nfault,0,0,1,0\n",
+                      "reply,0,0,0,532,failed\nreply,0,0,1,662,read,*00\nbus,0,62,662\nlatency,read,1,662,662\nlatency,program,1,532,532\n"),
+}
+
+
+class NextRun(unittest.TestCase):
+    """The model of runs phase by phase."""
+
+    def test_worked_reports(self) -> None:
+        for name, (operations, report) in WORKED.items():
+            self.assertEqual(report_of(f"{LENGTHS}{operations}end\n"), report + "closed\n", name)
 
 
 class Drawn(unittest.TestCase):

@@ -82,8 +82,8 @@ class Worked(unittest.TestCase):
             self.assertEqual((status, re.findall(r"^at,(\d+)$", rows, re.MULTILINE), said), (0, list(map(str, times)), ""))
 
     def test_rows_more(self) -> None:
-        _, rows, _ = made("0,R,0,1\n", "--row", "choice,by-lun", "--row", "submitcap,8")
-        self.assertEqual(rows.splitlines()[:5], ["channels,1", "hosts,1", "postcap,1024", "choice,by-lun", "submitcap,8"])
+        _, rows, _ = made("0,R,0,1\n", "--row", "batch,4", "--row", "submitcap,8")
+        self.assertEqual(rows.splitlines()[:5], ["channels,1", "hosts,1", "postcap,1024", "batch,4", "submitcap,8"])
 
     def test_pages_that_a_request_touches(self) -> None:
         for request, count in (("R,0,16384", 1), ("R,0,16385", 2), ("R,16383,2", 2), ("R,5,0", 0), ("W,16383,2", 4), ("T,0,99999", 0)):

@@ -39,6 +39,18 @@ impl fmt::Display for Half {
         LEAST
     }
 }
+
+impl Gate for Half {
+    ghost use Rattle.demo.specs.Halves.{
+        is_half,
+    };
+
+    fn close(&self) -> u8
+        ensures { is_half result }
+    {
+        4
+    }
+}
 """
 ODD = """\
 const LEAST: u8 = 3;
@@ -80,6 +92,13 @@ WHOLE = FOURTH + "".join([
     entry("fmt_0", "HalfDisplay::fmt", "LEAST", "0"),
     entry("last_0", "Half::last", "even(9)", "0", path="src/odd.rt"),
 ])
+# Two of one method of a trait that has clauses of its own, and one of two functions.
+CLOSED = "".join([
+    entry("close_5", "HalfGate::close", "4", "5"),
+    entry("close_6", "HalfGate::close", "4", "6"),
+    entry("both_1", "Half::of", "n / 2", "1", "in: src/odd.rt Half::last\nold: even(9)\nnew: 1\n"),
+])
+GATE_ANSWERS = "use Rattle.demo.proofs.half.HalfGate.close.Goals as goal\n"
 
 
 def put(file: Path, text: str) -> None:
@@ -90,7 +109,8 @@ def put(file: Path, text: str) -> None:
 def crate_of(test: unittest.TestCase, edits: str, **how: Any) -> Any:
     """A crate 'demo' with these wrong bodies."""
     room = support.room_of(test)
-    files = {"src/half.rt": HALF, "src/odd.rt": ODD, "proofs/half/Half/of/Answers.antt": ANSWERS, "proofs/odd/+odd/Answers.antt": STEPS, "wrong-bodies.txt": edits}
+    files = {"src/half.rt": HALF, "src/odd.rt": ODD, "proofs/half/Half/of/Answers.antt": ANSWERS, "proofs/odd/+odd/Answers.antt": STEPS,
+             "proofs/half/HalfGate/close/Answers.antt": GATE_ANSWERS, "wrong-bodies.txt": edits}
     for path, text in files.items():
         put(room / "crates" / "demo" / path, text)
     with unittest.mock.patch.object(TOOL, "ROOT", room):
@@ -170,9 +190,21 @@ class Copies(unittest.TestCase):
         head = "    #[tactic(auto)]\n    pub fn of_edit_1(n: u8) -> u8\n        ensures { result ≡ n / 2 }\n    {\n        n / 4\n    }\n"
         self.assertIn(head, texts["src/half.rt"])
         self.assertLess(texts["src/half.rt"].index("pub fn of(n"), texts["src/half.rt"].index(head))
-        self.assertIn("        even(9) + LEAST\n    }\n\n    fn last_edit_8(&self) -> u8 {\n        0 + LEAST\n", texts["src/odd.rt"])
+        self.assertIn("    fn last(&self) -> u8 { loop {}\n    }\n\n    fn last_edit_8(&self) -> u8 {\n        0 + LEAST\n", texts["src/odd.rt"])
         self.assertEqual((copy / "proofs/half/Half/of_edit_1/Answers.antt").read_text(), ANSWERS.replace("of.Goals", "of_edit_1.Goals"))
         self.assertEqual((copy / "src/half.rt").read_text(), texts["src/half.rt"])
+
+    def test_a_method_of_a_trait_with_clauses_has_siblings_among_its_types_own(self) -> None:
+        crate = crate_of(self, CLOSED)
+        self.assertEqual([len(trials) for trials in crate.sources.in_rounds(crate.trials)], [3])
+        texts, copy = self.write(crate, 0)
+        uses = "impl Half {\n    ghost use Rattle.demo.specs.Halves.{\n        is_half,\n    };\n"
+        for number, value in ((1, 5), (2, 6)):
+            sibling = f"    fn close_edit_{number}(&self) -> u8\n        ensures {{ is_half result }}\n    {{\n        {value}\n    }}\n}}\n"
+            self.assertIn(uses + sibling, texts["src/half.rt"])
+        self.assertEqual((copy / "proofs/half/Half/close_edit_2/Answers.antt").read_text(), "use Rattle.demo.proofs.half.Half.close_edit_2.Goals as goal\n")
+        self.assertIn("of_edit_3", texts["src/half.rt"])
+        self.assertIn("last_edit_3", texts["src/odd.rt"])
 
     def test_a_cycle_of_calls_has_siblings_that_call_each_other(self) -> None:
         texts, copy = self.write(crate_of(self, WHOLE), 0)
@@ -188,6 +220,9 @@ even_edit_5-odd_edit_5-requires t c = (odd (c.odd_edit_5.result) c.oddly Rattle.
         self.assertIn("use Rattle.demo.proofs.half.Half.next.Statement as stated\n\npub next_spec : ", (copy / "proofs/half/Half/next/Proof.antt").read_text())
         self.assertIn("use Rattle.demo.proofs.odd.+odd as stated\n\npub +odd_spec : ", (copy / "proofs/odd/+odd/Proof.antt").read_text())
         self.assertEqual([it.name for it in (copy / "proofs/half/Half/of").iterdir()], ["Proof.antt"])
+        # (what is asked for by nothing else does nothing; a cycle of calls stays one)
+        self.assertIn("ensures { result ≡ n / 2 }\n{ loop {}\n    }\n", (copy / "src/half.rt").read_text())
+        self.assertIn("    odd(n - 1)\n", (copy / "src/odd.rt").read_text())
         # (what is edited in place keeps its proofs)
         self.assertFalse((copy / "proofs/odd/Half/last").exists())
 

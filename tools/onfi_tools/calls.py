@@ -4,12 +4,14 @@ import re
 from pathlib import Path
 from typing import Dict, List, NamedTuple
 
+from onfi_tools.functions import functions_of, is_unstated
 from onfi_tools.imports import leaves_of
 
 USE = re.compile(r"^pub use ([^;]+);", re.MULTILINE)
 ITEM = r"^pub (?:const )?(?P<what>fn|struct|enum|trait|const|type) {name}\b"
 IMPL = re.compile(r"^impl(?:<[^{]*?>)? (\w+)[^{]*?\{\n(.*?)^\}", re.MULTILINE | re.DOTALL)
 METHOD = re.compile(r"^    (pub )?(?:const )?fn (\w+)", re.MULTILINE)
+TRAIT = re.compile(r"^pub trait (\w+)", re.MULTILINE)
 LAW = re.compile(r"^\{\s*\}", re.MULTILINE)
 
 
@@ -68,6 +70,17 @@ def page_of_crate(crates: Path, crate: str) -> List[str]:
     laws = [it.name for it in items_of(crates, crate) if it.is_law]
     parts = [[", ".join(alone)] if alone else [], rows, [f"Laws: {named(laws)}."] if laws else []]
     return [f"## `{crate}`", *(line for part in parts if part for line in ("", *part)), ""]
+
+
+def unstated(crates: Path, crate: str) -> List[str]:
+    """The public functions of a crate of whose results no clause speaks, those of a type after its name; a public trait's are public."""
+    found: List[str] = []
+    for path in sorted((crates / crate / "src").glob("**/*.rt")):
+        text = path.read_text()
+        lines, traits = text.split("\n"), {*TRAIT.findall(text)}
+        public = (it for it in functions_of(path.name, text) if re.match(r" *pub ", lines[it.first]) or it.owner in traits)
+        found += [f"{it.owner}::{it.name}" if it.owner else it.name for it in public if is_unstated(lines, it)]
+    return sorted(found)
 
 
 def named(names: List[str]) -> str:

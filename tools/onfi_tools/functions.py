@@ -75,6 +75,20 @@ def functions_of(path: str, text: str) -> List[Function]:
     return found
 
 
+def head_of(lines: List[str], it: Function) -> List[str]:
+    """The lines of a function up to the one that opens its body: its signature and its contract."""
+    indent = len(lines[it.first]) - len(lines[it.first].lstrip())
+    opened = re.compile(rf" {{{indent}}}(?:\S.* )?\{{\}}?")
+    until = next((at for at in range(it.first, it.last) if opened.fullmatch(lines[at])), it.last)
+    return lines[it.first : until + 1]
+
+
+def is_unstated(lines: List[str], it: Function) -> bool:
+    """Whether a function gives or changes something, and no clause says what."""
+    head = head_of(lines, it)
+    return any("-> " in line or "&mut " in line for line in head) and not any(re.match(r" *ensures\b", line) for line in head)
+
+
 def users_of(texts: Dict[str, str], word: str) -> List[Function]:
     """The functions that name a constant or a type."""
     named = re.compile(rf"\b{word}\b")

@@ -22,6 +22,17 @@ class Processor(NamedTuple):
     # What the assembler is given for each object, and the compiler of C.
     attribute: str = ""
     of_c: Tuple[str, ...] = ()
+    # Units that such a core may lack, as LLVM names them: no instruction of the library may need one.
+    lacks: Tuple[str, ...] = ()
+
+
+def without_floats(triple: str, cpu: str, *lacks: str) -> Processor:
+    """A processor for firmware, whose core may come without registers for floats and vectors: the code is for one that lacks them.
+
+    No call has floats: it is linked with either way of passing them (ABI_VFP_args 3).
+    """
+    words = ["-mthumb", f"-mcpu={cpu}", "-mfloat-abi=soft", *DIVIDED]
+    return Processor(triple, ARM, words, attribute=".eabi_attribute 28, 3", of_c=("-fshort-enums",), lacks=("fpregs", *lacks))
 
 
 PROCESSORS: Dict[str, Processor] = {
@@ -32,12 +43,12 @@ PROCESSORS: Dict[str, Processor] = {
         bits=64, extends=True, probes=True, moves=True,
     ),
     "riscv32": Processor("riscv32-unknown-unknown-elf", "e-m:e-p:32:32-i64:64-n32-S128", ["-march=rv32imac", "-mabi=ilp32", *DIVIDED]),
-    "armv7": Processor("armv7-unknown-linux-gnueabihf", ARM, DIVIDED, moves=True),
-    # (no call has floats: it is linked with either way of passing them, ABI_VFP_args 3)
-    "thumbv7em": Processor(
-        "thumbv7em-unknown-none-eabi", ARM, ["-mcpu=cortex-m7", "-mfloat-abi=soft", *DIVIDED],
-        attribute=".eabi_attribute 28, 3", of_c=("-fshort-enums",),
-    ),
+    "armv7": Processor("armv7-unknown-linux-gnueabihf", ARM, ["-march=armv7-a", "-mfpu=neon", *DIVIDED], moves=True),
+    "thumbv7em": without_floats("thumbv7em-unknown-none-eabi", "cortex-m7"),
+    # (it may lack those of digital signals too)
+    "cortex-m33": without_floats("thumbv8m.main-unknown-none-eabi", "cortex-m33+nodsp", "dsp"),
+    "cortex-r5": without_floats("thumbv7r-unknown-none-eabi", "cortex-r5"),
+    "cortex-r8": without_floats("thumbv7r-unknown-none-eabi", "cortex-r8"),
 }
 
 # What the kit gives its compiler that is of x86-64 alone, or names files.

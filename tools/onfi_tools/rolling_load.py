@@ -15,6 +15,8 @@ from onfi_tools.rolling_ways import title_of
 from onfi_tools.script import lengths_of
 from onfi_tools.workload import MOST_OPERATIONS, Operation, Shape, paged_rows
 
+# How the sequencer runs a load.
+RUN = ("run", "--clock", "simulated", "--rule")
 # Into how many equal parts the time is cut, from the first arrival to the last end of all ways.
 WINDOWS = 100
 SHARES = {"50 %": 0.5, "95 %": 0.95, "99 %": 0.99, "99.9 %": 0.999}
@@ -118,12 +120,12 @@ def script_of(load: Load) -> str:
         raise ValueError(f"`run` takes requests at their times, and at most {MOST_OPERATIONS:,} operations")
     moments = itertools.groupby(load.operations, key=lambda it: it.time)
     rows = (row for time, own in moments for row in (f"at,{time}", *(it.row() for it in own)))
-    return "\n".join([*load.script, "submitcap,1024", "postcap,1024", "choice,whole-groups", *rows, "end", ""])
+    return "\n".join([*load.script, "submitcap,1024", "postcap,1024", *rows, "end", ""])
 
 
 def run_sequencer(program: Path, load: Load) -> Outcome:
     """What `onfi_sim run` makes of a load. ValueError where it doesn't answer all."""
-    ran = subprocess.run([str(program), "run", "--clock", "simulated", "--rule"], input=script_of(load), capture_output=True, text=True)
+    ran = subprocess.run([str(program), *RUN], input=script_of(load), capture_output=True, text=True)
     ends = re.findall(r"^reply,0,0,\d+,(\d+),", ran.stdout, re.MULTILINE)
     if ran.returncode:
         raise ValueError(f"{program} run: status {ran.returncode}: {ran.stderr.strip() or ran.stdout[-80:]}")

@@ -14,9 +14,9 @@ from onfi_tools.rolling_ways import PLANS, WAYS
 
 ROOT = Path(__file__).resolve().parent.parent.parent
 SOURCES = ROOT / "examples/simulator/rolling"
-# What it shares with the driver of examples/c; and what of both calls the library.
-SHARED = ("firmware_choice.c", "firmware_host.c", "firmware_rule.c")
-OF_THE_LIBRARY = ("firmware_choice.c", "library.c")
+# What it shares with the driver of examples/c; and what calls the library.
+SHARED = ("firmware_host.c", "firmware_rule.c")
+OF_THE_LIBRARY = ("library.c",)
 STRICT = ("-std=c99", "-O2", "-Wall", "-Wextra", "-Werror", "-pedantic")
 
 # So many requests at least are answered where erases come: before, a way gains by leaving them undone.

@@ -1,9 +1,10 @@
 """A copy of a crate in which many wrong bodies are tried by one check.
 
 An edited body stands in a further function after its own, its sibling, with the same signature, attributes and contract and a copy of its
-proofs: so all edits of a function stand side by side. Of a cycle of calls each function has one. What can't have a sibling, as a method
-of a trait or a constant, is edited in place. The other functions are taken by their contracts: their proofs, which the crate's own
-check looks at, are holes here.
+proofs: so all edits of a function stand side by side. Of a cycle of calls each function has one. A method of a trait that has clauses
+of its own has it among its type's own methods. What can't have a sibling, as a method with the trait's clauses alone or a constant, is
+edited in place. The other functions are taken by their contracts: their proofs, which the crate's own check looks at, are holes here,
+and their bodies do nothing, so that the prover doesn't look at what they call.
 """
 
 from __future__ import annotations
@@ -18,6 +19,8 @@ from onfi_tools.functions import OWNER, Function, Key, end_of, functions_of, use
 
 PARTS = ("src", "specs", "proofs")
 TRAIT = re.compile(r"(?:pub(?:\([a-z]+\))? )?(?:trait\b|impl\b.* for )")
+OF_A_TYPE = re.compile(r"impl \w+ for (\w+) \{$")
+OF_A_TRAIT = re.compile(r"impl\b.* for (\w+)")
 CYCLE = re.compile(r"#\[cycle\((\w+)\)\]")
 HOLE = """\
 use Rattle.{path} as stated
@@ -112,7 +115,11 @@ class Sources:
         """The module that its proofs stand in: of a type's own method, that of the type, where the crate has one of its name."""
         if not function.owner or TRAIT.match(self.head_of(function)) or "+" in function.owner:
             return function.module()
-        declared = re.compile(rf"^(?:pub(?:\([a-z]+\))? )?(?:struct|enum) {function.owner}\b", re.M)
+        return self.home_of(function.owner)
+
+    def home_of(self, kind: str) -> Optional[List[str]]:
+        """The module that has a type, where the crate has one of its name."""
+        declared = re.compile(rf"^(?:pub(?:\([a-z]+\))? )?(?:struct|enum) {kind}\b", re.M)
         homes = [path for path, text in self.texts.items() if declared.search(text)]
         return Function(homes[0], "", "", 0, 0).module() if len(homes) == 1 else None
 
@@ -125,19 +132,34 @@ class Sources:
         cycle = self.cycle_of(function)
         return self.below(function, f"+{cycle}" if cycle else function.name)
 
-    def can_have_sibling(self, function: Function) -> bool:
-        return function in self.functions and not TRAIT.match(self.head_of(function)) and self.place_of(function) is not None
+    def owner_beside(self, function: Function) -> Optional[str]:
+        """Among whose methods a function's sibling stands; None where it has no clauses but a trait's."""
+        head, text = self.head_of(function), self.text_of(function)
+        if not TRAIT.match(head):
+            return function.owner
+        of_type = OF_A_TYPE.match(head)
+        return of_type[1] if of_type and "ensures" in text[: self.body_in(function)] else None
+
+    def place_beside(self, function: Function, number: int) -> Optional[PurePosixPath]:
+        """Where the proofs of a function's sibling of that number stand; None where it can have no sibling."""
+        owner, place = self.owner_beside(function), self.place_of(function)
+        if function not in self.functions or owner is None or place is None:
+            return None
+        if owner == function.owner:
+            return place.with_name(f"{place.name}_edit_{number}")
+        home = self.home_of(owner)
+        return None if home is None else PurePosixPath(*home, owner, f"{place.name}_edit_{number}")
 
     def trial(self, name: str, pairs: Sequence[Pair], number: int, is_twin: bool) -> Trial:
         """What is tried for these pairs, which have to apply; of a constant or a type, at the functions that name it."""
         items = {item: self.named(*item) for item in by_item(pairs)}
         for item, own in by_item(pairs).items():
             edited(self.text_of(items[item]), self.body_in(items[item]), own)
-        function = next(iter(items.values()), None)
-        if function is None:
+        if not items:
             raise BadEdit("it has no pair")
-        if len(items) == 1 and self.can_have_sibling(function):
-            return Trial(name, is_twin, tuple(pairs), frozenset([(function.path, function.owner, f"{function.name}_edit_{number}")]), number)
+        if all(self.place_beside(it, number) for it in items.values()):
+            keys = frozenset((it.path, self.owner_beside(it) or "", f"{it.name}_edit_{number}") for it in items.values())
+            return Trial(name, is_twin, tuple(pairs), keys, number)
         inside = [it for it in items.values() if it in self.functions]
         users = [user for it in items.values() if it not in self.functions for user in users_of(self.texts, it.name)]
         if not inside and not users:
@@ -150,8 +172,11 @@ class Sources:
 
     def names_any(self, trial: Trial, keys: FrozenSet[Key]) -> bool:
         """Whether what a trial changes names one of these functions: it isn't looked at while their proofs fail."""
-        texts = [self.text_of(self.named(*item)) for item in by_item(trial.pairs)] + [it.new for it in trial.pairs]
-        return any(re.search(rf"\b{key[2]}\b", text) for key in keys for text in texts)
+        text = "\n".join([self.text_of(self.named(*item)) for item in by_item(trial.pairs)] + [it.new for it in trial.pairs])
+        named = [it for it in self.functions if it.key in keys and re.search(rf"\b{it.name}\b", text)]
+        # (a method of a trait by its type's name too: others have methods of that name)
+        heads = [OF_A_TRAIT.match(self.head_of(it)) for it in named]
+        return any(not head or re.search(rf"\b{head[1]}\b", text) for head in heads)
 
     def in_rounds(self, trials: Sequence[Trial]) -> List[List[Trial]]:
         """What one check tries: all siblings, and of those in place what has no function in common and names none that another changes."""
@@ -176,19 +201,29 @@ class Sources:
             if (self.folder / part).is_dir():
                 shutil.copytree(self.folder / part, copy / part)
         in_place = frozenset(key for it in trials for key in self.units(it))
-        self.write_holes(copy / "proofs", in_place)
-        texts = {path: list(lines) for path, lines in self.lines.items()}
         made = [it for trial in trials for it in self.made_by(trial)]
+        made += [(it, self.stub_of(it), 0) for it in self.write_holes(copy / "proofs", in_place) if self.can_be_stub(it)]
+        texts = {path: list(lines) for path, lines in self.lines.items()}
         for function, text, number in sorted(made, key=lambda it: (-it[0].first, -it[2])):
             lines = texts[function.path]
             if number:
-                lines[function.last + 1 : function.last + 1] = ["", *text.split("\n")]
+                self.add_sibling(lines, function, text)
                 self.write_proofs(copy / "proofs", function, number)
             else:
                 lines[self.first_of(function) : function.last + 1] = text.split("\n")
         for path, lines in texts.items():
             (copy / path).write_text("\n".join(lines), encoding="utf-8")
         return {path: "\n".join(lines) for path, lines in texts.items()}
+
+    def add_sibling(self, lines: List[str], function: Function, text: str) -> None:
+        """Puts a sibling after its function; that of a trait's method in a block of its type's own, with what the trait's block uses."""
+        owner = self.owner_beside(function)
+        if owner == function.owner:
+            lines[function.last + 1 : function.last + 1] = ["", *text.split("\n")]
+            return
+        block = "\n".join(self.lines[function.path]).split(f"\n{self.head_of(function)}\n")[1].split("\n}")[0]
+        uses = re.findall(r"^    ghost use [^;]*;", block, re.M)
+        lines += [f"impl {owner} {{", *"\n".join(uses).split("\n"), *text.split("\n"), "}", ""]
 
     def made_by(self, trial: Trial) -> List[Tuple[Function, str, int]]:
         """The texts that a trial gives functions, with their siblings' number; of a cycle of calls each function has a sibling."""
@@ -207,10 +242,11 @@ class Sources:
 
     def write_proofs(self, proofs: Path, function: Function, number: int) -> None:
         """Gives a sibling its function's proofs, in which its own names are the sibling's."""
-        place = self.place_of(function)
-        assert place is not None
-        sibling = proofs / place.with_name(f"{place.name}_edit_{number}")
-        own = re.compile(rf"(Rattle\.{self.crate}\.(?:proofs|specs\.contracts)\.{re.escape('.'.join(place.parts))}(?![\w'+-])|\b{function.name}(?=_spec\b))")
+        place, beside = self.place_of(function), self.place_beside(function, number)
+        assert place is not None and beside is not None
+        sibling = proofs / beside
+        parts = ".".join(beside.parts)
+        own = re.compile(rf"(?<=Rattle\.{self.crate}\.)((?:proofs|specs\.contracts)\.){re.escape('.'.join(place.parts))}(?![\w'+-])|\b{function.name}(?=_spec\b)")
         # In a cycle of calls goals and steps are named after its functions; a bare word may be a tactic's.
         names = "|".join(it.name for it in self.unit_of(function))
         step = re.compile(rf"(?<![^\s({{,])(?!Rattle\.)(?!(?:{names})(?![\w'+.-]))[^\s(){{}},;]+" if self.cycle_of(function) else r"(?!)")
@@ -218,10 +254,23 @@ class Sources:
         for file in (self.folder / "proofs" / place).glob("*.antt"):
             sibling.mkdir(parents=True, exist_ok=True)
             text = step.sub(lambda it: part.sub(rf"\g<0>_edit_{number}", it[0]), file.read_text(encoding="utf-8"))
-            (sibling / file.name).write_text(own.sub(rf"\g<1>_edit_{number}", text), encoding="utf-8")
+            text = own.sub(lambda it: it[1] + parts if it[1] else f"{function.name}_edit_{number}", text)
+            (sibling / file.name).write_text(text, encoding="utf-8")
 
-    def write_holes(self, proofs: Path, kept: FrozenSet[Key]) -> None:
-        """Puts a hole in place of the proofs of functions but these."""
+    def can_be_stub(self, function: Function) -> bool:
+        """Whether nothing asks for a function's body: neither a constant that calls it, nor its type, nor a cycle of calls."""
+        text = self.text_of(function)
+        head = text[: self.body_in(function)]
+        return not re.search(r"\bconst fn\b|-> .*\bimpl\b", head) and not self.cycle_of(function)
+
+    def stub_of(self, function: Function) -> str:
+        """A function's text with a body that calls nothing and does nothing; its proof is a hole, so nothing is said of it."""
+        end = self.lines[function.path][function.last].partition("}")[0] + "}"
+        return self.text_of(function)[: self.body_in(function)] + "{ loop {}\n" + end
+
+    def write_holes(self, proofs: Path, kept: FrozenSet[Key]) -> List[Function]:
+        """Puts a hole in place of the proofs of functions but these, and gives those functions."""
+        given: List[Function] = []
         for function in self.functions:
             place, text = self.place_of(function), self.text_of(function)
             if place is None or function.key in kept or not self.body_in(function) or "#[test]" in text:
@@ -233,3 +282,5 @@ class Sources:
             (proofs / place).mkdir(parents=True)
             dotted = ".".join([self.crate, "proofs", *place.parts, *(["Statement"] if place.name == function.name else [])])
             (proofs / place / "Proof.antt").write_text(HOLE.format(path=dotted, name=place.name), encoding="utf-8")
+            given.append(function)
+        return given

@@ -13,7 +13,7 @@ use onfi_flight::Flight;
 use onfi_group::Rules;
 use onfi_request::Want;
 use onfi_timing::{Kind, Timing};
-use std::alloc::Global;
+use std::alloc::{AllocError, Global};
 use std::marker::Model;
 use thiserror::Error;
 
@@ -104,6 +104,24 @@ impl Audit {
             wants: Waiting::new(alloc),
             accepted,
         }
+    }
+
+    /// The same log once more, as far as it was judged.
+    ///
+    /// # Errors
+    /// Where memory was refused.
+    pub fn copy(&self) -> Result<Audit, AllocError>
+        ensures { IfOk result (λ a. a ≡ self.now) }
+    {
+        let wants = self.wants.copy()?;
+        Ok(Audit {
+            timing: self.timing,
+            rules: self.rules,
+            bus_free: self.bus_free,
+            luns: Luns::copy_of(self.luns.as_slice()),
+            wants,
+            accepted: self.accepted,
+        })
     }
 
     /// The lengths of phases.

@@ -41,6 +41,18 @@ impl Waiting {
         }
     }
 
+    /// The same requests once more.
+    ///
+    /// # Errors
+    /// Where memory was refused.
+    pub(crate) fn copy(&self) -> Result<Waiting, AllocError>
+        ensures { IfOk result (λ w. w ≡ self.now) }
+    {
+        let mut all = Vec::new(self.alloc());
+        all.extend_from_slice(self.as_slice())?;
+        Ok(Waiting { all, gone: 0 })
+    }
+
     /// The allocator that it takes memory from.
     pub(crate) fn alloc(&self) -> Global {
         *self.all.allocator()

@@ -35,13 +35,13 @@ use Rattle.onfi_schedule.proofs.Following.{done_law}
 use Rattle.onfi_flight.specs.declared.due.Due.{Due}
 use Rattle.onfi_core.specs.declared.setup.Setup.{Setup}
 use Rattle.onfi_core.specs.declared.setup.Choice.TheVariants.{InOrder}
-use Rattle.onfi_core.specs.declared.setup.Replanning.TheVariants.{AtOnce}
 use Rattle.onfi_core.specs.Dues.{IsDue}
 use Rattle.onfi_core.specs.State.{HalfState, want_of, wants_from, item_at, quiet, request_of, device_for}
 use Rattle.onfi_core.specs.Steps.{RunsOnChip, IsLostAt, none_left, unplanned}
 use Rattle.onfi_core.specs.Kept.{ChipAgrees, IsHalf, IsTaken, IsSound, LunAgrees, commanding, unposted, on, is_of_place}
 use Rattle.onfi_core.proofs.Numbered.{all_taken}
 use Rattle.onfi_core.proofs.Members.{request_at}
+use Rattle.onfi_core.proofs.Halves.{legal_left}
 use Rattle.onfi_core.proofs.HeldFor.{is_nil}
 use Rattle.onfi_core.proofs.Next.{is_wanted}
 use Rattle.onfi_core.proofs.Promise.{one_each, places_apart}
@@ -143,7 +143,6 @@ module _ (target : Target) (items : List Item) (p : Problem) (s : Schedule) (fau
     post_cap = 1;
     limit = 1;
     choice = InOrder;
-    replanning = AtOnce;
     mark = 256;
     some_channel = lit≤ tt;
     few_channels = lit≤ tt;
@@ -180,9 +179,8 @@ module _ (target : Target) (items : List Item) (p : Problem) (s : Schedule) (fau
     timing = sym timing;
     rules = refl;
     problem = problem_fits p s count problem legal batch.nothing_runs below;
-    few = few;
     luns = length-replicate count (Free 0);
-    legal = legal_fits p s count problem legal batch.nothing_runs below;
+    way = record { choice = refl; few = few; legal = legal_fits p s count problem legal batch.nothing_runs below };
     in_range = batch.fits;
     wants = subst (All (IsTaken setup (length items) items)) (sym batch.wants) (all_taken setup items 0 [] items refl refl);
     running = λ lun g n r at. absurd (none_running count lun g n r at);
@@ -191,9 +189,6 @@ module _ (target : Target) (items : List Item) (p : Problem) (s : Schedule) (fau
         let e = ap (number (has_id place)) (none_unposted (replicate count (Free 0)) (none_running count)) in
         let f = ap (number (has_id place)) batch.wants in
         omega (arith, d, e, f));
-    aside = tt;
-    aside_rise = tt;
-    in_order = λ _. refl;
     last = tt;
   }
 
@@ -254,7 +249,7 @@ course_kept target schedule items first started lanes chip course started' lanes
     record {
       driven = driven;
       items_are = same ∙ course.items_are;
-      order = order_kept schedule course.driven.setup h (state_of started') chip chip' due course.driven.half.sound is on course.order;
+      order = order_kept schedule course.driven.setup h (state_of started') chip chip' due course.driven.half.sound is on refl course.order;
       basis = (
           let old = subst (λ xs. All (RestsOn xs first.faults) started.replies.items) (sym course.items_are) course.basis in
           subst (λ xs. All (RestsOn xs first.faults) started'.replies.items) course.items_are
@@ -278,14 +273,14 @@ lost_since_unready first old new kept lost =
     record { faults = lost.faults ∙ kept.faults; rose = omega (arith, before, rose) }
 
 -- what a fault at the next phase leaves of the chip, it leaves since the batch opened
-module _ (schedule : Schedule) (s : Setup) (h : HalfState) (sound : IsSound s h) (order : IsInOrder schedule h) (first old new : Chip) (kept : KeptSince first old) where
+module _ (schedule : Schedule) (s : Setup) (h : HalfState) (sound : IsSound s h) (none : h.books ≡ None) (order : IsInOrder schedule h) (first old new : Chip) (kept : KeptSince first old) where
   bus_leaves : IsLostAt (quiet h old) post_fault.Bus new → AfterBatchFault schedule fault.Bus first new
   bus_leaves lost =
       elim lost.why [
         | inl rose ↦ inl (lost_since_bus first old new kept (record { faults = lost.faults; rose = rose }))
         | inr lacks ↦ (
             let (move, start, left, next, asks) = lacks.asked in
-            inr (record { output = sectors_told schedule s h sound order move start left next asks; kept = kept_on first old new kept (kept_same old new lacks.same) }))
+            inr (record { output = sectors_told schedule s h sound none order move start left next asks; kept = kept_on first old new kept (kept_same old new lacks.same) }))
       ]
 
   pub fault_since : (f : BatchFault) → AfterPhaseFault h f old new → AfterBatchFault schedule f first new
@@ -345,7 +340,7 @@ module _ (target : Target) (items : List Item) (s : Schedule) (first chip : Chip
 
   module _ (none : none_left h ≡ true) where
     done : IsDone h.now
-    done = (done_law h.now h.left sound'.problem sound'.legal).1 (is_nil (phases h.now h.left) none)
+    done = (done_law h.now h.left sound'.problem (legal_left setup' h sound' refl)).1 (is_nil (phases h.now h.left) none)
 
     pub ended_replied : EachReplied items started.replies.items
     ended_replied place item at =

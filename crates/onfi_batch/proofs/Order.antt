@@ -1,5 +1,5 @@
 -- The posts of a batch come in the order of their starts.
-use Rattle.std.proofs.Common.{◌≡◌, ℕ, zero, suc, ◌+◌, ◌-◌, ◌<◌, ◌≤◌, inl, inr, List, [], ◌∷◌, ◌++◌, length, Some, drop, refl, sym, ap, subst, ◌∙◌, append-nil, arith}
+use Rattle.std.proofs.Common.{◌≡◌, ℕ, zero, suc, ◌+◌, ◌-◌, ◌<◌, ◌≤◌, inl, inr, List, [], ◌∷◌, ◌++◌, length, None, Some, drop, refl, sym, ap, subst, ◌∙◌, append-nil, arith}
 use Rattle.std.specs.Prelude.{slice_get, slice_set}
 use Rattle.std.specs.List.{AllByRecursion as Each, AllZip}
 use Rattle.onfi_timing.specs.Phases.{phase_length}
@@ -19,14 +19,16 @@ use Rattle.onfi_problem.specs.Moves.{Move, Next, Start, IsMove, lun_after, move_
 use Rattle.onfi_problem.specs.Problem.{IsProblem, Problem}
 use Rattle.onfi_schedule.proofs.Following.{first_move_law}
 use Rattle.onfi_schedule.specs.Laws.{ComesNext}
-use Rattle.onfi_schedule.specs.Schedule.{Placed, Schedule, rest_of}
+use Rattle.onfi_schedule.specs.Schedule.{Legal, Placed, Schedule, rest_of}
 use Rattle.onfi_flight.specs.declared.due.Due.{Due}
 use Rattle.onfi_core.specs.declared.setup.Setup.{Setup}
-use Rattle.onfi_core.specs.Dues.{IsDue}
+use Rattle.onfi_core.specs.Dues.{IsDue, left_by}
+use Rattle.onfi_core.proofs.Halves.{legal_left}
+use Rattle.onfi_core.proofs.Stepping.{comes_in_order, due_in_order}
 use Rattle.onfi_core.specs.Kept.{IsSound}
 use Rattle.onfi_core.specs.State.{HalfState}
 use Rattle.onfi_flight.specs.Flight.{IsPhase, left_behind, move_of}
-use Rattle.onfi_core.specs.Steps.{AsksSectors, RunsOnChip, half_after_phase, reply_to}
+use Rattle.onfi_core.specs.Steps.{AsksSectors, Comes, RunsOnChip, half_after_phase, reply_to}
 use Rattle.onfi_core.proofs.Lists.{get_has}
 use Rattle.onfi_core.proofs.Next.{get_drop}
 use Rattle.onfi_core.proofs.MayRunDue.{group_lun}
@@ -62,10 +64,10 @@ record IsStepOf (schedule : Schedule) (h : HalfState) (l : ℕ) (group : List Wa
   groups : Each (Has schedule.groups) left.groups
   bus : start < now.bus_free
 
-step_of : (schedule : Schedule) (s : Setup) (h : HalfState) → IsSound s h → IsInOrder schedule h → (move : Move) (start : ℕ) (left : Schedule)
+step_of : (schedule : Schedule) (s : Setup) (h : HalfState) → IsSound s h → Legal h.now h.left → IsInOrder schedule h → (move : Move) (start : ℕ) (left : Schedule)
     → ComesNext h.now h.left move start left → (group : List Want) (phase : ℕ) → IsPhase h.now move group phase
     → IsStepOf schedule h (move_lun move) group phase start (placed h.now move start) left
-step_of schedule s h sound order (Next l) start left next group phase (ready, there) =
+step_of schedule s h sound legal order (Next l) start left next group phase (ready, there) =
     let runs = order.running l group phase ready there in
     let begins = next.begins in
     let same : Some (drop phase runs.0) ≡ Some (start ∷ begins.0) = sym runs.2 ∙ begins.1 in
@@ -84,13 +86,13 @@ step_of schedule s h sound order (Next l) start left next group phase (ready, th
       groups = subst (λ (x : Schedule). Each (Has schedule.groups) x.groups) (sym begins.2) order.waiting;
       bus = omega (arith, some, bus);
     }
-step_of schedule s h sound order (Start members) start left next group phase (same, none) =
+step_of schedule s h sound legal order (Start members) start left next group phase (same, none) =
     let P : List Want → ℕ → Type 0 = λ x n. IsStepOf schedule h (lun_of members) x n start (placed h.now (Start members) start) left in
     let (rest, before, behind, are, is) = next.begins in
     let g : Placed = record { members = members; starts = start ∷ rest } in
     let all = subst (Each (Has schedule.groups)) are order.waiting in
     let later = All-back (Has schedule.groups) before (g ∷ behind) all in
-    let move = (first_move_law h.now h.left (Start members) start left sound.problem sound.legal next).is_move in
+    let move = (first_move_law h.now h.left (Start members) start left sound.problem legal next).is_move in
     let more = move.2.group.some in
     let some = phase_some h.now.timing members 0 (omega (arith, more)) in
     let base : P members 0 = record {
@@ -124,13 +126,13 @@ post_starts schedule group starts phase start rest planned at m le there =
       starts = subst (λ i. slice_get starts i ≡ Some start) e here;
     }
 
-module _ (schedule : Schedule) (s : Setup) (h : HalfState) (sound : IsSound s h) (order : IsInOrder schedule h) (move : Move) (start : ℕ) (left : Schedule)
+module _ (schedule : Schedule) (s : Setup) (h : HalfState) (sound : IsSound s h) (legal : Legal h.now h.left) (order : IsInOrder schedule h) (move : Move) (start : ℕ) (left : Schedule)
     (next : ComesNext h.now h.left move start left) (group : List Want) (phase : ℕ) (is : IsPhase h.now move group phase) where
   step : IsStepOf schedule h (move_lun move) group phase start (placed h.now move start) left
-  step = step_of schedule s h sound order move start left next group phase is
+  step = step_of schedule s h sound legal order move start left next group phase is
 
   on_time : h.now.bus_free ≤ start
-  on_time = let t = (first_move_law h.now h.left move start left sound.problem sound.legal next).on_time in omega (arith, t)
+  on_time = let t = (first_move_law h.now h.left move start left sound.problem legal next).on_time in omega (arith, t)
 
   runs : (lun : ℕ) (g : List Want) (n ready : ℕ) → slice_get (placed h.now move start).luns lun ≡ Some (Running g n ready)
       → (starts : List ℕ) × Has schedule.groups (record { members = g; starts = starts }) × (rest_of left lun ≡ Some (drop n starts))
@@ -144,7 +146,7 @@ module _ (schedule : Schedule) (s : Setup) (h : HalfState) (sound : IsSound s h)
             let here : Some after ≡ Some (Running g n ready) =
             sym set ∙ subst (λ i. slice_get (placed h.now move start).luns i ≡ Some (Running g n ready)) q there in
             let r = running_is h.now.timing group g phase _ n ready here in
-            let size = sound.legal.shape.luns in
+            let size = legal.shape.luns in
             let low = within_get h.now.luns l step.lun step.lun_there in
             let old = get_within h.left.rest l (omega (arith, size, low)) in
             let rest : step.rest ≡ drop n step.starts = sym (drop_tail phase step.starts start step.rest step.at) ∙ ap (λ i. drop i step.starts) r.1 in (
@@ -193,23 +195,28 @@ module _ (schedule : Schedule) (s : Setup) (h : HalfState) (sound : IsSound s h)
 
 -- a phase keeps the order
 pub order_kept : (schedule : Schedule) (s : Setup) (h h' : HalfState) (chip chip' : Chip) (due : Due) → IsSound s h → IsDue h due → GoesOn h chip due h' chip'
-    → IsInOrder schedule h → IsInOrder schedule h'
-order_kept schedule s h h' chip chip' due sound is (replies, on, after) order =
+    → h.books ≡ None → IsInOrder schedule h → IsInOrder schedule h'
+order_kept schedule s h h' chip chip' due sound next (replies, on, after) none order =
+    let is = due_in_order h none due next in
+    let legal = legal_left s h sound none in
     subst (IsInOrder schedule) (sym after)
-    (order_behind schedule s h sound order (move_of due) due.start (left_behind h.left due) (is.next sound.legal) due.group due.phase is.phase chip chip' replies on)
+    (subst (λ l. IsInOrder schedule (half_after_phase h (move_of due) due.start l replies)) (sym (ap (λ b. left_by b h.left due) none))
+    (order_behind schedule s h sound legal order (move_of due) due.start (left_behind h.left due) (is.next legal) due.group due.phase is.phase chip chip' replies on))
 
 group_of : (p : Problem) → IsProblem p → (move : Move) → IsMove p move → (g : List Want) (n : ℕ) → IsPhase p move g n → IsGroup p.rules g
 group_of p ip (Next l) m g n (ready, at) = (ip.running l g n ready at).group
 group_of p ip (Start members) (since, at, st) g n (same, none) = subst (IsGroup p.rules) same st.group
 
 -- a LUN that said that it isn't ready is that of the status
-pub status_told : (schedule : Schedule) (s : Setup) (h : HalfState) → IsSound s h → IsInOrder schedule h → (fault : BatchFault) → IsFaultOf h fault
+pub status_told : (schedule : Schedule) (s : Setup) (h : HalfState) → IsSound s h → h.books ≡ None → IsInOrder schedule h → (fault : BatchFault) → IsFaultOf h fault
     → (start : ℕ) × TellsStatus schedule start fault
-status_told schedule s h sound order fault.Bus why = (0, tt)
-status_told schedule s h sound order fault.Memory why = (0, tt)
-status_told schedule s h sound order (fault.NotReady lun) (move, start, left, next, is_lun, asks) =
-    let step = step_of schedule s h sound order move start left next asks.group asks.phase asks.is in
-    let move_there = (first_move_law h.now h.left move start left sound.problem sound.legal next).is_move in
+status_told schedule s h sound none order fault.Bus why = (0, tt)
+status_told schedule s h sound none order fault.Memory why = (0, tt)
+status_told schedule s h sound none order (fault.NotReady lun) (move, start, left, comes, is_lun, asks) =
+    let legal = legal_left s h sound none in
+    let next = comes_in_order h none move start left comes in
+    let step = step_of schedule s h sound legal order move start left next asks.group asks.phase asks.is in
+    let move_there = (first_move_law h.now h.left move start left sound.problem legal next).is_move in
     let group = group_of h.now sound.problem move move_there asks.group asks.phase asks.is in
     let here = All-has (λ (w : Want). w.lun ≡ lun_of asks.group) asks.group asks.member group.lun
     (get_has asks.group (asks.phase - length asks.group) asks.member asks.there) in
@@ -218,10 +225,12 @@ status_told schedule s h sound order (fault.NotReady lun) (move, start, left, ne
     (start, (asks.member, lun_is, asks.operation, post))
 
 -- an output of some sectors that comes next is one of the schedule
-pub sectors_told : (schedule : Schedule) (s : Setup) (h : HalfState) → IsSound s h → IsInOrder schedule h → (move : Move) (start : ℕ) (left : Schedule)
-    → ComesNext h.now h.left move start left → AsksSectors h.now move → StartsSectors schedule
-sectors_told schedule s h sound order move start left next asks =
-    let step = step_of schedule s h sound order move start left next asks.group asks.phase asks.is in
+pub sectors_told : (schedule : Schedule) (s : Setup) (h : HalfState) → IsSound s h → h.books ≡ None → IsInOrder schedule h → (move : Move) (start : ℕ) (left : Schedule)
+    → Comes h move start left → AsksSectors h.now move → StartsSectors schedule
+sectors_told schedule s h sound none order move start left comes asks =
+    let legal = legal_left s h sound none in
+    let next = comes_in_order h none move start left comes in
+    let step = step_of schedule s h sound legal order move start left next asks.group asks.phase asks.is in
     record {
       start = start;
       want = asks.member;

@@ -1,5 +1,5 @@
 -- A phase of a batch, and what it leaves.
-use Rattle.std.proofs.Common.{◌≡◌, ℕ, ◌<◌, inl, inr, List, ◌∷◌, length, Some, get_or, refl, sym, ap, subst, ◌∙◌, arith}
+use Rattle.std.proofs.Common.{◌≡◌, ℕ, ◌<◌, inl, inr, List, ◌∷◌, length, None, Some, get_or, refl, sym, ap, subst, ◌∙◌, arith}
 use Rattle.std.specs.Prelude.{slice_get}
 use Rattle.onfi_request.specs.declared.request.Item.{Item}
 use Rattle.onfi_request.specs.declared.reply.Reply.{Reply}
@@ -24,7 +24,8 @@ use Rattle.onfi_lun.specs.declared.phase_result.PhaseResult.{PhaseResult}
 use Rattle.onfi_core.specs.declared.setup.Setup.{Setup}
 use Rattle.onfi_lun.specs.Drive.{HasRun, AfterDrive, IsStatus}
 use Rattle.onfi_flight.specs.Flight.{left_behind, member_of, move_of}
-use Rattle.onfi_core.specs.Dues.{IsDue, after_due, replies_of}
+use Rattle.onfi_core.specs.Dues.{IsDue, after_due, left_by, replies_of}
+use Rattle.onfi_core.proofs.Stepping.{due_in_order, due_of}
 use Rattle.onfi_core.specs.Kept.{IsHalf, IsSound, IsTaken, ChipAgrees}
 use Rattle.onfi_core.specs.State.{HalfState, device_for, item_at, no_item, quiet}
 use Rattle.onfi_core.specs.Steps.{RunsOnChip, LacksSectors}
@@ -78,7 +79,9 @@ kept_by h h' chip chip' due (replies, inr (member, answer, c, one), after) = don
 module _ (s : Setup) (h : HalfState) (chip : Chip) (half : IsHalf s (device_for s chip) h) (agrees : ChipAgrees s h chip) (due : Due) (is : IsDue h due) where
   after_run : (chip' : Chip) (replies : List Reply) → RunsOnChip h.accepted due.group due.phase due.start chip chip' replies
       → AfterPhase s chip (after_due h due replies) chip'
-  after_run chip' replies on = after_move s h chip half agrees (move_of due) due.start (left_behind h.left due) (is.next half.sound.legal) due.group due.phase is.phase chip' replies on
+  after_run chip' replies on =
+      let d = due_of s h due half.sound is in
+      after_move s h chip half agrees (move_of due) due.start (left_by h.books h.left due) d.comes due.group due.phase d.phase chip' replies on
 
   -- the half and the chip agree after it
   pub agree_behind : (h' : HalfState) (chip' : Chip) → GoesOn h chip due h' chip' → IsHalf s (device_for s chip') h' × ChipAgrees s h' chip'
@@ -100,7 +103,8 @@ module _ (s : Setup) (h : HalfState) (chip : Chip) (half : IsHalf s (device_for 
     fault_is drive.Bus lun e status = tt
     fault_is drive.NotReady lun e status =
         let asks = asks_status s h chip half.sound agrees due is m at item item_is (status refl) in
-        (move_of due, due.start, left_behind h.left due, is.next half.sound.legal, is.lun ∙ sym e, asks)
+        let d = due_of s h due half.sound is in
+        (move_of due, due.start, left_by h.books h.left due, d.comes, d.lun ∙ sym e, asks)
     fault_is drive.Memory lun e status = tt
 
     -- what it leaves of the chip
@@ -111,7 +115,7 @@ module _ (s : Setup) (h : HalfState) (chip : Chip) (half : IsHalf s (device_for 
         let lacks : LacksSectors (quiet h chip) post_fault.Bus chip' = record {
           bus = refl;
           same = none.same;
-          asked = (move_of due, due.start, left_behind h.left due, is.next half.sound.legal, asks);
+          asked = (move_of due, due.start, left_by h.books h.left due, (due_of s h due half.sound is).comes, asks);
         } in
         record { faults = ap (λ (x : Chip). x.faults) none.same; why = inr lacks }
     fault_leaves drive.NotReady lun chip' lost = lost
@@ -135,10 +139,11 @@ begins_fewer s (Start group) start left low (starts, before, behind, are, is) =
     let e = total-append (λ (x : Placed). length x.starts) before behind in
     omega (arith, a, b, c, d, e)
 
-pub fewer_left : (s : Setup) (h h' : HalfState) (chip chip' : Chip) (due : Due) → IsSound s h → IsDue h due → GoesOn h chip due h' chip'
+pub fewer_left : (s : Setup) (h h' : HalfState) (chip chip' : Chip) (due : Due) → IsSound s h → h.books ≡ None → IsDue h due → GoesOn h chip due h' chip'
     → steps_left h'.left < steps_left h.left
-fewer_left s h h' chip chip' due sound is (replies, on, after) =
+fewer_left s h h' chip chip' due sound none next (replies, on, after) =
+    let is = due_in_order h none due next in
     let low : move_lun (move_of due) < length h.left.rest = (let a = is.there in let b = is.lun in omega (arith, a, b)) in
     let fewer = begins_fewer h.left (move_of due) due.start (left_behind h.left due) low is.begins in
-    let e : steps_left h'.left ≡ steps_left (left_behind h.left due) = ap (λ (x : HalfState). steps_left x.left) after in
+    let e : steps_left h'.left ≡ steps_left (left_behind h.left due) = ap (λ (x : HalfState). steps_left x.left) after ∙ ap (λ b. steps_left (left_by b h.left due)) none in
     omega (arith, fewer, e)

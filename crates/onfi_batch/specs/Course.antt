@@ -32,10 +32,10 @@ abbrev pub half_of : List Item → Problem → Schedule → List Reply → HalfS
 half_of accepted now left replies = record {
   accepted = accepted;
   planned = length accepted;
-  aside = [];
   batch = 8;
   now = now;
   left = left;
+  books = None;
   outdated = false;
   last = None;
   held = replies;

@@ -3,8 +3,6 @@ ghost use Rattle.onfi_calls.specs.SaidGeometry.{GivesRow};
 ghost use Rattle.std.specs.Prelude.{None, Some, take};
 ghost use Rattle.onfi_calls.specs.Due.{GivesDue};
 ghost use Rattle.onfi_calls.specs.Ran.{GivesRan};
-ghost use Rattle.onfi_calls.specs.Chosen as chosen_spec;
-ghost use Rattle.onfi_calls.specs.WholeChosen as whole_chosen_spec;
 ghost use Rattle.onfi_calls.specs.Output as output_spec;
 
 use onfi_calls::{
@@ -25,68 +23,6 @@ pub extern "C" fn onfi_row(
     ensures { GivesRow geometry.now (record { lun = lun; block = block; page = page }) row.old row.new result }
 {
     onfi_calls::onfi_row(geometry, lun, block, page, row)
-}
-
-/// Is [`onfi_choose`](onfi_calls::onfi_choose) for C.
-#[unsafe(no_mangle)]
-pub extern "C" fn onfi_choose(
-    alloc: Global,
-    channel: &PlainChannel,
-    luns: &[PlainLun],
-    wants: &[PlainWant],
-    accepted: u64,
-    choice: u8,
-    batch: u8,
-    chosen: &mut [usize; 8],
-    count: &mut usize,
-) -> u32
-    ensures { chosen_spec.GivesChosen None channel.now luns.now wants.now accepted choice batch chosen.old chosen.new count.old count.new result }
-{
-    onfi_calls::onfi_choose(
-        alloc, channel, luns, wants, accepted, choice, batch, chosen, count,
-    )
-}
-
-/// Is [`onfi_choose_by`](onfi_calls::onfi_choose_by) for C.
-#[unsafe(no_mangle)]
-pub extern "C" fn onfi_choose_by(
-    alloc: Global,
-    lengths: &PlainLengths,
-    channel: &PlainChannel,
-    luns: &[PlainLun],
-    wants: &[PlainWant],
-    accepted: u64,
-    choice: u8,
-    batch: u8,
-    chosen: &mut [usize; 8],
-    count: &mut usize,
-) -> u32
-    ensures { chosen_spec.GivesChosen (Some lengths.now) channel.now luns.now wants.now accepted choice batch chosen.old chosen.new count.old count.new result }
-{
-    onfi_calls::onfi_choose_by(
-        alloc, lengths, channel, luns, wants, accepted, choice, batch, chosen, count,
-    )
-}
-
-/// Is [`onfi_choose_whole`](onfi_calls::onfi_choose_whole) for C.
-#[unsafe(no_mangle)]
-pub extern "C" fn onfi_choose_whole(
-    alloc: Global,
-    channel: &PlainChannel,
-    luns: &[PlainLun],
-    wants: &[PlainWant],
-    passed: &[u16],
-    has_newest: bool,
-    newest: u64,
-    batch: u8,
-    chosen: &mut [usize; 8],
-    count: &mut usize,
-) -> u32
-    ensures { whole_chosen_spec.GivesWhole channel.now luns.now wants.now passed.now (whole_chosen_spec.newest_said has_newest newest) batch chosen.old chosen.new count.old count.new result }
-{
-    onfi_calls::onfi_choose_whole(
-        alloc, channel, luns, wants, passed, has_newest, newest, batch, chosen, count,
-    )
 }
 
 /// Is [`onfi_due`](onfi_calls::onfi_due) for C.

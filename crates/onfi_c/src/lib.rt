@@ -6,7 +6,7 @@
 mod auditing;
 mod checking;
 mod devices;
+mod dispatching;
 mod driving;
 mod planning;
-mod queueing;
 mod texts;

@@ -1,11 +1,15 @@
 -- What a log has left that begins with a channel as a caller says it.
-use Rattle.std.proofs.Common.{◌≡◌, ℕ, zero, suc, ◌≤◌, false, List, [], ◌∷◌, length, map, Option, Some, None, inl, inr, refl, sym, ap, ◌∙◌, subst, arith}
+use Rattle.std.proofs.Common.{◌≡◌, ℕ, zero, suc, ◌≤◌, false, List, [], ◌∷◌, length, map, Option, Some, None, inl, inr, refl, sym, ap, ◌∙◌, subst, take, arith}
 use Rattle.std.specs.Prelude.{◌==◌, nat_lt, slice_index_or}
 use Rattle.std.specs.List.{list_any}
 use Rattle.std.proofs.lemmas.Bool.{cases_Bool, le-ltb}
 use Rattle.std.proofs.lemmas.Bool.Decides.{nat_tests}
 use Rattle.onfi_audit.specs.Audit.{opening}
 use Rattle.onfi_audit.specs.Audit.{stage_of as stage_of_state}
+use Rattle.onfi_group.specs.declared.rules.Rules.{Rules}
+use Rattle.onfi_problem.specs.declared.lun_state.LunState.{LunState}
+use Rattle.onfi_problem.specs.declared.lun_state.LunState.TheVariants.{Free}
+use Rattle.onfi_problem.specs.Kept.{problem_of}
 use Rattle.onfi_problem.specs.Problem.{Problem}
 use Rattle.onfi_timing.specs.declared.timing.Timing.{Timing}
 use Rattle.onfi_timing.specs.SectorPosts.{post_or_none}
@@ -16,8 +20,10 @@ use Rattle.onfi_calls.specs.declared.lun.PlainLun.{PlainLun}
 use Rattle.onfi_calls.specs.declared.lun.PlainWant.{PlainWant}
 use Rattle.onfi_calls.specs.AuditBegun.{begun, closed, lengths_by, no_lengths}
 use Rattle.onfi_calls.specs.AuditSaid.{IsAuditSaid, lun_in, no_stage, stage_of, stages_in}
-use Rattle.onfi_calls.specs.Refused.{AreSaid, IsGoodTiming, is_long}
-use Rattle.onfi_calls.specs.Said.{IsSaid, IsTiming, has_bad_kind, has_bad_member, have_bad_kind, has_no_operation, members_of, operation_in, state_of, states_of}
+use Rattle.onfi_calls.specs.Refused.{AreSaid, IsGoodTiming, IsMeasured, is_long}
+use Rattle.onfi_calls.specs.Said.{AreRules, IsSaid, IsTiming, has_bad_kind, has_bad_member, have_bad_kind, has_no_operation, members_of, operation_in, state_of, states_of}
+use Rattle.onfi_calls.specs.Written.{filled}
+use Rattle.onfi_calls.proofs.FewStates.{states_said}
 use Rattle.onfi_calls.proofs.Audits.{filled_front, same_parts}
 use Rattle.onfi_calls.proofs.InOrders.{both_false, none_weaker}
 
@@ -95,3 +101,14 @@ begun_says by lengths channel luns p said is of few = rw of (
       rules = is.rules;
       is = same_parts p.timing p.rules p.bus_free channel.bus_free 0 (map stage_of_state p.luns) (map (stage_of bits) (stages_in s)) [] is.bus_free stages refl;
     })
+
+-- what is said of a channel of which nothing waits
+pub said_here : (by : Option PlainLengths) (channel : PlainChannel) (luns : List PlainLun) (timing : Timing) (rules : Rules) (whole : List LunState) → IsMeasured by channel luns [] timing →
+    AreRules channel.rules rules → whole ≡ filled 8 (Free 0) (states_of channel.rules.plane_bits luns) → IsSaid by channel luns [] (problem_of timing rules channel.bus_free (take (length luns) whole) [])
+said_here by channel luns timing rules whole measured are states = record {
+  timing = measured.spans;
+  rules = are;
+  bus_free = refl;
+  states = states_said channel.rules.plane_bits luns whole states;
+  requests = refl;
+}

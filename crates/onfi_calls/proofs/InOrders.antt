@@ -21,9 +21,8 @@ use Rattle.onfi_calls.specs.declared.lun.PlainWant.{PlainWant}
 use Rattle.onfi_calls.specs.declared.schedule.PlainGroup.{PlainGroup}
 use Rattle.onfi_calls.specs.declared.schedule.PlainRest.{PlainRest}
 use Rattle.onfi_calls.specs.declared.schedule.PlainSchedule.{PlainSchedule}
-use Rattle.onfi_calls.specs.Chosen.{RiseFrom}
 use Rattle.onfi_calls.specs.Flights.{IsFlightSaid}
-use Rattle.onfi_calls.specs.InOrder.{AreEarly, flight_of, has_page, is_foreign, is_half, is_odd_group, is_odd_rest, is_odd_schedule, problem_said}
+use Rattle.onfi_calls.specs.InOrder.{AreEarly, RiseFrom, flight_of, has_page, is_foreign, is_half, is_odd_group, is_odd_rest, is_odd_schedule, problem_said}
 use Rattle.onfi_calls.specs.Said.{AreRules, IsTiming, have_lacking, kind_of, operation_in, read_of, sectors_in, state_of, states_of, want_of, wants_of}
 use Rattle.onfi_calls.specs.SaidSchedule.{groups_of, is_bad_group, is_bad_rest, is_bad_schedule, is_late, rest_of, rests_of, starts_of}
 use Rattle.onfi_calls.proofs.Horizons.{horizon_early}

@@ -1,5 +1,5 @@
 -- What is said that is in order, and far from the end of the clock.
-use Rattle.std.specs.Prelude.{ℕ, ◌<◌, ◌==◌, ◌^◌, nat_le, nat_lt, not, Bool, List, Option, Some, None, ◌&&◌, ◌||◌}
+use Rattle.std.specs.Prelude.{ℕ, ◌+◌, ◌<◌, ◌≤◌, ◌==◌, ◌^◌, [], ◌∷◌, nat_le, nat_lt, not, Bool, List, Option, Some, None, ◌&&◌, ◌||◌}
 use Rattle.std.specs.List.{AllByRecursion as Each, list_any}
 use Rattle.onfi_timing.specs.declared.timing.Timing.{Timing}
 use Rattle.onfi_group.specs.declared.rules.Rules.{Rules}
@@ -20,6 +20,11 @@ use Rattle.onfi_calls.specs.declared.schedule.PlainRest.{PlainRest}
 use Rattle.onfi_calls.specs.declared.schedule.PlainSchedule.{PlainSchedule}
 use Rattle.onfi_calls.specs.Said.{operation_in, states_of, wants_of}
 use Rattle.onfi_calls.specs.SaidSchedule.{groups_of, rest_of, rests_of, schedule_of, starts_of}
+
+-- numbers rise from `floor` on, and stay below that one
+abbrev pub RiseFrom : ℕ → ℕ → List PlainWant → Type 0
+RiseFrom floor below [] = Unit {0}
+RiseFrom floor below (w ∷ wants) = (floor ≤ w.id) × (w.id < below) × RiseFrom (w.id + 1) below wants
 
 -- an erase that names a page
 abbrev pub has_page : PlainWant → Bool

@@ -6,8 +6,14 @@ use Rattle.onfi_problem.specs.declared.fault.ProblemFault.{ProblemFault}
 use Rattle.onfi_problem.specs.declared.fault.ProblemFault.TheVariants as problem
 use Rattle.onfi_timing.specs.declared.spans.SpanFault.{SpanFault}
 use Rattle.onfi_timing.specs.declared.spans.SpanFault.TheVariants.{Zero as ZeroLength, TooLong}
+use Rattle.onfi_steady.specs.declared.fault.AcceptFault.{AcceptFault}
+use Rattle.onfi_steady.specs.declared.fault.AcceptFault.TheVariants as accept
+use Rattle.onfi_steady.specs.declared.fault.RanFault.{RanFault}
+use Rattle.onfi_steady.specs.declared.fault.RanFault.TheVariants as ran
+use Rattle.onfi_steady.specs.declared.fault.ReadyFault.{ReadyFault}
+use Rattle.onfi_steady.specs.declared.fault.ReadyFault.TheVariants as ready
 use Rattle.onfi_calls.specs.declared.status.Status.{Status}
-use Rattle.onfi_calls.specs.declared.status.Status.TheVariants.{Done, NoRoom, Memory, BadLimit, Over, ZeroSpan, LongSpan, BadPlaneBits, BadKind, BadMembers, TooMany, BadLun, Clock, BadPlace, BadGeometry, BadChoice, BadBatch, BadOrder, NoLengths, BadSectors, BadSchedule, NothingDue, NotDue, TooSoon, BadHeader, BadToken, TooManyTokens, OtherOption, Illegal, Short, Trailing, Width, BoundLow, YieldNoFit, YieldLoop, NotEnd, EndsBefore, PageShort, NoCopy, WideBus, NoStatusEnhanced, NoColumnEnhanced, NoMultiLun, LunCount, PlaneBits, Zero, RowTooWide, ColumnTooWide, TooLarge, SheetMissing, SheetRepeated, SheetUnknown, SheetNotANumber, SheetZeroCycle, SheetTooLong, StrobeMissing, StrobeRepeated, StrobeUnknown, StrobeNotANumber, UnknownNode, OtherLeft, Sooner, TooManyNodes}
+use Rattle.onfi_calls.specs.declared.status.Status.TheVariants.{Done, NoRoom, Memory, BadLimit, Over, ZeroSpan, LongSpan, BadPlaneBits, BadKind, BadMembers, TooMany, BadLun, Clock, BadPlace, BadGeometry, BadOrder, NoLengths, BadSectors, BadSchedule, NothingDue, NotDue, TooSoon, NotWaiting, BadDispatcher, BadHeader, BadToken, TooManyTokens, OtherOption, Illegal, Short, Trailing, Width, BoundLow, YieldNoFit, YieldLoop, NotEnd, EndsBefore, PageShort, NoCopy, WideBus, NoStatusEnhanced, NoColumnEnhanced, NoMultiLun, LunCount, PlaneBits, Zero, RowTooWide, ColumnTooWide, TooLarge, SheetMissing, SheetRepeated, SheetUnknown, SheetNotANumber, SheetZeroCycle, SheetTooLong, StrobeMissing, StrobeRepeated, StrobeUnknown, StrobeNotANumber, UnknownNode, OtherLeft, Sooner, TooManyNodes}
 
 abbrev pub number_of : Status → ℕ
 number_of Done = 0
@@ -25,8 +31,6 @@ number_of BadLun = 21
 number_of Clock = 22
 number_of BadPlace = 23
 number_of BadGeometry = 24
-number_of BadChoice = 25
-number_of BadBatch = 26
 number_of BadOrder = 27
 number_of NoLengths = 28
 number_of BadSectors = 29
@@ -34,6 +38,8 @@ number_of BadSchedule = 30
 number_of NothingDue = 31
 number_of NotDue = 33
 number_of TooSoon = 34
+number_of NotWaiting = 35
+number_of BadDispatcher = 36
 number_of BadHeader = 40
 number_of BadToken = 41
 number_of TooManyTokens = 42
@@ -86,20 +92,20 @@ text_of LongSpan = codes "a length or a wait of 2^50 ns or more"
 text_of BadPlaneBits = codes "more than 2 bits name the plane"
 text_of BadKind = codes "a kind that is none"
 text_of BadMembers = codes "a running group of more than 4 members"
-text_of TooMany = codes "more than 8 wants, or not 1 to 8 LUNs"
+text_of TooMany = codes "more wants than may be, or not 1 to 8 LUNs"
 text_of BadLun = codes "a want or running group that the LUNs can't have, or ids that are equal or fall"
 text_of Clock = codes "times that reach 2^62 ns"
 text_of BadPlace = codes "a LUN, block or page that the device doesn't have"
 text_of BadGeometry = codes "a geometry that no parameter page gives"
-text_of BadChoice = codes "a choice of a batch that is none"
-text_of BadBatch = codes "a batch that is not 1 to 8"
-text_of BadOrder = codes "numbers of requests that are equal or fall, or reach the count of all"
+text_of BadOrder = codes "a number of a request that doesn't rise, or waits"
 text_of NoLengths = codes "sectors without lengths"
 text_of BadSectors = codes "sectors that a page doesn't have"
 text_of BadSchedule = codes "a count of the schedule out of its range, or a start of 2^63 ns or more"
-text_of NothingDue = codes "no phase of the schedule is left"
+text_of NothingDue = codes "no phase is due"
 text_of NotDue = codes "a phase that isn't due"
 text_of TooSoon = codes "a phase that started before it may"
+text_of NotWaiting = codes "no request of that number waits"
+text_of BadDispatcher = codes "the memory of a dispatcher was written by something else"
 text_of BadHeader = codes "the header line is none of a certificate"
 text_of BadToken = codes "no token of a certificate"
 text_of TooManyTokens = codes "more than 100,000,000 tokens"
@@ -160,3 +166,19 @@ lacking_status _ = NoLengths
 abbrev pub plan_status : PlanFault → Status
 plan_status (SearchOver opened) = Over
 plan_status SearchMemory = Memory
+
+-- .. of a request that a dispatcher doesn't take, of a phase that didn't run, of a LUN that isn't ready early
+abbrev pub accept_status : AcceptFault → Status
+accept_status accept.BadLun = BadLun
+accept_status accept.Full = TooMany
+accept_status accept.BadOrder = BadOrder
+accept_status accept.Waits = BadOrder
+
+abbrev pub ran_status : RanFault → Status
+ran_status ran.NothingDue = NothingDue
+ran_status ran.TooSoon = TooSoon
+ran_status ran.TooLate = Clock
+
+abbrev pub ready_status : ReadyFault → Status
+ready_status ready.BadLun = BadLun
+ready_status ready.NotInArray = NotDue

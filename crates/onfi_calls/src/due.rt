@@ -1,8 +1,11 @@
 //! The phase that is due.
-ghost use Rattle.std.specs.Prelude.{◌≡◌, ◌*◌, ◌<◌, ◌≤◌, ◌^◌, false, length, Option, None, Some, IfOk, IfErr, IfNone, IfSome};
+ghost use Rattle.std.specs.Prelude.{◌≡◌, ℕ, List, ◌*◌, ◌<◌, ◌≤◌, ◌^◌, false, length, Option, None, Some, IfOk, IfErr, IfNone, IfSome};
 ghost use Rattle.std.specs.List.{list_any};
 ghost use Rattle.onfi_calls.specs.declared.lengths.PlainLengths.{PlainLengths as ALengths};
 ghost use Rattle.onfi_calls.specs.Due.{GivesDue, IsDueSaid, IsNoneDue, IsOffDevice, IsOnDevice, IsOutside, IsOverTold, IsWritten, closer_of as spec_closer_of, number_of_kind, opener_of as spec_opener_of};
+ghost use Rattle.onfi_request.specs.declared.want.Want.{Want as AnyWant};
+ghost use Rattle.onfi_timing.specs.declared.timing.Timing.{Timing as AnyTiming};
+ghost use Rattle.onfi_steady.specs.LunBooks.{IsGroupPhase};
 ghost use Rattle.onfi_calls.specs.Refused.{IsMeasured};
 ghost use Rattle.onfi_calls.specs.Said.{AreRules, has_bad_count};
 
@@ -22,6 +25,7 @@ use crate::status::Status;
 use onfi_addr::{Geometry, Place};
 use onfi_flight::{Due, Flight, Next};
 use onfi_group::{Rules, phase_length};
+use onfi_steady::GroupPhase;
 use onfi_timing::{Kind, Operation, Timing};
 use std::alloc::Global;
 
@@ -63,6 +67,44 @@ fn closer_of(operation: Operation, is_post: bool, is_last: bool) -> u8
     }
 }
 
+/// A phase of a group that starts then, as a plain struct; none where the device doesn't have its page.
+pub fn plain_phase(geometry: &Geometry, start: u64, phase: &GroupPhase) -> Option<PlainPhase>
+    requires time { start < 2 ^ 63 }
+    requires short { phase.now.length < 2 ^ 50 }
+    requires few { phase.now.members ≤ 4 }
+    requires within { phase.now.number < 2 * phase.now.members }
+    ensures some { (timing : AnyTiming) (group : List AnyWant) (number : ℕ) → IsGroupPhase timing group number phase.now
+        → IfSome result (IsWritten timing geometry.now group start number) }
+    ensures none { (timing : AnyTiming) (group : List AnyWant) (number : ℕ) → IsGroupPhase timing group number phase.now → IfNone result (IsOutside geometry.now group number) }
+{
+    let place = Place {
+        lun: phase.want.lun,
+        block: phase.want.block,
+        page: phase.want.page,
+    };
+    if !geometry.is_in_range(&place) {
+        return None;
+    }
+    let is_post = phase.members <= phase.number;
+    let operation = phase.want.kind.operation();
+    Some(PlainPhase {
+        start,
+        end: start + phase.length,
+        want: phase.want.id,
+        row: row_in(geometry, &place),
+        block: phase.want.block,
+        page: phase.want.page,
+        lun: phase.want.lun,
+        kind: kind_number(phase.want.kind),
+        number: phase.number,
+        members: phase.members,
+        opener: opener_of(operation, is_post),
+        closer: closer_of(operation, is_post, phase.number + 1 == phase.members),
+        row_cycles: geometry.row_address_cycles,
+        is_post,
+    })
+}
+
 /// The phase that is due, as a plain struct; none where the device doesn't have its page.
 fn phase_of(timing: &Timing, geometry: &Geometry, due: &Due) -> Option<PlainPhase>
     requires within { due.now.phase < 2 * length due.now.group }
@@ -70,34 +112,14 @@ fn phase_of(timing: &Timing, geometry: &Geometry, due: &Due) -> Option<PlainPhas
     ensures some { IfSome result (λ phase. IsWritten timing.now geometry.now due.now.group due.now.start due.now.phase phase) }
     ensures none { IfNone result (IsOutside geometry.now due.now.group due.now.phase) }
 {
-    let member = due.member();
-    let place = Place {
-        lun: member.lun,
-        block: member.block,
-        page: member.page,
-    };
-    if !geometry.is_in_range(&place) {
-        return None;
-    }
-    let (members, number) = (due.group.len(), usize::from(due.phase));
-    let is_post = members <= number;
-    let operation = member.kind.operation();
-    Some(PlainPhase {
-        start: due.start,
-        end: due.start + phase_length(timing, due.group.members(), number),
-        want: member.id,
-        row: row_in(geometry, &place),
-        block: member.block,
-        page: member.page,
-        lun: member.lun,
-        kind: kind_number(member.kind),
+    let number = usize::from(due.phase);
+    let phase = GroupPhase {
+        want: *due.member(),
+        length: phase_length(timing, due.group.members(), number),
         number: due.phase,
-        members: members as u8,
-        opener: opener_of(operation, is_post),
-        closer: closer_of(operation, is_post, number + 1 == members),
-        row_cycles: geometry.row_address_cycles,
-        is_post,
-    })
+        members: due.group.len() as u8,
+    };
+    plain_phase(geometry, due.start, &phase)
 }
 
 /// The phase that is due, on the device that is said.

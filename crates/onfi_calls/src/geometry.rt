@@ -63,7 +63,7 @@ fn are_columns(said: &PlainGeometry) -> bool
 }
 
 /// The geometry of numbers that are in their ranges.
-fn read(said: &PlainGeometry) -> Geometry
+pub fn read(said: &PlainGeometry) -> Geometry
     requires counts { spec.AreCounts said.now }
     requires bits { spec.AreRowBits said.now }
     requires columns { spec.AreColumns said.now }

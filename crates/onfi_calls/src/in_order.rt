@@ -7,11 +7,10 @@ ghost use Rattle.onfi_group.specs.Group.{IsGroup};
 ghost use Rattle.onfi_problem.specs.Checks.{AreLuns, IsLun};
 ghost use Rattle.onfi_problem.specs.Left.{InLimits};
 ghost use Rattle.onfi_problem.specs.Problem.{IsRunning};
-ghost use Rattle.onfi_calls.specs.InOrder.{AreEarly, problem_said};
+ghost use Rattle.onfi_calls.specs.InOrder.{AreEarly, RiseFrom, problem_said};
 ghost use Rattle.onfi_calls.specs.InOrder as spec;
 ghost use Rattle.onfi_calls.specs.Said.{has_bad_count, members_of, state_of, states_of, wants_of};
 
-use crate::choosing::are_rising;
 use crate::lun::{PlainLun, PlainWant};
 use crate::said::few_wants_of;
 use crate::schedule::{PlainGroup, PlainRest, PlainSchedule};
@@ -20,8 +19,22 @@ use onfi_group::{Rules, is_group};
 /// The first moment of the later half of the clock, in ns.
 pub const HALF: u64 = 1 << 61;
 
+/// Whether numbers rise, and stay below that one.
+fn are_rising(wants: &[PlainWant], below: u64) -> bool
+    ensures { IsTrue result ↔ RiseFrom 0 below wants.now }
+{
+    let mut floor = 0;
+    for want in wants {
+        if want.id < floor || want.id >= below {
+            return false;
+        }
+        floor = want.id + 1;
+    }
+    true
+}
+
 /// Whether it is an erase that names a page.
-fn has_page(want: &PlainWant) -> bool
+pub fn has_page(want: &PlainWant) -> bool
     ensures { result ≡ spec.has_page want.now }
 {
     want.kind % 32 > 1 && want.page != 0

@@ -79,7 +79,7 @@ pub fn timing_by(
 }
 
 /// Whether a request puts out sectors that have no length.
-fn lacks_length(lengths: &PlainLengths, want: &PlainWant) -> bool
+pub fn lacks_length(lengths: &PlainLengths, want: &PlainWant) -> bool
     ensures { result ≡ spec.lacks_length lengths.now want.now }
 {
     let count = want.kind / 32 % 8;

@@ -1,9 +1,10 @@
 //! What a call answers.
 ghost use Rattle.std.specs.Prelude.{◌≡◌};
-ghost use Rattle.onfi_calls.specs.Status.{lacking_status, number_of, plan_status, problem_status, spans_status, text_of};
+ghost use Rattle.onfi_calls.specs.Status.{accept_status, lacking_status, number_of, plan_status, problem_status, ran_status, ready_status, spans_status, text_of};
 
 use onfi_planner::PlanFault;
 use onfi_problem::ProblemFault;
+use onfi_steady::{AcceptFault, RanFault, ReadyFault};
 use onfi_timing::SpanFault;
 
 /// What a call answers by a number, the answers to scripts apart.
@@ -29,7 +30,7 @@ pub enum Status {
     BadKind,
     /// A running group has more than 4 members.
     BadMembers,
-    /// More than eight wants, no LUN, or more than eight.
+    /// More than eight wants, no LUN, or more than eight; or 64 requests wait for the LUN.
     TooMany,
     /// A want or a running group that the LUNs can't have, an erase of another page than 0, or ids of wants that are equal or don't rise.
     BadLun,
@@ -39,11 +40,7 @@ pub enum Status {
     BadPlace,
     /// A geometry that no parameter page gives.
     BadGeometry,
-    /// The choice of a batch is above 2.
-    BadChoice,
-    /// A batch of no request, or of more than eight.
-    BadBatch,
-    /// Numbers of requests are equal or don't rise, or reach the count of all that were accepted.
+    /// The number of a request isn't above that of the last one that waits for its LUN, or one of that number waits.
     BadOrder,
     /// A read of so many sectors without a post of as many, or sectors of what is no read.
     NoLengths,
@@ -51,12 +48,16 @@ pub enum Status {
     BadSectors,
     /// A count of a schedule is out of its range, or a start is 2^63 ns or more.
     BadSchedule,
-    /// No phase of the schedule is left.
+    /// No phase is left, or none was given since something changed.
     NothingDue,
     /// The phase isn't the one that is due.
     NotDue,
     /// The phase started before it may.
     TooSoon,
+    /// No request of that number waits.
+    NotWaiting,
+    /// A dispatcher is none: something else wrote its memory.
+    BadDispatcher,
     /// The header line is none of a certificate.
     BadHeader,
     /// No token stands at the place, or so many good ones do and the text doesn't end with one LF after them.
@@ -154,8 +155,6 @@ pub const ALL: [Status; 63] = [
     Status::Clock,
     Status::BadPlace,
     Status::BadGeometry,
-    Status::BadChoice,
-    Status::BadBatch,
     Status::BadOrder,
     Status::NoLengths,
     Status::BadSectors,
@@ -163,6 +162,8 @@ pub const ALL: [Status; 63] = [
     Status::NothingDue,
     Status::NotDue,
     Status::TooSoon,
+    Status::NotWaiting,
+    Status::BadDispatcher,
     Status::BadHeader,
     Status::BadToken,
     Status::TooManyTokens,
@@ -225,8 +226,6 @@ impl Status {
             Status::Clock => 22,
             Status::BadPlace => 23,
             Status::BadGeometry => 24,
-            Status::BadChoice => 25,
-            Status::BadBatch => 26,
             Status::BadOrder => 27,
             Status::NoLengths => 28,
             Status::BadSectors => 29,
@@ -234,6 +233,8 @@ impl Status {
             Status::NothingDue => 31,
             Status::NotDue => 33,
             Status::TooSoon => 34,
+            Status::NotWaiting => 35,
+            Status::BadDispatcher => 36,
             Status::BadHeader => 40,
             Status::BadToken => 41,
             Status::TooManyTokens => 42,
@@ -291,23 +292,22 @@ impl Status {
             Status::BadPlaneBits => "more than 2 bits name the plane",
             Status::BadKind => "a kind that is none",
             Status::BadMembers => "a running group of more than 4 members",
-            Status::TooMany => "more than 8 wants, or not 1 to 8 LUNs",
+            Status::TooMany => "more wants than may be, or not 1 to 8 LUNs",
             Status::BadLun =>
                 "a want or running group that the LUNs can't have, or ids that are equal or fall",
             Status::Clock => "times that reach 2^62 ns",
             Status::BadPlace => "a LUN, block or page that the device doesn't have",
             Status::BadGeometry => "a geometry that no parameter page gives",
-            Status::BadChoice => "a choice of a batch that is none",
-            Status::BadBatch => "a batch that is not 1 to 8",
-            Status::BadOrder =>
-                "numbers of requests that are equal or fall, or reach the count of all",
+            Status::BadOrder => "a number of a request that doesn't rise, or waits",
             Status::NoLengths => "sectors without lengths",
             Status::BadSectors => "sectors that a page doesn't have",
             Status::BadSchedule =>
                 "a count of the schedule out of its range, or a start of 2^63 ns or more",
-            Status::NothingDue => "no phase of the schedule is left",
+            Status::NothingDue => "no phase is due",
             Status::NotDue => "a phase that isn't due",
             Status::TooSoon => "a phase that started before it may",
+            Status::NotWaiting => "no request of that number waits",
+            Status::BadDispatcher => "the memory of a dispatcher was written by something else",
             Status::BadHeader => "the header line is none of a certificate",
             Status::BadToken => "no token of a certificate",
             Status::TooManyTokens => "more than 100,000,000 tokens",
@@ -371,6 +371,38 @@ impl Status {
             ProblemFault::NoLengths => Status::NoLengths,
             ProblemFault::Clock => Status::Clock,
             ProblemFault::Memory => Status::Memory,
+        }
+    }
+
+    /// The status for a fault of a request that a dispatcher doesn't take.
+    pub fn of_accept(fault: AcceptFault) -> Status
+        ensures { result ≡ accept_status fault }
+    {
+        match fault {
+            AcceptFault::BadLun => Status::BadLun,
+            AcceptFault::Full => Status::TooMany,
+            AcceptFault::BadOrder | AcceptFault::Waits => Status::BadOrder,
+        }
+    }
+
+    /// The status for a phase that didn't run.
+    pub fn of_ran(fault: RanFault) -> Status
+        ensures { result ≡ ran_status fault }
+    {
+        match fault {
+            RanFault::NothingDue => Status::NothingDue,
+            RanFault::TooSoon => Status::TooSoon,
+            RanFault::TooLate => Status::Clock,
+        }
+    }
+
+    /// The status for a LUN that isn't ready early.
+    pub fn of_ready(fault: ReadyFault) -> Status
+        ensures { result ≡ ready_status fault }
+    {
+        match fault {
+            ReadyFault::BadLun => Status::BadLun,
+            ReadyFault::NotInArray => Status::NotDue,
         }
     }
 

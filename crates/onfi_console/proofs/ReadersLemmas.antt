@@ -10,10 +10,10 @@ use Rattle.onfi_script.specs.declared.command.Output.{Output}
 use Rattle.onfi_script.specs.declared.command.Output.TheVariants as output
 use Rattle.onfi_console.specs.declared.parsed.CommandName.TheVariants as called
 use Rattle.onfi_console.specs.declared.parsed.Named.{Named}
-use Rattle.onfi_console.specs.declared.parsed.Named.TheVariants.{Problem, Run, Device, Audit, Gaps}
+use Rattle.onfi_console.specs.declared.parsed.Named.TheVariants.{Problem, Run, RunNext, Device, Audit, Gaps}
 use Rattle.onfi_console.specs.declared.parsed.Parsed.{Parsed}
 use Rattle.onfi_console.specs.Words.{Ask, IsLimit, IsNamed, IsParsed, IsPlan, IsPlanByRule, IsWorkers, app, check_command, given, is_alone, output_of, plan_command, planner_of, printed_by, usual_for}
-use Rattle.onfi_console.proofs.RuleLemmas.{no_limit, one_worker, searches_not, usual_alone}
+use Rattle.onfi_console.proofs.RuleLemmas.{no_limit, one_worker, run_limit_not, searches_not, usual_alone}
 use Rattle.onfi_console.specs.Readers.{AreRead, IsLimitRead, IsRead, IsTraceRead, IsWorkersRead, command_in, is_trace, limit_in, trace_in, word_of}
 
 -- a flag that asks for a trace is given, or none is
@@ -94,7 +94,9 @@ read (Problem command workers) name used (inr (e, is, one)) =
 read Device name used e = record { command = sym e; limit = refl; trace = refl; workers = refl }
 read (Audit options) name used (e, is) = record { command = sym e; limit = no_limit 1048576 (first_of (codes "limit") used) is.no_limit; trace = refl; workers = refl }
 read (Gaps options) name used (e, is) = record { command = sym e; limit = is.is_limit; trace = refl; workers = refl }
-read (Run planner limit clocked) name used (e, clock, run, limited) = record { command = sym e; limit = limited; trace = refl; workers = refl }
+read (Run planner limit clocked) name used (e, is) = record { command = sym e; limit = is.is_limit; trace = refl; workers = refl }
+read (RunNext clocked) name used (e, is) =
+    record { command = sym e; limit = no_limit 1048576 (first_of (codes "limit") used) (run_limit_not used is.no_search); trace = refl; workers = refl }
 
 of_some : (found : Option (List ℕ × List Row)) (parsed : Parsed) → IsSomeAnd found (λ p. IsParsed parsed p.0 p.1) → IsSomeAnd found (λ p. IsRead parsed.named p.0 p.1)
 of_some None parsed is = elim is [ ]

@@ -1,10 +1,10 @@
 -- What is given where the rule stands beside no search.
-use Rattle.std.proofs.Common.{◌≡◌, ℕ, List, Bool, true, false, Some, None, refl, codes}
+use Rattle.std.proofs.Common.{◌≡◌, ℕ, List, Bool, true, false, Some, None, ap, refl, codes}
 use Rattle.std.specs.Prelude.{Option, ◌||◌, if◌then◌else◌, is_some}
 use Rattle.clap.specs.Words.{Row, first_of, first_value, found_of, rows_of}
 use Rattle.clap.specs.declared.parser.matches.ArgMatches.{ArgMatches}
 use Rattle.clap.proofs.WalkLemmas.{first_value-rows}
-use Rattle.onfi_console.specs.Words.{IsLimit, IsWorkers, given, names_run_search, names_search}
+use Rattle.onfi_console.specs.Words.{IsLimit, IsWord, IsWorkers, given, names_run_search, names_search}
 
 left_not : (a b : Bool) → (a || b) ≡ false → a ≡ false
 left_not false b e = refl
@@ -43,6 +43,15 @@ usual_alone text true other e f = cc
 pub one_worker : (text : Option (List ℕ)) (workers : ℕ) → is_some text ≡ false → workers ≡ 1 → IsWorkers false text workers
 one_worker None workers e one = one
 one_worker (Some text) workers e one = cc
+
+-- the word was given, or nothing was
+pub word_given : (word : List ℕ) (text : Option (List ℕ)) (is : Bool) → IsWord word text is → is ≡ true → text ≡ Some word
+word_given word None is none e = absurd (cc)
+word_given word (Some text) is (same, told) e = ap Some same
+
+pub word_left : (word : List ℕ) (text : Option (List ℕ)) (is : Bool) → IsWord word text is → is ≡ false → text ≡ None
+word_left word None is none e = refl
+word_left word (Some text) is (same, told) e = absurd (cc)
 
 -- options are found where they stand
 pub search_rows : (m : ArgMatches) → names_search (first_value (found_of m)) ≡ names_search (λ name. first_of name (rows_of (found_of m)))

@@ -8,7 +8,7 @@ use Rattle.onfi_script.specs.declared.command.Output.TheVariants as output
 use Rattle.onfi_console.specs.declared.parsed.CommandName.{CommandName}
 use Rattle.onfi_console.specs.declared.parsed.CommandName.TheVariants as called
 use Rattle.onfi_console.specs.declared.parsed.Named.{Named}
-use Rattle.onfi_console.specs.declared.parsed.Named.TheVariants.{Problem, Run, Device, Audit, Gaps}
+use Rattle.onfi_console.specs.declared.parsed.Named.TheVariants.{Problem, Run, RunNext, Device, Audit, Gaps}
 use Rattle.onfi_console.specs.declared.parsed.Parsed.{Parsed}
 use Rattle.onfi_console.specs.Words.{IsLimit, IsWorkers, app, given, usual_of}
 
@@ -43,6 +43,7 @@ trace_in Legal = false
 abbrev pub command_of : Named → CommandName
 command_of (Problem command workers) = command_in command
 command_of (Run planner limit clocked) = called.Run
+command_of (RunNext clocked) = called.Run
 command_of Device = called.Device
 command_of (Audit options) = called.Audit
 command_of (Gaps options) = called.Audit
@@ -50,6 +51,7 @@ command_of (Gaps options) = called.Audit
 abbrev pub limit_of : Named → ℕ
 limit_of (Problem command workers) = limit_in command
 limit_of (Run planner limit clocked) = limit
+limit_of (RunNext clocked) = 1048576
 limit_of Device = 1048576
 limit_of (Audit options) = 1048576
 limit_of (Gaps options) = options.limit
@@ -57,6 +59,7 @@ limit_of (Gaps options) = options.limit
 abbrev pub trace_of : Named → Bool
 trace_of (Problem command workers) = trace_in command
 trace_of (Run planner limit clocked) = false
+trace_of (RunNext clocked) = false
 trace_of Device = false
 trace_of (Audit options) = false
 trace_of (Gaps options) = false
@@ -64,6 +67,7 @@ trace_of (Gaps options) = false
 abbrev pub workers_of : Named → ℕ
 workers_of (Problem command workers) = workers
 workers_of (Run planner limit clocked) = 1
+workers_of (RunNext clocked) = 1
 workers_of Device = 1
 workers_of (Audit options) = 1
 workers_of (Gaps options) = 1
@@ -80,6 +84,7 @@ word_of called.Audit = codes "audit"
 abbrev pub usual_in : Named → List Used → ℕ
 usual_in (Problem command workers) used = if given (codes "within") used then 65536 else 1048576
 usual_in (Run planner limit clocked) used = usual_of planner
+usual_in (RunNext clocked) used = 1048576
 usual_in Device used = 1048576
 usual_in (Audit options) used = 1048576
 usual_in (Gaps options) used = 65536

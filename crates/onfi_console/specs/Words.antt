@@ -17,7 +17,7 @@ use Rattle.onfi_script.specs.Limit.{IsLimited}
 use Rattle.onfi_console.specs.declared.fault.Untaken.{Untaken}
 use Rattle.onfi_console.specs.declared.fault.Untaken.TheVariants.{Refused, Memory, Version}
 use Rattle.onfi_console.specs.declared.parsed.Named.{Named}
-use Rattle.onfi_console.specs.declared.parsed.Named.TheVariants.{Problem, Run, Device, Audit, Gaps}
+use Rattle.onfi_console.specs.declared.parsed.Named.TheVariants.{Problem, Run, RunNext, Device, Audit, Gaps}
 use Rattle.onfi_console.specs.declared.parsed.Parsed.{Parsed}
 
 -- `--NAME VALUE`
@@ -67,9 +67,9 @@ check = with_rule (with_rule (with_rule check_judging quiet) (file (codes "FILE"
 abbrev pub run_search : App
 run_search = with_rule (with_rule (with_rule (with_rule (command (codes "run")) (value (codes "limit"))) (flag (codes "remember"))) (flag (codes "within"))) (value (codes "slack"))
 
--- .. with `[--rule]`
+-- .. with `[--rule] [--by WAY]`
 abbrev pub run_planning : App
-run_planning = with_rule run_search (flag (codes "rule"))
+run_planning = with_rule (with_rule run_search (flag (codes "rule"))) (value (codes "by"))
 
 -- .. with `[--clock CLOCK] [--quiet] [FILE]`
 abbrev pub run : App
@@ -163,10 +163,14 @@ IsSlack None slack = slack ≡ None
 IsSlack (Some text) None = ⊥
 IsSlack (Some text) (Some n) = field.number 0 1000 text ≡ Ok n
 
+-- an option that takes one word was given that word, or wasn't given
+abbrev pub IsWord : List ℕ → Option (List ℕ) → Bool → Type 0
+IsWord word None is = is ≡ false
+IsWord word (Some text) is = (text ≡ word) × (is ≡ true)
+
 -- the run has a clock: the word that was given is that of the simulated one; none where none was given
 abbrev pub IsClock : Option (List ℕ) → Bool → Type 0
-IsClock None clocked = clocked ≡ false
-IsClock (Some text) clocked = (text ≡ codes "simulated") × (clocked ≡ true)
+IsClock given clocked = IsWord (codes "simulated") given clocked
 
 -- within how many thousandths a plan is to be made better, by the flag `early` and the thousandths that were given; none where it
 -- isn't, and none may be given then
@@ -220,6 +224,7 @@ check_command _ _ _ = None
 abbrev pub IsInRange : Named → Type 0
 IsInRange (Problem command workers) = IsLimited command × (1 ≤ workers) × (workers ≤ 8)
 IsInRange (Run planner limit clocked) = (1 ≤ limit) × (limit ≤ 1048576)
+IsInRange (RunNext clocked) = ⊤
 IsInRange Device = ⊤
 IsInRange (Audit options) = ⊤
 IsInRange (Gaps options) = ⊤
@@ -279,6 +284,20 @@ pub record IsRun (planner : RunPlanner) (used : List Used) : Type 0 where
   pub is_slack : IsSlack (first_of (codes "slack") used) slack
   pub is_planner : planner ≡ run_planner (planner_within search (unwrap_or slack 0)) (unwrap_or slack 0)
 
+-- `run` without `--by` is for this: it plans, within that limit
+pub record IsPlannedRun (planner : RunPlanner) (limit : ℕ) (clocked : Bool) (used : List Used) : Type 0 where
+  pub plans : first_of (codes "by") used ≡ None
+  pub is_clock : IsClock (first_of (codes "clock") used) clocked
+  pub is_planner : IsRun planner used ⊎ IsRunByRule planner used
+  pub is_limit : IsLimit (usual_of planner) (first_of (codes "limit") used) limit
+
+-- `run --by next` is for this: it names nothing that plans
+pub record IsNextRun (clocked : Bool) (used : List Used) : Type 0 where
+  pub next : first_of (codes "by") used ≡ Some (codes "next")
+  pub no_rule : given (codes "rule") used ≡ false
+  pub no_search : names_run_search (λ name. first_of name used) ≡ false
+  pub is_clock : IsClock (first_of (codes "clock") used) clocked
+
 -- `audit` without `--optimum` is for this: neither a limit nor a table is asked for
 pub record IsAudit (options : AuditOptions) (used : List Used) : Type 0 where
   pub no_optimum : given (codes "optimum") used ≡ false
@@ -301,7 +320,8 @@ IsNamed (Problem command workers) name used = ((name ≡ codes "plan") × (IsPla
 IsNamed Device name used = name ≡ codes "device"
 IsNamed (Audit options) name used = (name ≡ codes "audit") × IsAudit options used
 IsNamed (Gaps options) name used = (name ≡ codes "audit") × IsGaps options used
-IsNamed (Run planner limit clocked) name used = (name ≡ codes "run") × IsClock (first_of (codes "clock") used) clocked × (IsRun planner used ⊎ IsRunByRule planner used) × IsLimit (usual_of planner) (first_of (codes "limit") used) limit
+IsNamed (Run planner limit clocked) name used = (name ≡ codes "run") × IsPlannedRun planner limit clocked used
+IsNamed (RunNext clocked) name used = (name ≡ codes "run") × IsNextRun clocked used
 
 -- the file after that of the script: a plan text, or a log
 abbrev pub file_or : Option (List ℕ) → Option (List ℕ) → Option (List ℕ)

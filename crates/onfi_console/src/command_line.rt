@@ -1,7 +1,7 @@
 //! The command line.
-ghost use Rattle.std.specs.Prelude.{◌≡◌, ◌≤◌, Some, false, true, is_some, IfErr, IfOk, IfSome, codes, map, option_map, string_bytes};
+ghost use Rattle.std.specs.Prelude.{◌≡◌, ◌≤◌, None, Some, false, true, is_some, IfErr, IfOk, IfSome, codes, map, option_map, string_bytes};
 ghost use Rattle.std.specs.List.{list_any};
-ghost use Rattle.clap.specs.Words.{first_value, found_of, kind_of, rows_of, subcommand_of, subcommand_rows_of};
+ghost use Rattle.clap.specs.Words.{first_of, first_value, found_of, kind_of, rows_of, subcommand_of, subcommand_rows_of};
 ghost use Rattle.clap.specs.declared.error.kind.ErrorKind.{ErrorKind};
 ghost use Rattle.onfi_script.specs.Limit.{IsLimited};
 ghost use Rattle.onfi_console.specs.Readers.{AreRead};
@@ -34,6 +34,8 @@ enum ValueFault {
     Clock,
     SearchBesideRule,
     RunSearchBesideRule,
+    By,
+    PlannerBesideNext,
     LimitWithoutOptimum,
     CsvWithoutOptimum,
     StatusBesideOptimum,
@@ -72,6 +74,10 @@ impl ValueFault {
             }
             ValueFault::RunSearchBesideRule => {
                 "'--rule' can't be used with '--limit', '--remember', '--within' or '--slack': it searches nothing"
+            }
+            ValueFault::By => "'--by' wants 'next'",
+            ValueFault::PlannerBesideNext => {
+                "'--by next' can't be used with '--limit', '--remember', '--within', '--slack' or '--rule': it plans nothing"
             }
             ValueFault::LimitWithoutOptimum => {
                 "'--limit' can't be used without '--optimum': nothing else of 'audit' searches"
@@ -379,15 +385,27 @@ fn usual_of(search: ChosenPlanner, slack: u16) -> u32
     }
 }
 
+/// Whether an option is given, whose one value is that word.
+fn has_word(
+    matches: &ArgMatches<'_>,
+    option: &str,
+    word: &str,
+    other: ValueFault,
+) -> Result<bool, ValueFault>
+    ensures { IfOk result (λ given. spec.IsWord word.now (first_value (found_of matches.now) option.now) given) }
+{
+    match matches.get_str(option) {
+        None => Ok(false),
+        Some(text) if text == word => Ok(true),
+        Some(_) => Err(other),
+    }
+}
+
 /// Whether a run has a clock.
 fn clock_of(matches: &ArgMatches<'_>) -> Result<bool, ValueFault>
     ensures { IfOk result (λ clocked. spec.IsClock (first_value (found_of matches.now) (codes "clock")) clocked) }
 {
-    match matches.get_str("clock") {
-        None => Ok(false),
-        Some("simulated") => Ok(true),
-        Some(_) => Err(ValueFault::Clock),
-    }
+    has_word(matches, "clock", "simulated", ValueFault::Clock)
 }
 
 /// Whether an option of `run` is given that names a search, or bounds one.
@@ -402,7 +420,8 @@ fn names_run_search(used: &ArgMatches<'_>) -> bool
 
 /// What `run --rule` with these arguments names.
 fn run_by_rule_of(used: &ArgMatches<'_>) -> Result<Named, ValueFault>
-    requires { spec.given (codes "rule") (rows_of (found_of used.now)) ≡ true }
+    requires rule { spec.given (codes "rule") (rows_of (found_of used.now)) ≡ true }
+    requires plans { first_of (codes "by") (rows_of (found_of used.now)) ≡ None }
     ensures range { IfOk result (λ named. spec.IsInRange named) }
     ensures named { IfOk result (λ named. spec.IsNamed named (codes "run") (rows_of (found_of used.now))) }
 {
@@ -418,8 +437,9 @@ fn run_by_rule_of(used: &ArgMatches<'_>) -> Result<Named, ValueFault>
     })
 }
 
-/// What `run` with these arguments names.
-fn run_of(used: &ArgMatches<'_>) -> Result<Named, ValueFault>
+/// What `run` without `--by` and with these arguments names.
+fn planned_run_of(used: &ArgMatches<'_>) -> Result<Named, ValueFault>
+    requires { first_of (codes "by") (rows_of (found_of used.now)) ≡ None }
     ensures range { IfOk result (λ named. spec.IsInRange named) }
     ensures named { IfOk result (λ named. spec.IsNamed named (codes "run") (rows_of (found_of used.now))) }
 {
@@ -441,6 +461,37 @@ fn run_of(used: &ArgMatches<'_>) -> Result<Named, ValueFault>
         limit,
         clocked,
     })
+}
+
+/// What `run --by next` with these arguments names.
+fn next_run_of(used: &ArgMatches<'_>) -> Result<Named, ValueFault>
+    requires { first_of (codes "by") (rows_of (found_of used.now)) ≡ Some (codes "next") }
+    ensures range { IfOk result (λ named. spec.IsInRange named) }
+    ensures named { IfOk result (λ named. spec.IsNamed named (codes "run") (rows_of (found_of used.now))) }
+{
+    let rule = is_given(used, "rule");
+    if rule {
+        return Err(ValueFault::PlannerBesideNext);
+    }
+    let searches = names_run_search(used);
+    if searches {
+        return Err(ValueFault::PlannerBesideNext);
+    }
+    let clocked = clock_of(used)?;
+    Ok(Named::RunNext { clocked })
+}
+
+/// What `run` with these arguments names.
+fn run_of(used: &ArgMatches<'_>) -> Result<Named, ValueFault>
+    ensures range { IfOk result (λ named. spec.IsInRange named) }
+    ensures named { IfOk result (λ named. spec.IsNamed named (codes "run") (rows_of (found_of used.now))) }
+{
+    let next = has_word(used, "by", "next", ValueFault::By)?;
+    if next {
+        next_run_of(used)
+    } else {
+        planned_run_of(used)
+    }
 }
 
 /// How a log is judged, by the flags that are given.

@@ -148,12 +148,13 @@ fn run_search<'a>(alloc: Global) -> Result<Command<'a>, AllocError>
     with(run, number(alloc, "slack", help::SLACK_RUN))
 }
 
-/// .. with `[--rule]`
+/// .. with `[--rule] [--by WAY]`
 fn run_planning<'a>(alloc: Global) -> Result<Command<'a>, AllocError>
     ensures app { IfOk result (λ a. app_of a ≡ spec.run_planning) }
     ensures local { IfOk result (λ a. (fields_of a).has_globals ≡ false) }
 {
-    with(run_search(alloc)?, flag(alloc, "rule", help::RULE_RUN))
+    let run = with(run_search(alloc)?, flag(alloc, "rule", help::RULE_RUN))?;
+    with(run, value(alloc, "by", "WAY", help::BY_RUN))
 }
 
 /// .. with `[--clock CLOCK] [--quiet] [FILE]`

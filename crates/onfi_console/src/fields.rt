@@ -9,10 +9,6 @@ pub enum Range {
     Number(u64, u64),
     /// A kind of operation.
     Kind,
-    /// By what a batch is chosen.
-    Choice,
-    /// When a plan is made anew.
-    Replanning,
 }
 
 /// A field of a row: what it is called, what may stand in it, and how that is said.
@@ -36,12 +32,6 @@ impl FieldRange {
                     || text == b"program".as_slice()
                     || text == b"erase".as_slice()
             }
-            Range::Choice => {
-                text == b"by-lun".as_slice()
-                    || text == b"reads-first".as_slice()
-                    || text == b"whole-groups".as_slice()
-            }
-            Range::Replanning => text == b"at-once".as_slice() || text == b"lazily".as_slice(),
         }
     }
 }
@@ -146,16 +136,6 @@ fn run_field(row: &str, at: usize) -> Option<FieldRange> {
         ("channels" | "hosts", 1) => number("N", 1, 4, "1 to 4"),
         ("batch", 1) => number("N", 1, 8, "1 to 8"),
         ("submitcap" | "postcap", 1) => number("N", 1, 1_024, "1 to 1024"),
-        ("choice", 1) => Some(FieldRange {
-            name: "WORD",
-            range: Range::Choice,
-            told: "by-lun, reads-first or whole-groups",
-        }),
-        ("replanning", 1) => Some(FieldRange {
-            name: "WORD",
-            range: Range::Replanning,
-            told: "at-once or lazily",
-        }),
         ("op" | "opread", 1) => end("HOST"),
         ("op" | "opread", 2) | ("fault" | "chipfail" | "notready" | "array", 1) => end("CHANNEL"),
         ("op", 3) => kind(),

@@ -78,6 +78,7 @@ Example:
   onfi_sim run --within --limit 200 examples/two-hosts.onfi
   onfi_sim run --slack 20 examples/two-hosts.onfi
   onfi_sim run --rule examples/two-hosts.onfi
+  onfi_sim run --by next examples/two-hosts.onfi
   onfi_sim run --clock simulated examples/two-hosts.onfi";
 
 pub const DEVICE: &str =
@@ -106,10 +107,11 @@ With --ready-by-status a line may be START LUN ready: a poll of that LUN's statu
 Output: 'legal N', the number of phases; or 'illegal LINE CONDITION ..' of the first line that breaks a condition, with --all
 of each; or 'refused log LINE' where a line says nothing.
 With --optimum a legal log is measured too: in the order of their first commands its groups make pieces of at most eight
-requests, and each piece that the log ends is planned anew from where it began. Of each piece
+requests, and what the log ends of each is planned anew from where it began. Of each piece
 'piece LINE REQUESTS BEGIN END BEST BELOW': its first line, its requests, from when the bus was free, when the log and when the
-plan ended it, before when nothing ends it, all in ns; then 'gap MEAN MEDIAN MOST' of END - BEST. With --csv in place of all
-that a table under line,requests,begin,end,best,below.
+plan ended them, before when nothing does, all in ns; then 'gap MEAN MEDIAN MOST' of END - BEST, and 'bound BEGIN END BUS DIE
+SHARE' of all requests: none ends them before BUS or DIE, whose greater is SHARE thousandths of the log's time. With --csv in
+place of all that a table under line,requests,begin,end,best,below.
 
 Statuses: 0 legal; 1 the script is refused; 2 illegal, or the log is refused; 4 memory was refused; 5 the command line is
 refused; 7 a read or write failed.
@@ -147,6 +149,9 @@ pub const RULE_PLAN: &str =
     "Plan by a rule, in microseconds and without a search; the text is that of --within";
 
 pub const RULE_RUN: &str = "Plan by a rule, in microseconds and without a search";
+
+pub const BY_RUN: &str =
+    "Go by 'next': plan nothing, and give each bus the phase that goes first of all that may come next";
 
 pub const EARLY: &str =
     "Let requests end early by the weights of the script, and nothing later than the plan does";

@@ -52,6 +52,10 @@ pub enum Named {
         limit: u32,
         clocked: bool,
     },
+    /// The operations of a script are run, by a simulated clock or in threads, phase by phase: nothing is planned.
+    RunNext {
+        clocked: bool,
+    },
     /// The parameter page of a script is described.
     Device,
     /// A log that begins as a script says is judged.
@@ -87,15 +91,15 @@ impl Parsed<'_> {
     {
         match self.named {
             Named::Problem { command, .. } => command_in(command),
-            Named::Run { .. } => CommandName::Run,
+            Named::Run { .. } | Named::RunNext { .. } => CommandName::Run,
             Named::Device => CommandName::Device,
             Named::Audit { .. } => CommandName::Audit,
             Named::Gaps { .. } => CommandName::Audit,
         }
     }
 
-    /// How many nodes a search may open, 1 to 1,048,576; the greatest limit for `check`, `device`, the rule and an audit that
-    /// measures nothing, since they search nothing.
+    /// How many nodes a search may open, 1 to 1,048,576; the greatest limit for `check`, `device`, the rule, a run phase
+    /// by phase and an audit that measures nothing, since they search nothing.
     pub fn limit(&self) -> u32
         ensures named { result ≡ spec.limit_of self.now.named }
         ensures range { IsInRange self.now.named → (1 ≤ result) × (result ≤ 1048576) }
@@ -103,7 +107,7 @@ impl Parsed<'_> {
         match self.named {
             Named::Problem { command, .. } => limit_in(command),
             Named::Run { limit, .. } => limit,
-            Named::Device | Named::Audit { .. } => MOST,
+            Named::RunNext { .. } | Named::Device | Named::Audit { .. } => MOST,
             Named::Gaps { options } => options.limit.get(),
         }
     }
@@ -114,7 +118,8 @@ impl Parsed<'_> {
     {
         match self.named {
             Named::Problem { command, .. } => trace_in(command),
-            Named::Run { .. } | Named::Device | Named::Audit { .. } => false,
+            Named::Run { .. } | Named::RunNext { .. } => false,
+            Named::Device | Named::Audit { .. } => false,
             Named::Gaps { .. } => false,
         }
     }
@@ -126,7 +131,7 @@ impl Parsed<'_> {
     {
         match self.named {
             Named::Problem { workers, .. } => workers,
-            Named::Run { .. } => 1,
+            Named::Run { .. } | Named::RunNext { .. } => 1,
             Named::Device | Named::Audit { .. } => 1,
             Named::Gaps { .. } => 1,
         }

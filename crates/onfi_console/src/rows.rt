@@ -3,7 +3,7 @@ use std::alloc::{AllocError, Global};
 use strsim::levenshtein;
 
 /// The names of rows; of several that a word is near to, the first one is given.
-const NAMES: [&str; 30] = [
+const NAMES: [&str; 28] = [
     "shape",
     "spans",
     "page",
@@ -18,8 +18,6 @@ const NAMES: [&str; 30] = [
     "channels",
     "hosts",
     "batch",
-    "choice",
-    "replanning",
     "submitcap",
     "postcap",
     "op",
@@ -109,8 +107,6 @@ fn run_form(name: &str) -> Option<&'static str> {
         "channels" => Some("channels,N: 1 to 4"),
         "hosts" => Some("hosts,N: 1 to 4"),
         "batch" => Some("batch,N: 1 to 8"),
-        "choice" => Some("choice,WORD: by-lun, reads-first or whole-groups"),
-        "replanning" => Some("replanning,WORD: at-once or lazily"),
         "submitcap" => Some("submitcap,N: places of a submission queue"),
         "postcap" => Some("postcap,N: places of a completion queue"),
         "op" => Some(

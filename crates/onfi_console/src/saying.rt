@@ -56,7 +56,7 @@ fn about(
             input,
             refusal,
         )?)),
-        (_, Named::Run { .. }) => run_message(alloc, answer),
+        (_, Named::Run { .. } | Named::RunNext { .. }) => run_message(alloc, answer),
         (Some(Why::Over(opened)), Named::Problem { command, .. }) => {
             Ok(Some(over_message(alloc, command, parsed.limit(), opened)?))
         }

@@ -301,7 +301,7 @@ fn name_taken_rows(command: CommandName, name: &[u8]) -> &'static str {
         CommandName::Run if is_of_device(name) && !is_sector_post(name) =>
             "'geometry', then 'shape' and 'spans' rows; or 'page', 'sheet', 'strobe' and 'sector' rows",
         CommandName::Run =>
-            "page, sheet, strobe, sector, strict, channels, hosts, batch, choice, replanning, submitcap, postcap, op, opread, fault, chipfail, notready, array; or geometry, shape and spans in place of page, sheet, strobe and sector",
+            "page, sheet, strobe, sector, strict, channels, hosts, batch, submitcap, postcap, op, opread, fault, chipfail, notready, array; or geometry, shape and spans in place of page, sheet, strobe and sector",
         _ if is_of_run(name) =>
             "shape, spans and sectorpost, or page, sheet, strobe and sector; strict, bus, free, running, runsectors, want, sectors or weight",
         _ =>

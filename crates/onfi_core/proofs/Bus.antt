@@ -1,5 +1,5 @@
 -- A bus phase keeps what every reachable state keeps.
-use Rattle.std.proofs.Common.{◌≡◌, ℕ, zero, suc, ◌+◌, ◌*◌, ◌-◌, ◌<◌, ◌≤◌, ◌⊎◌, inl, inr, List, [], ◌∷◌, ◌++◌, length, Some, None, drop, refl, sym, ap, ◌∙◌, subst, append-nil, arith}
+use Rattle.std.proofs.Common.{◌≡◌, ℕ, zero, suc, ◌+◌, ◌*◌, ◌-◌, ◌<◌, ◌≤◌, ◌⊎◌, inl, inr, List, [], ◌∷◌, ◌++◌, length, Option, Some, None, drop, refl, sym, ap, ◌∙◌, subst, append-nil, arith}
 use Rattle.std.specs.Prelude.{slice_get, slice_set}
 use Rattle.std.specs.List.{AllByRecursion as All, flat_map}
 use Rattle.std.proofs.lemmas.Bool.{cases_lt}
@@ -18,19 +18,20 @@ use Rattle.onfi_problem.specs.declared.lun_state.LunState.TheVariants.{Running}
 use Rattle.onfi_problem.proofs.LunAfter.{lun_after_running, lun_after_free, running_is}
 use Rattle.onfi_problem.proofs.Perm.{All-append}
 use Rattle.onfi_problem.proofs.Places.{get_set_same, get_set_other, length_set, same_place}
-use Rattle.onfi_schedule.specs.Laws.{ComesNext}
-use Rattle.onfi_schedule.specs.Schedule.{Schedule, Legal}
-use Rattle.onfi_schedule.proofs.Following.{first_move_law}
+use Rattle.onfi_schedule.specs.Schedule.{Schedule}
+use Rattle.onfi_steady.specs.Waiting.{Books}
 use Rattle.onfi_die.specs.Rightful.{IsRightful}
 use Rattle.onfi_die.specs.Shapes.{device_of}
 use Rattle.onfi_chip.specs.Chip.{Chip}
-use Rattle.onfi_core.specs.Kept.{IsSound, IsTaken, IsHalf, ChipAgrees, IsReached, unposted, is_of_place}
+use Rattle.onfi_core.specs.declared.outcome.Cause.{Cause}
+use Rattle.onfi_core.specs.Kept.{GoesBy, IsSound, IsTaken, IsHalf, ChipAgrees, IsReached, unposted, is_of_place}
 use Rattle.onfi_core.specs.State.{HalfState, ChannelState, device_for}
 use Rattle.onfi_flight.specs.Flight.{IsPhase}
-use Rattle.onfi_core.specs.Steps.{reply_to, Commands, Launches, Posts, RunsOnChip, Runs, half_after_phase}
+use Rattle.onfi_core.specs.Steps.{Comes, reply_to, Commands, Launches, Posts, RunsOnChip, Runs, books_after, half_after_phase, stopped_after}
 use Rattle.onfi_core.specs.declared.setup.Setup.{Setup}
 use Rattle.onfi_core.proofs.Going.{Going, OnLun, going_next, going_start, on_next, on_start}
-use Rattle.onfi_core.proofs.Halves.{other_half, sound_but}
+use Rattle.onfi_core.proofs.Halves.{chip_but, other_half, sound_but}
+use Rattle.onfi_core.proofs.Stepping.{step_of}
 use Rattle.onfi_core.proofs.Lists.{drop_next}
 use Rattle.onfi_core.proofs.Made.{made_push}
 use Rattle.onfi_core.proofs.Phase.{after_command, after_launch, after_post, right_reply}
@@ -50,7 +51,7 @@ number_set i (z ∷ xs) (suc l) x y h =
     let c = number-append (has_id i) (unposted z) (flat_map unposted xs) in
     omega arith
 
-module _ (s : Setup) (h : HalfState) (half : IsSound s h) (l : ℕ) (g : List Want) (n start : ℕ) (wants : List Want) (going : Going s h l g n wants) (now : Problem) (left : Schedule) (held : List Reply)
+module _ (s : Setup) (h : HalfState) (half : IsSound s h) (l : ℕ) (g : List Want) (n start : ℕ) (wants : List Want) (going : Going s h l g n wants) (now : Problem) (left : Schedule) (books : Option Books) (held : List Reply) (stopped : Option Cause)
     (timing_is : now.timing ≡ h.now.timing) (rules_are : now.rules ≡ h.now.rules) (luns_are : now.luns ≡ slice_set h.now.luns l (lun_after h.now.timing g n (start + phase_length (group_spans h.now.timing g) (length g) n))) (wants_are : now.wants ≡ wants) where
   still_running : (j : ℕ) (g' : List Want) (n' r' : ℕ) → slice_get now.luns j ≡ Some (Running g' n' r') → All (IsTaken s h.planned h.accepted) g'
   still_running j g' n' r' at =
@@ -62,13 +63,12 @@ module _ (s : Setup) (h : HalfState) (half : IsSound s h) (l : ℕ) (g : List Wa
         | inr d ↦ half.running j g' n' r' (sym (get_set_other h.now.luns l j _ (λ e. d (sym e))) ∙ at')
       ]
 
-  pub sound_kept : IsProblem now → Legal now left
+  pub sound_kept : IsProblem now → GoesBy s books now left (record { planned = h.planned; accepted = length h.accepted; outdated = h.outdated; stopped = stopped })
       → ((i : ℕ) → number (has_id i) (drop (n - length g) g) + number (is_of_place i) h.held ≡ number (has_id i) (unposted (lun_after h.now.timing g n (start + phase_length (group_spans h.now.timing g) (length g) n))) + number (is_of_place i) held)
-      → IsSound s (record h { now = now; left = left; held = held })
-  sound_kept problem legal counts =
-      let few : length now.wants ≤ 8 = (let a = half.few in let b = going.fewer in rw wants_are (omega (arith, a, b))) in
+      → IsSound s (record h { now = now; left = left; books = books; held = held; stopped = stopped })
+  sound_kept problem way counts =
       let taken : All (IsTaken s h.planned h.accepted) now.wants = rw wants_are going.left_taken in
-      sound_but s h half now left h.outdated held h.posted h.stopped timing_is rules_are (ap length luns_are ∙ length_set h.now.luns l _) problem few legal taken still_running (λ i.
+      sound_but s h half now left books h.outdated held h.posted stopped timing_is rules_are (ap length luns_are ∙ length_set h.now.luns l _) problem way taken still_running (λ i.
       let f1 = half.once i in
       let f2 = going.counts i in
       let f3 = number_set i h.now.luns l going.state (lun_after h.now.timing g n (start + phase_length (group_spans h.now.timing g) (length g) n)) going.there in
@@ -100,63 +100,63 @@ module _ (s : Setup) (h : HalfState) (half : IsSound s h) (l : ℕ) (g : List Wa
 abbrev pub AfterPhase : Setup → Chip → HalfState → Chip → Type 0
 AfterPhase s chip h chip' = (chip'.faults ≡ chip.faults) × IsHalf s (device_for s chip) h × ChipAgrees s h chip'
 
-module _ (s : Setup) (h : HalfState) (chip : Chip) (half : IsHalf s (device_for s chip) h) (agrees : ChipAgrees s h chip) (l : ℕ) (g : List Want) (n start : ℕ) (wants : List Want) (going : Going s h l g n wants) (lane : OnLun s h chip l g n) (now : Problem) (left : Schedule)
-    (timing_is : now.timing ≡ h.now.timing) (rules_are : now.rules ≡ h.now.rules) (luns_are : now.luns ≡ slice_set h.now.luns l (lun_after h.now.timing g n (start + phase_length (group_spans h.now.timing g) (length g) n))) (wants_are : now.wants ≡ wants) (problem : IsProblem now) (legal : Legal now left) where
+module _ (s : Setup) (h : HalfState) (chip : Chip) (half : IsHalf s (device_for s chip) h) (agrees : ChipAgrees s h chip) (l : ℕ) (g : List Want) (n start : ℕ) (wants : List Want) (going : Going s h l g n wants) (lane : OnLun s h chip l g n) (now : Problem) (left : Schedule) (books : Option Books) (stopped : Option Cause)
+    (timing_is : now.timing ≡ h.now.timing) (rules_are : now.rules ≡ h.now.rules) (luns_are : now.luns ≡ slice_set h.now.luns l (lun_after h.now.timing g n (start + phase_length (group_spans h.now.timing g) (length g) n))) (wants_are : now.wants ≡ wants) (problem : IsProblem now) (way : GoesBy s books now left (record { planned = h.planned; accepted = length h.accepted; outdated = h.outdated; stopped = stopped })) where
   -- after a command
-  after_a_command : (chip' : Chip) → Commands h.accepted g n start chip chip' ⊎ Launches h.accepted g n start chip chip' → AfterPhase s chip (record h { now = now; left = left }) chip'
+  after_a_command : (chip' : Chip) → Commands h.accepted g n start chip chip' ⊎ Launches h.accepted g n start chip chip' → AfterPhase s chip (record h { now = now; left = left; books = books; stopped = stopped }) chip'
   after_a_command chip' (inl c) =
       let more = c.more in (
         ap (λ (x : Chip). x.faults) c.done.state,
-        record { sound = sound_kept s h half.sound l g n start wants going now left h.held timing_is rules_are luns_are wants_are problem legal (counts_command s h half.sound l g n start wants going now left h.held timing_is rules_are luns_are wants_are (omega arith)); held = half.held; posted = half.posted; made = half.made },
-        after_command s h half.sound.timing chip agrees l g n start wants going lane now left h.held luns_are wants_are chip' c,
+        record { sound = sound_kept s h half.sound l g n start wants going now left books h.held stopped timing_is rules_are luns_are wants_are problem way (counts_command s h half.sound l g n start wants going now left books h.held stopped timing_is rules_are luns_are wants_are (omega arith)); held = half.held; posted = half.posted; made = half.made },
+        chip_but s (record h { now = now; left = left }) chip' left books h.outdated h.held h.posted stopped (after_command s h half.sound.timing chip agrees l g n start wants going lane now left h.held luns_are wants_are chip' c),
       )
   after_a_command chip' (inr c) =
       let last = c.last in (
         ap (λ (x : Chip). x.faults) c.done.state,
-        record { sound = sound_kept s h half.sound l g n start wants going now left h.held timing_is rules_are luns_are wants_are problem legal (counts_command s h half.sound l g n start wants going now left h.held timing_is rules_are luns_are wants_are (omega arith)); held = half.held; posted = half.posted; made = half.made },
-        after_launch s h half.sound.timing chip agrees l g n start wants going lane now left h.held luns_are wants_are chip' c,
+        record { sound = sound_kept s h half.sound l g n start wants going now left books h.held stopped timing_is rules_are luns_are wants_are problem way (counts_command s h half.sound l g n start wants going now left books h.held stopped timing_is rules_are luns_are wants_are (omega arith)); held = half.held; posted = half.posted; made = half.made },
+        chip_but s (record h { now = now; left = left }) chip' left books h.outdated h.held h.posted stopped (after_launch s h half.sound.timing chip agrees l g n start wants going lane now left h.held luns_are wants_are chip' c),
       )
 
   -- after a post
-  after_a_post : (chip' : Chip) (m : Want) (answer : Answer) → Posts g n start chip chip' m answer → AfterPhase s chip (record h { now = now; left = left; held = h.held ++ reply_to h.accepted chip.faults m answer ∷ [] }) chip'
+  after_a_post : (chip' : Chip) (m : Want) (answer : Answer) → Posts g n start chip chip' m answer → AfterPhase s chip (record h { now = now; left = left; books = books; held = h.held ++ reply_to h.accepted chip.faults m answer ∷ []; stopped = stopped }) chip'
   after_a_post chip' m answer c =
       let r = reply_to h.accepted chip.faults m answer in
       let held = h.held ++ r ∷ [] in
       let right = right_reply s h half.sound.timing chip agrees l g n start wants going lane now left held luns_are wants_are chip' m answer c in (
         ap (λ (x : Chip). x.faults) c.done.state,
         record {
-          sound = sound_kept s h half.sound l g n start wants going now left held timing_is rules_are luns_are wants_are problem legal (counts_post s h half.sound l g n start wants going now left held timing_is rules_are luns_are wants_are chip.faults m answer c.behind c.is);
+          sound = sound_kept s h half.sound l g n start wants going now left books held stopped timing_is rules_are luns_are wants_are problem way (counts_post s h half.sound l g n start wants going now left books held stopped timing_is rules_are luns_are wants_are chip.faults m answer c.behind c.is);
           held = All-append (IsRightful (device_for s chip) h.accepted) h.held (r ∷ []) half.held (right, tt);
           posted = half.posted;
           made = λ host. made_push (device_for s chip) h.accepted h.posted h.held r refl refl right host (half.made host);
         },
-        after_post s h half.sound.timing chip agrees l g n start wants going lane now left held luns_are wants_are chip' m answer c,
+        chip_but s (record h { now = now; left = left; held = held }) chip' left books h.outdated held h.posted stopped (after_post s h half.sound.timing chip agrees l g n start wants going lane now left held luns_are wants_are chip' m answer c),
       )
 
-  pub after_phase : (chip' : Chip) (replies : List Reply) → RunsOnChip h.accepted g n start chip chip' replies → AfterPhase s chip (record h { now = now; left = left; held = h.held ++ replies }) chip'
+  pub after_phase : (chip' : Chip) (replies : List Reply) → RunsOnChip h.accepted g n start chip chip' replies → AfterPhase s chip (record h { now = now; left = left; books = books; held = h.held ++ replies; stopped = stopped }) chip'
   after_phase chip' replies (inl (c, none)) =
       let e : h.held ++ replies ≡ h.held = ap (λ rs. h.held ++ rs) none ∙ append-nil h.held in
-      let P : List Reply → Type 0 = λ rs. AfterPhase s chip (record h { now = now; left = left; held = rs }) chip' in
+      let P : List Reply → Type 0 = λ rs. AfterPhase s chip (record h { now = now; left = left; books = books; held = rs; stopped = stopped }) chip' in
       subst P (sym e) (after_a_command chip' c)
   after_phase chip' replies (inr (m, answer, c, one)) =
-      let P : List Reply → Type 0 = λ rs. AfterPhase s chip (record h { now = now; left = left; held = h.held ++ rs }) chip' in
+      let P : List Reply → Type 0 = λ rs. AfterPhase s chip (record h { now = now; left = left; books = books; held = h.held ++ rs; stopped = stopped }) chip' in
       subst P (sym one) (after_a_post chip' m answer c)
 
 -- for a move of the problem
-pub after_move : (s : Setup) (h : HalfState) (chip : Chip) → IsHalf s (device_for s chip) h → ChipAgrees s h chip → (move : Move) (start : ℕ) (left : Schedule) → ComesNext h.now h.left move start left
+pub after_move : (s : Setup) (h : HalfState) (chip : Chip) → IsHalf s (device_for s chip) h → ChipAgrees s h chip → (move : Move) (start : ℕ) (left : Schedule) → Comes h move start left
     → (g : List Want) (n : ℕ) → IsPhase h.now move g n → (chip' : Chip) (replies : List Reply) → RunsOnChip h.accepted g n start chip chip' replies
     → AfterPhase s chip (half_after_phase h move start left replies) chip'
 after_move s h chip half agrees (Next l) start left next g n (ready, at) chip' replies ran =
-    let m = first_move_law h.now h.left (Next l) start left half.sound.problem half.sound.legal next in
+    let m = step_of s h half.sound (Next l) start left next in
     let e : placed h.now (Next l) start ≡ next_ran h.now l (Some (Running g n ready)) start = ap (λ o. next_ran h.now l o start) at in
-    after_phase s h chip half agrees l g n start h.now.wants (going_next s h half.sound l g n ready at) (on_next s h chip agrees l g n ready at) (placed h.now (Next l) start) left
-    (ap (λ (p : Problem). p.timing) e) (ap (λ (p : Problem). p.rules) e) (ap (λ (p : Problem). p.luns) e) (ap (λ (p : Problem). p.wants) e) m.problem m.legal chip' replies ran
+    after_phase s h chip half agrees l g n start h.now.wants (going_next s h half.sound l g n ready at) (on_next s h chip agrees l g n ready at) (placed h.now (Next l) start) left (books_after h.books (Next l)) (stopped_after h.books (placed h.now (Next l) start) l h.stopped)
+    (ap (λ (p : Problem). p.timing) e) (ap (λ (p : Problem). p.rules) e) (ap (λ (p : Problem). p.luns) e) (ap (λ (p : Problem). p.wants) e) m.problem m.way chip' replies ran
 after_move s h chip half agrees (Start members) start left next g n (same, zero') chip' replies ran =
-    let m = first_move_law h.now h.left (Start members) start left half.sound.problem half.sound.legal next in
+    let m = step_of s h half.sound (Start members) start left next in
     let P : List Want → ℕ → Type 0 = λ x m. RunsOnChip h.accepted x m start chip chip' replies in
     let ran' : P members 0 = subst (λ x. P x 0) (sym same) (subst (P g) zero' ran) in
-    after_phase s h chip half agrees (lun_of members) members 0 start (without members h.now.wants) (going_start s h half.sound members m.is_move) (let i = m.is_move in on_start s h chip agrees members i.2.group.some i.0 i.1) (placed h.now (Start members) start) left
-    refl refl refl refl m.problem m.legal chip' replies ran'
+    after_phase s h chip half agrees (lun_of members) members 0 start (without members h.now.wants) (going_start s h half.sound members m.is_move) (let i = m.is_move in on_start s h chip agrees members i.2.group.some i.0 i.1) (placed h.now (Start members) start) left (books_after h.books (Start members)) (stopped_after h.books (placed h.now (Start members) start) (lun_of members) h.stopped)
+    refl refl refl refl m.problem m.way chip' replies ran'
 
 pub bus_kept : (s : Setup) (c c' : ChannelState) (start : ℕ) → IsReached s c → c.half.stopped ≡ None → Runs c c' start → IsReached s c'
 bus_kept s c c' start reached going r =

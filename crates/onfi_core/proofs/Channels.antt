@@ -26,7 +26,7 @@ All-set P (y ∷ xs) zero x h p = (p, h.1)
 All-set P (y ∷ xs) (suc i) x h p = (h.0, All-set P xs i x h.1 p)
 
 pub sound_batch : (s : Setup) (batch : ℕ) (h : HalfState) → 1 ≤ batch → batch ≤ 8 → IsSound s h → IsSound s (record h { batch = batch })
-sound_batch s batch h some few r = record { planned = r.planned; some_batch = some; few_batch = few; timing = r.timing; rules = r.rules; problem = r.problem; few = r.few; luns = r.luns; legal = r.legal; in_range = r.in_range; wants = r.wants; running = r.running; once = r.once; aside = r.aside; aside_rise = r.aside_rise; in_order = r.in_order; last = r.last }
+sound_batch s batch h some few r = record { planned = r.planned; some_batch = some; few_batch = few; timing = r.timing; rules = r.rules; problem = r.problem; luns = r.luns; way = r.way; in_range = r.in_range; wants = r.wants; running = r.running; once = r.once; last = r.last }
 
 pub batch_kept : (s : Setup) (batch : ℕ) (c : ChannelState) → 1 ≤ batch → batch ≤ 8 → IsReached s c → IsReached s (with_batch batch c)
 batch_kept s batch c some few r = same_replies s c (record c.half { batch = batch }) c.chip r refl refl refl refl (sound_batch s batch c.half some few r.half.sound)

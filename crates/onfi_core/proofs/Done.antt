@@ -16,21 +16,21 @@ use Rattle.onfi_problem.specs.Problem.{Problem, IsProblem, has_id}
 use Rattle.onfi_problem.proofs.Wants.{number_has}
 use Rattle.onfi_problem.specs.declared.lun_state.LunState.TheVariants.{Free, Running}
 use Rattle.onfi_problem.proofs.Places.{get_within}
-use Rattle.onfi_schedule.specs.Laws.{ComesNext}
-use Rattle.onfi_schedule.specs.Schedule.{Schedule, Legal}
-use Rattle.onfi_schedule.proofs.Following.{first_move_law}
+use Rattle.onfi_schedule.specs.Schedule.{Schedule}
+use Rattle.onfi_steady.specs.Waiting.{Books}
 use Rattle.slab.specs.Slab.{Slab}
 use Rattle.onfi_flight.specs.declared.due.Due.{Due}
 use Rattle.onfi_lun.specs.declared.phase_result.PhaseResult.{PhaseResult}
 use Rattle.onfi_lun.specs.declared.phase_result.PhaseResult.TheVariants as ran
-use Rattle.onfi_core.specs.declared.arrivals.Arrivals.{Arrivals}
 use Rattle.onfi_core.specs.declared.setup.Setup.{Setup}
 use Rattle.onfi_core.specs.declared.slot.Slot.{Slot}
-use Rattle.onfi_flight.specs.Flight.{Flight, IsPhase, after_due as flight_after, left_behind, member_of, move_of}
-use Rattle.onfi_core.specs.Dues.{IsDue, IsRan, after_due, replies_of}
-use Rattle.onfi_core.specs.Kept.{IsSound}
-use Rattle.onfi_core.specs.State.{HalfState, flight_of, item_at, no_item, with_flight}
-use Rattle.onfi_core.specs.Steps.{half_after_phase, reply_to}
+use Rattle.onfi_flight.specs.Flight.{IsPhase, member_of, move_of}
+use Rattle.onfi_core.specs.declared.outcome.Cause.{Cause}
+use Rattle.onfi_core.specs.Dues.{IsDue, IsRan, after_due, left_by, replies_of}
+use Rattle.onfi_core.specs.Kept.{GoesBy, IsSound}
+use Rattle.onfi_core.specs.State.{HalfState, Way, item_at, no_item, way_of, with_way}
+use Rattle.onfi_core.specs.Steps.{Comes, books_after, half_after_phase, reply_to, stopped_after}
+use Rattle.onfi_core.specs.Ways.{way_after}
 use Rattle.onfi_core.specs.View.{AreFields, AreSlots, HasSlot}
 use Rattle.onfi_core.proofs.Bus.{number_set, sound_kept, counts_command, counts_post}
 use Rattle.onfi_core.proofs.Few.{replies_few}
@@ -38,6 +38,7 @@ use Rattle.onfi_core.proofs.Going.{Going, going_next, going_start}
 use Rattle.onfi_core.proofs.Lists.{drop_next, index_get, get_has}
 use Rattle.onfi_core.proofs.Next.{not_posted, was_accepted}
 use Rattle.onfi_core.proofs.Halves.{fields_but}
+use Rattle.onfi_core.proofs.Stepping.{due_of, step_of}
 
 -- a phase makes the reply to its member at a post, and none at a command
 abbrev pub Makes : List Item → List Want → ℕ → List Reply → Type 0
@@ -45,37 +46,39 @@ Makes accepted g n replies =
     ((n < length g) × (replies ≡ []))
     ⊎ ((faults : List Fault) × (m : Want) × (answer : Answer) × (length g ≤ n) × (slice_get g (n - length g) ≡ Some m) × (replies ≡ reply_to accepted faults m answer ∷ []))
 
-module _ (s : Setup) (h : HalfState) (half : IsSound s h) (l : ℕ) (g : List Want) (n start : ℕ) (wants : List Want) (going : Going s h l g n wants) (now : Problem) (left : Schedule)
-    (timing_is : now.timing ≡ h.now.timing) (rules_are : now.rules ≡ h.now.rules) (luns_are : now.luns ≡ slice_set h.now.luns l (lun_after h.now.timing g n (start + phase_length (group_spans h.now.timing g) (length g) n))) (wants_are : now.wants ≡ wants) (problem : IsProblem now) (legal : Legal now left) where
-  sound_phase : (replies : List Reply) → Makes h.accepted g n replies → IsSound s (record h { now = now; left = left; held = h.held ++ replies })
+module _ (s : Setup) (h : HalfState) (half : IsSound s h) (l : ℕ) (g : List Want) (n start : ℕ) (wants : List Want) (going : Going s h l g n wants) (now : Problem) (left : Schedule) (books : Option Books) (stopped : Option Cause)
+    (timing_is : now.timing ≡ h.now.timing) (rules_are : now.rules ≡ h.now.rules) (luns_are : now.luns ≡ slice_set h.now.luns l (lun_after h.now.timing g n (start + phase_length (group_spans h.now.timing g) (length g) n))) (wants_are : now.wants ≡ wants) (problem : IsProblem now) (way : GoesBy s books now left (record { planned = h.planned; accepted = length h.accepted; outdated = h.outdated; stopped = stopped })) where
+  sound_phase : (replies : List Reply) → Makes h.accepted g n replies → IsSound s (record h { now = now; left = left; books = books; held = h.held ++ replies; stopped = stopped })
   sound_phase replies (inl (lt, none)) =
-      let P : List Reply → Type 0 = λ rs. IsSound s (record h { now = now; left = left; held = rs }) in
+      let P : List Reply → Type 0 = λ rs. IsSound s (record h { now = now; left = left; books = books; held = rs; stopped = stopped }) in
       subst P (sym (ap (λ rs. h.held ++ rs) none ∙ append-nil h.held))
-      (sound_kept s h half l g n start wants going now left h.held timing_is rules_are luns_are wants_are problem legal
-      (counts_command s h half l g n start wants going now left h.held timing_is rules_are luns_are wants_are lt))
+      (sound_kept s h half l g n start wants going now left books h.held stopped timing_is rules_are luns_are wants_are problem way
+      (counts_command s h half l g n start wants going now left books h.held stopped timing_is rules_are luns_are wants_are lt))
   sound_phase replies (inr (faults, m, answer, le, at, one)) =
       let held = h.held ++ reply_to h.accepted faults m answer ∷ [] in
-      let P : List Reply → Type 0 = λ rs. IsSound s (record h { now = now; left = left; held = h.held ++ rs }) in
+      let P : List Reply → Type 0 = λ rs. IsSound s (record h { now = now; left = left; books = books; held = h.held ++ rs; stopped = stopped }) in
       subst P (sym one)
-      (sound_kept s h half l g n start wants going now left held timing_is rules_are luns_are wants_are problem legal
-      (counts_post s h half l g n start wants going now left held timing_is rules_are luns_are wants_are faults m answer le at))
+      (sound_kept s h half l g n start wants going now left books held stopped timing_is rules_are luns_are wants_are problem way
+      (counts_post s h half l g n start wants going now left books held stopped timing_is rules_are luns_are wants_are faults m answer le at))
 
 -- a half whose phase is done is sound
-sound_move : (s : Setup) (h : HalfState) → IsSound s h → (move : Move) (start : ℕ) (left : Schedule) → ComesNext h.now h.left move start left → (g : List Want) (n : ℕ) → IsPhase h.now move g n → (replies : List Reply) → Makes h.accepted g n replies → IsSound s (half_after_phase h move start left replies)
+sound_move : (s : Setup) (h : HalfState) → IsSound s h → (move : Move) (start : ℕ) (left : Schedule) → Comes h move start left → (g : List Want) (n : ℕ) → IsPhase h.now move g n → (replies : List Reply) → Makes h.accepted g n replies → IsSound s (half_after_phase h move start left replies)
 sound_move s h sound (Next l) start left next g n (ready, at) replies makes =
-    let m = first_move_law h.now h.left (Next l) start left sound.problem sound.legal next in
+    let m = step_of s h sound (Next l) start left next in
     let e : placed h.now (Next l) start ≡ next_ran h.now l (Some (Running g n ready)) start = ap (λ o. next_ran h.now l o start) at in
-    sound_phase s h sound l g n start h.now.wants (going_next s h sound l g n ready at) (placed h.now (Next l) start) left
-    (ap (λ (p : Problem). p.timing) e) (ap (λ (p : Problem). p.rules) e) (ap (λ (p : Problem). p.luns) e) (ap (λ (p : Problem). p.wants) e) m.problem m.legal replies makes
+    sound_phase s h sound l g n start h.now.wants (going_next s h sound l g n ready at) (placed h.now (Next l) start) left (books_after h.books (Next l)) (stopped_after h.books (placed h.now (Next l) start) l h.stopped)
+    (ap (λ (p : Problem). p.timing) e) (ap (λ (p : Problem). p.rules) e) (ap (λ (p : Problem). p.luns) e) (ap (λ (p : Problem). p.wants) e) m.problem m.way replies makes
 sound_move s h sound (Start members) start left next g n (same, zero') replies makes =
-    let m = first_move_law h.now h.left (Start members) start left sound.problem sound.legal next in
+    let m = step_of s h sound (Start members) start left next in
     let P : List Want → ℕ → Type 0 = λ x k. Makes h.accepted x k replies in
     let makes' : P members 0 = subst (λ x. P x 0) (sym same) (subst (P g) zero' makes) in
-    sound_phase s h sound (lun_of members) members 0 start (without members h.now.wants) (going_start s h sound members m.is_move) (placed h.now (Start members) start) left
-    refl refl refl refl m.problem m.legal replies makes'
+    sound_phase s h sound (lun_of members) members 0 start (without members h.now.wants) (going_start s h sound members m.is_move) (placed h.now (Start members) start) left (books_after h.books (Start members)) (stopped_after h.books (placed h.now (Start members) start) (lun_of members) h.stopped)
+    refl refl refl refl m.problem m.way replies makes'
 
 pub sound_due : (s : Setup) (h : HalfState) (due : Due) → IsSound s h → IsDue h due → (replies : List Reply) → Makes h.accepted due.group due.phase replies → IsSound s (after_due h due replies)
-sound_due s h due sound is replies makes = sound_move s h sound (move_of due) due.start (left_behind h.left due) (is.next sound.legal) due.group due.phase is.phase replies makes
+sound_due s h due sound is replies makes =
+    let d = due_of s h due sound is in
+    sound_move s h sound (move_of due) due.start (left_by h.books h.left due) d.comes due.group due.phase d.phase replies makes
 
 -- The member of the phase
 
@@ -89,7 +92,8 @@ goes_by s h sound (Start members) m g n (same, none) =
 -- the group of the due phase goes on
 pub goes : (s : Setup) (h : HalfState) (due : Due) → IsSound s h → IsDue h due → (wants : List Want) × Going s h due.lun due.group due.phase wants
 goes s h due sound is =
-    subst (λ l. (wants : List Want) × Going s h l due.group due.phase wants) is.lun (goes_by s h sound (move_of due) is.is_move due.group due.phase is.phase)
+    let d = due_of s h due sound is in
+    subst (λ l. (wants : List Want) × Going s h l due.group due.phase wants) d.lun (goes_by s h sound (move_of due) d.is_move due.group due.phase d.phase)
 
 -- the member is of those that have no reply
 member_left : (g : List Want) (n : ℕ) (m : Want) → member_of g n ≡ Some m → 1 ≤ number (has_id m.id) (drop (n - length g) g)
@@ -126,7 +130,7 @@ makes_of accepted faults due (ran.Post answer) le within =
     inr (faults, m.0, answer, le, m.1, rw at refl)
 
 -- there is room for the reply
-pub room_for : (s : Setup) (slots : Slab Slot) (came : ℕ × Arrivals) (room : ℕ) (kept : List Reply) (h : HalfState) (lent : Option Reply) (due : Due) (replies : List Reply) → AreFields s slots came room kept None h lent → IsDue h due → Makes h.accepted due.group due.phase replies → length kept + length replies ≤ room
+pub room_for : (s : Setup) (slots : Slab Slot) (came : ℕ) (room : ℕ) (kept : List Reply) (h : HalfState) (lent : Option Reply) (due : Due) (replies : List Reply) → AreFields s slots came room kept None h lent → IsDue h due → Makes h.accepted due.group due.phase replies → length kept + length replies ≤ room
 room_for s slots came room kept h lent due replies f is makes =
     let few = replies_few s (after_due h due replies) (sound_due s h due f.sound is replies makes) in
     let l = length-append h.held replies in
@@ -136,15 +140,22 @@ room_for s slots came room kept h lent due replies f is makes =
     let c = f.room_is in
     omega arith
 
+-- why it is stopped says the same of the books before and after the phase
+pub stopped_same : (books : Option Books) (move : Move) (p : Problem) (lun : ℕ) (stopped : Option Cause) → stopped_after (books_after books move) p lun stopped ≡ stopped_after books p lun stopped
+stopped_same None move p lun stopped = refl
+stopped_same (Some books) move p lun stopped = refl
+
 -- the fields once the phase is done
-pub fields_done : (s : Setup) (slots : Slab Slot) (came : ℕ × Arrivals) (room room' : ℕ) (kept kept' : List Reply) (h : HalfState) (lent lent' : Option Reply) (due : Due) (replies : List Reply) (accepted' : List Item) (held' posted' : List Reply) (flight' : Flight)
+pub fields_done : (s : Setup) (slots : Slab Slot) (came : ℕ) (room room' : ℕ) (kept kept' : List Reply) (h : HalfState) (lent lent' : Option Reply) (due : Due) (replies : List Reply) (accepted' : List Item) (held' posted' : List Reply) (way' : Way) (stopped' : Option Cause)
     → AreFields s slots came room kept None h lent → IsDue h due → Makes h.accepted due.group due.phase replies → kept' ≡ kept ++ replies → room' ≡ room
-    → accepted' ≡ h.accepted → held' ≡ h.held ++ replies → posted' ≡ h.posted → lent' ≡ lent → flight' ≡ flight_after (flight_of h) due
-    → AreFields s slots came room' kept' None (record (with_flight h flight') { accepted = accepted'; held = held'; posted = posted' }) lent'
-fields_done s slots came room room' kept kept' h lent lent' due replies accepted' held' posted' flight' f is makes k c e0 e1 e2 e3 ef =
+    → accepted' ≡ h.accepted → held' ≡ h.held ++ replies → posted' ≡ h.posted → lent' ≡ lent → way' ≡ way_after due (way_of h) → stopped' ≡ stopped_after way'.books way'.now due.lun h.stopped
+    → AreFields s slots came room' kept' None (record (with_way h way') { accepted = accepted'; held = held'; posted = posted'; stopped = stopped' }) lent'
+fields_done s slots came room room' kept kept' h lent lent' due replies accepted' held' posted' way' stopped' f is makes k c e0 e1 e2 e3 ef es =
     let l = f.lending in
     let same : kept' ≡ h.held ++ replies = k ∙ ap (λ rs. rs ++ replies) l.1 in
-    rw (e0, e1, e2, e3, ef) (fields_but s slots came room room' kept kept' None None h (after_due h due replies) lent lent f refl refl c (l.0, same) (sound_due s h due f.sound is replies makes))
+    let stop = es ∙ ap (λ (w : Way). stopped_after w.books w.now due.lun h.stopped) ef ∙ stopped_same h.books (move_of due) (placed h.now (move_of due) due.start) due.lun h.stopped
+    ∙ ap (λ n. stopped_after h.books (placed h.now (move_of due) due.start) n h.stopped) (sym (due_of s h due f.sound is).lun) in
+    rw (e0, e1, e2, e3, stop, ef) (fields_but s slots came room room' kept kept' None None h (after_due h due replies) lent lent f refl refl c (l.0, same) (sound_due s h due f.sound is replies makes))
 
 -- a reply of these parts is that to the member
 pub reply_is : (accepted : List Item) (faults : List Fault) (due : Due) (given : PhaseResult) (answer : Answer) (place : ℕ) (item : Item) (basis : Basis)

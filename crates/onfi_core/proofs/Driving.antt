@@ -36,6 +36,7 @@ use Rattle.onfi_core.specs.Dues.{IsDue, replies_of}
 use Rattle.onfi_core.specs.Kept.{IsSound, IsTaken, ChipAgrees, LunAgrees, post_for}
 use Rattle.onfi_core.specs.State.{HalfState, device_for, item_at, request_of}
 use Rattle.onfi_core.specs.Steps.{AsksSectors, AsksStatus, RunsOnChip, Commands, Launches}
+use Rattle.onfi_core.proofs.Stepping.{due_of}
 use Rattle.onfi_core.proofs.Going.{going_start}
 use Rattle.onfi_core.proofs.Lists.{drop_next, get_has, All-at}
 use Rattle.onfi_core.proofs.Members.{item_of, place_lun, place_kind, place_page}
@@ -80,7 +81,9 @@ ready_by s h chip sound agrees (Start members) start m time g n (same, none) =
     subst (P g) (sym none) (subst (λ x. P x 0) same (ready_start s h chip sound agrees members start m))
 
 pub ready_for : (s : Setup) (h : HalfState) (chip : Chip) (due : Due) → IsSound s h → ChipAgrees s h chip → IsDue h due → Ready s h chip due.group due.phase due.start
-ready_for s h chip due sound agrees is = ready_by s h chip sound agrees (move_of due) due.start is.is_move is.on_time due.group due.phase is.phase
+ready_for s h chip due sound agrees is =
+    let d = due_of s h due sound is in
+    ready_by s h chip sound agrees (move_of due) due.start d.is_move d.on_time due.group due.phase d.phase
 
 -- The members of the group
 
@@ -250,7 +253,7 @@ module _ (s : Setup) (h : HalfState) (chip : Chip) (sound : IsSound s h) (agrees
   asks_sectors le some = record {
     group = due.group;
     phase = due.phase;
-    is = is.phase;
+    is = (due_of s h due sound is).phase;
     behind = le;
     member = m;
     there = post_at le;
@@ -262,7 +265,7 @@ module _ (s : Setup) (h : HalfState) (chip : Chip) (sound : IsSound s h) (agrees
   asks_status (le, other) = record {
     group = due.group;
     phase = due.phase;
-    is = is.phase;
+    is = (due_of s h due sound is).phase;
     behind = le;
     member = m;
     there = post_at le;

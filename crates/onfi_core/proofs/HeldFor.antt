@@ -1,6 +1,6 @@
 -- Whom the held replies are for, and what a quiet half has left.
-use Rattle.std.proofs.Common.{◌≡◌, ℕ, suc, zero, ◌+◌, ◌*◌, ◌<◌, ◌≤◌, true, List, [], ◌∷◌, ◌++◌, length, take, refl, sym, ap, ◌∙◌, subst, arith, ◌≢◌}
-use Rattle.std.specs.Prelude.{◌==◌}
+use Rattle.std.proofs.Common.{◌≡◌, ℕ, suc, zero, ◌+◌, ◌-◌, ◌*◌, ◌<◌, ◌≤◌, Bool, true, false, List, [], ◌∷◌, ◌++◌, length, Option, Some, None, take, refl, sym, ap, ◌∙◌, subst, arith, ◌≢◌}
+use Rattle.std.specs.Prelude.{if◌then◌else◌, ◌==◌}
 use Rattle.std.specs.List.{AllByRecursion as All, filter, flat_map}
 use Rattle.std.proofs.lemmas.Bool.{eq-eqb}
 use Rattle.onfi_timing.specs.Phases.{Lengths}
@@ -12,7 +12,7 @@ use Rattle.onfi_group.specs.Group.{IsGroup, group_spans, lun_of}
 use Rattle.onfi_group.specs.Words.{number}
 use Rattle.onfi_problem.proofs.Perm.{All-back, All-front, All-weaker}
 use Rattle.onfi_problem.specs.Problem.{has_id}
-use Rattle.onfi_schedule.specs.Schedule.{Placed, group_phases, phases_from, rest_phases}
+use Rattle.onfi_schedule.specs.Schedule.{Placed, group_phases, phases, phases_from, rest_phases}
 use Rattle.onfi_schedule.specs.declared.phase.Phase.{Phase}
 use Rattle.onfi_die.proofs.Order.{rule_kept, Pairs-front}
 use Rattle.onfi_die.specs.Order.{AreInOrder, IsBeginning}
@@ -21,8 +21,9 @@ use Rattle.onfi_core.specs.declared.setup.Setup.{Setup}
 use Rattle.onfi_core.specs.Kept.{IsReached, IsSound}
 use Rattle.onfi_core.specs.Reaching.{IdleIs, NextBehind, NothingHeld}
 use Rattle.onfi_core.specs.State.{HalfState, ChannelState, device_for, is_to, posted_to}
-use Rattle.onfi_core.specs.Steps.{GoesOut, is_empty, none_left, places_left, unplanned}
-use Rattle.onfi_core.proofs.Rooms.{places_idle}
+use Rattle.onfi_steady.specs.Waiting.{Books}
+use Rattle.onfi_core.specs.Steps.{GoesOut, is_empty, none_left, none_left_by, none_runs, unplanned}
+use Rattle.onfi_core.proofs.Halves.{legal_left}
 use Rattle.onfi_core.proofs.Hosts.{post_kept}
 use Rattle.onfi_core.proofs.Hosted.{to_own}
 use Rattle.onfi_core.proofs.Lists.{All-at}
@@ -115,16 +116,28 @@ none_taken n [] some none = refl
 none_taken zero (x ∷ xs) some none = absurd (omega arith)
 none_taken (suc n) (x ∷ xs) some none = cc
 
-pub idle_wants : (s : Setup) (h : HalfState) → IsSound s h → none_left h ≡ true → h.now.wants ≡ []
-idle_wants s h sound over =
+planned_wants : (s : Setup) (h : HalfState) → IsSound s h → h.books ≡ None → is_empty (phases h.now h.left) ≡ true → h.now.wants ≡ []
+planned_wants s h sound by_plan over =
     let none = back_nil (rest_phases h.now.timing 0 h.now.luns h.left.rest) _ (is_nil _ over) in
-    let shape = sound.legal.shape in
-    let groups = no_group h.now.timing h.now.rules h.left.groups shape.starts sound.legal.group none in
+    let legal = legal_left s h sound by_plan in
+    let shape = legal.shape in
+    let groups = no_group h.now.timing h.now.rules h.left.groups shape.starts legal.group none in
     no_want h.now.wants (λ id. ap (λ gs. number (has_id id) (flat_map (λ (g : Placed). g.members) gs)) (sym groups) ∙ shape.once id)
+
+pub idle_wants : (s : Setup) (h : HalfState) → IsSound s h → none_left h ≡ true → h.now.wants ≡ []
+idle_wants s h sound over = by h.books refl over
+  where
+    both : (a b : Bool) → (if a then b else false) ≡ true → a ≡ true
+    both true b e = refl
+    both false b e = cc
+
+    by : (books : Option Books) → h.books ≡ books → none_left_by books h.now h.left ≡ true → h.now.wants ≡ []
+    by None none e = planned_wants s h sound none e
+    by (Some books) is e = is_nil h.now.wants (both (is_empty h.now.wants) (none_runs h.now.luns) e)
 
 pub idle_is : IdleIs
 idle_is s h sound over nothing =
     let wants = idle_wants s h sound over in
     let some = sound.some_batch in
-    let room : 1 ≤ places_left s.choice h = (let l = ap length wants in let e = places_idle s.choice h over in omega arith) in
-    (wants, none_taken (places_left s.choice h) (unplanned s h) room nothing)
+    let room : 1 ≤ h.batch - length h.now.wants = (let l = ap length wants in omega arith) in
+    (wants, none_taken (h.batch - length h.now.wants) (unplanned s h) room nothing)

@@ -66,7 +66,7 @@ made_same h h' host r out i =
 pub sound_posted : (s : Setup) (h : HalfState) (host : ℕ) (r : Reply) (h' : HalfState) → IsSound s h → GoesOut h h' host r → IsSound s h'
 sound_posted s h host r h' old out =
     let moved : HalfState = record h { held = out.before ++ out.behind; posted = h.posted ++ r ∷ [] } in
-    let next : IsSound s moved = sound_but s h old h.now h.left h.outdated moved.held moved.posted h.stopped refl refl refl old.problem old.few old.legal old.wants old.running (λ i.
+    let next : IsSound s moved = sound_but s h old h.now h.left h.books h.outdated moved.held moved.posted h.stopped refl refl refl old.problem old.way old.wants old.running (λ i.
     let a = old.once i in
     let b = ap (number (is_of_place i)) out.held ∙ number-append (is_of_place i) out.before (r ∷ out.behind) in
     let d = number-append (is_of_place i) out.before out.behind in

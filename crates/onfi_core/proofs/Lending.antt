@@ -10,7 +10,6 @@ use Rattle.onfi_request.specs.declared.reply.Reply.{Reply}
 use Rattle.onfi_group.specs.Words.{number}
 use Rattle.onfi_problem.proofs.Places.{same_place, within_get}
 use Rattle.slab.specs.Slab.{Slab, get, slab_len, Updates}
-use Rattle.onfi_core.specs.declared.arrivals.Arrivals.{Arrivals}
 use Rattle.onfi_core.specs.declared.setup.Setup.{Setup}
 use Rattle.onfi_core.specs.declared.slot.Slot.{Slot}
 use Rattle.onfi_core.specs.declared.lent.Lent.{Lent}
@@ -43,7 +42,7 @@ pub settled_is : (held kept : List Reply) (at : Option Lent) (lent : Option Repl
 settled_is held kept None lent l none = refl
 settled_is held kept (Some at) lent l none = (let e : Some l.0 ≡ None = sym l.3 ∙ none in cc)
 
-pub fields_lent : (s : Setup) (slots : Slab Slot) (came : ℕ × Arrivals) (room room' : ℕ) (kept kept' : List Reply) (h : HalfState) (lent lent' : Option Reply) (host at : ℕ) (r : Reply) (accepted' : List Item) (held' posted' : List Reply)
+pub fields_lent : (s : Setup) (slots : Slab Slot) (came : ℕ) (room room' : ℕ) (kept kept' : List Reply) (h : HalfState) (lent lent' : Option Reply) (host at : ℕ) (r : Reply) (accepted' : List Item) (held' posted' : List Reply)
     → AreFields s slots came room kept None h lent → (o : IsOldestAt host kept at) → r ≡ o.reply → kept' ≡ take at kept ++ drop (at + 1) kept → room' ≡ room
     → accepted' ≡ h.accepted → held' ≡ h.held → posted' ≡ h.posted → lent' ≡ Some r
     → AreFields s slots came room' kept' (Some (record { at = at; place = r.place })) (record h { accepted = accepted'; held = held'; posted = posted' }) lent'
@@ -59,7 +58,7 @@ same_reply : (r q : Reply) → Some r ≡ Some q → r ≡ q
 same_reply r q e = cc
 
 -- there is room for the reply that comes back
-pub room_back : (s : Setup) (slots : Slab Slot) (came : ℕ × Arrivals) (room : ℕ) (kept : List Reply) (at : Lent) (h : HalfState) (lent : Option Reply) → AreFields s slots came room kept (Some at) h lent → (length kept < room) × (at.at ≤ length kept)
+pub room_back : (s : Setup) (slots : Slab Slot) (came : ℕ) (room : ℕ) (kept : List Reply) (at : Lent) (h : HalfState) (lent : Option Reply) → AreFields s slots came room kept (Some at) h lent → (length kept < room) × (at.at ≤ length kept)
 room_back s slots came room kept at h lent f =
     let (r, before, behind, is, held, left, count, place, none) = f.lending in
     let few = replies_few s h f.sound in
@@ -71,7 +70,7 @@ room_back s slots came room kept at h lent f =
     (omega arith, omega arith)
 
 -- the slot of the reply that is lent
-pub lent_slot : (s : Setup) (slots : Slab Slot) (came : ℕ × Arrivals) (room : ℕ) (kept : List Reply) (at : Lent) (h : HalfState) (lent : Option Reply) → AreFields s slots came room kept (Some at) h lent → HasSlot slots at.place
+pub lent_slot : (s : Setup) (slots : Slab Slot) (came : ℕ) (room : ℕ) (kept : List Reply) (at : Lent) (h : HalfState) (lent : Option Reply) → AreFields s slots came room kept (Some at) h lent → HasSlot slots at.place
 lent_slot s slots came room kept at h lent f =
     let (r, before, behind, is, held, left, count, place, none) = f.lending in
     let t : (r.place == r.place) ≡ true = grind (arith, nat_tests) in
@@ -120,10 +119,6 @@ module _ (slots slots' : Slab Slot) (key : ℕ) (accepted : List Item) (posted :
           | inl e ↦ (let q : None ≡ Some z = sym u.changed ∙ ap (get slots') (sym e) ∙ h in cc)
           | inr d ↦ waits_on k z d (sym (u.others k d) ∙ h)
         ];
-        nths = λ k z h. elim (same_place k key) [
-          | inl e ↦ (let q : None ≡ Some z = sym u.changed ∙ ap (get slots') (sym e) ∙ h in cc)
-          | inr d ↦ were.nths k z (sym (u.others k d) ∙ h)
-        ];
         apart = λ k j y z h i e. elim (same_place k key) [
           | inl q ↦ (let w : None ≡ Some y = sym u.changed ∙ ap (get slots') (sym q) ∙ h in cc)
           | inr d ↦ elim (same_place j key) [
@@ -148,7 +143,7 @@ goes_out h kept held' posted' at lent r l own eh ep =
       after = rw (p, k) refl;
     }
 
-pub fields_posted : (s : Setup) (slots slots' : Slab Slot) (came : ℕ × Arrivals) (room key : ℕ) (slot : Slot) (kept : List Reply) (at : Lent) (h : HalfState) (lent lent' : Option Reply) (accepted' : List Item) (held' posted' : List Reply)
+pub fields_posted : (s : Setup) (slots slots' : Slab Slot) (came : ℕ) (room key : ℕ) (slot : Slot) (kept : List Reply) (at : Lent) (h : HalfState) (lent lent' : Option Reply) (accepted' : List Item) (held' posted' : List Reply)
     → AreFields s slots came room kept (Some at) h lent → get slots key ≡ Some slot → slot.place ≡ at.place → Updates slots slots' key None → slots'.capacity ≡ slots.capacity → slab_len slots' + 1 ≡ slab_len slots
     → accepted' ≡ h.accepted → held' ≡ kept → posted' ≡ h.posted ++ option_to_list lent → lent' ≡ None
     → AreFields s slots' came room kept None (record h { accepted = accepted'; held = held'; posted = posted' }) lent'
@@ -159,7 +154,6 @@ fields_posted s slots slots' came room key slot kept at h lent lent' accepted' h
     rw (e0, e1, p, e3) (record {
       slots_are = slots_fewer slots slots' key h.accepted h.posted r f.slots_are slot here (sp ∙ sym place) u cap len;
       count = f.count;
-      arrivals = f.arrivals;
       numbered = f.numbered;
       room_is = f.room_is;
       lending = (refl, refl);

@@ -20,6 +20,7 @@ use Rattle.onfi_flight.specs.Flight.{IsPhase, member_of, move_of}
 use Rattle.onfi_core.specs.Dues.{IsDue}
 use Rattle.onfi_core.specs.Kept.{IsSound, IsTaken, ChipAgrees, LunAgrees}
 use Rattle.onfi_core.specs.State.{HalfState, device_for, item_at, request_of}
+use Rattle.onfi_core.proofs.Stepping.{due_of}
 use Rattle.onfi_core.proofs.Driving.{fits_is, may_run, ready_for}
 use Rattle.onfi_core.proofs.Lists.{get_has}
 use Rattle.onfi_core.proofs.Members.{place_lun}
@@ -54,14 +55,15 @@ may_run_due s target h chip geometry timing sound agrees due is m at item item_i
     let ready = ready_for s h chip due sound agrees is in
     let has : Has due.group m = get_has due.group (if nat_lt due.phase (length due.group) then due.phase else due.phase - length due.group) m at in
     let there : IsTaken s h.planned h.accepted m = All-has (IsTaken s h.planned h.accepted) due.group m ready.members has in
-    let here : lun_of due.group ≡ due.lun = group_lun h.now sound.problem (move_of due) due.group due.phase is.phase ∙ is.lun in
+    let d = due_of s h due sound is in
+    let here : lun_of due.group ≡ due.lun = group_lun h.now sound.problem (move_of due) due.group due.phase d.phase ∙ d.lun in
     record {
       of = record { geometry = agrees.geometry ∙ geometry; timing = agrees.timing ∙ timing };
       may_run = subst (λ (x : Geometry). MayRun chip x due item) geometry (may_run s h chip sound agrees due is m at item item_is);
       fits = subst (λ (x : Geometry). Fits x item.request) geometry (subst (λ (x : Item). Fits s.geometry x.request) (sym item_is) (fits_is s h sound m there));
       lun = ap (λ (x : Item). x.request.place.lun) item_is ∙ place_lun s h m there ∙ All-has (λ (v : Want). v.lun ≡ lun_of due.group) due.group m
           ready.group.lun has ∙ here;
-      before = λ lt. ap (λ l. length (taken (slice_get chip.luns l))) (sym is.lun) ∙ taken_before s h chip sound agrees (move_of due) is.is_move due.group due.phase
-          is.phase lt;
-      time = is.time;
+      before = λ lt. ap (λ l. length (taken (slice_get chip.luns l))) (sym d.lun) ∙ taken_before s h chip sound agrees (move_of due) d.is_move due.group due.phase
+          d.phase lt;
+      time = d.time;
     }

@@ -1,9 +1,9 @@
 -- What the next planning takes, item by item.
-use Rattle.std.proofs.Common.{◌≡◌, ℕ, zero, suc, ◌+◌, ◌<◌, ◌≤◌, ◌⊎◌, inl, inr, true, false, List, [], ◌∷◌, ◌++◌, length, Some, None, ◌^◌, take, drop, refl, sym, ap, ◌∙◌, subst, append_assoc, length-drop, arith}
+use Rattle.std.proofs.Common.{◌≡◌, ℕ, zero, suc, ◌+◌, ◌-◌, ◌<◌, ◌≤◌, ◌⊎◌, inl, inr, true, false, List, [], ◌∷◌, ◌++◌, length, Some, None, ◌^◌, take, drop, refl, sym, ap, ◌∙◌, append_assoc, length-drop, arith}
 use Rattle.std.specs.Prelude.{slice_get, ◌==◌, nat_lt, not, if◌then◌else◌, Bool, Option}
 use Rattle.std.specs.List.{flat_map}
 use Rattle.std.proofs.lemmas.Bool.{cases_Bool, le-ltb, lt-ltb}
-use Rattle.std.proofs.lemmas.List.{length-append, length-take, take_all}
+use Rattle.std.proofs.lemmas.List.{length-take, take_all}
 use Rattle.std.proofs.lemmas.Bool.Decides.{nat_tests}
 use Rattle.onfi_addr.specs.declared.geometry.Geometry.{Geometry}
 use Rattle.onfi_request.specs.declared.request.Item.{Item}
@@ -17,10 +17,7 @@ use Rattle.onfi_core.specs.State.{HalfState, want_of, wants_from}
 use Rattle.onfi_core.specs.declared.outcome.Cause.TheVariants.{Clock}
 use Rattle.onfi_core.specs.declared.outcome.Outcome.{Outcome}
 use Rattle.onfi_core.specs.declared.outcome.Outcome.TheVariants as outcome
-use Rattle.onfi_core.specs.declared.setup.Choice.{Choice}
-use Rattle.onfi_core.specs.declared.setup.Choice.TheVariants.{InOrder, ByLun, ReadsFirst, WholeGroups}
-use Rattle.onfi_core.specs.Steps.{RunsLate, Taken, Takes, TakesBy, unplanned, if_stopped, is_current, is_empty, is_late, or_else, places_left, problem_with, refused_where, taken_next, nothing_to_plan, plan_refusal}
-use Rattle.onfi_group.proofs.Counting.{number-append}
+use Rattle.onfi_core.specs.Steps.{unplanned, if_stopped, is_current, is_empty, is_late, next_problem, or_else, refused_where, taken_next, nothing_to_plan, plan_refusal}
 use Rattle.onfi_problem.specs.Left.{horizon}
 use Rattle.onfi_core.specs.Kept.{IsSound, is_of_place, unposted}
 use Rattle.onfi_core.specs.View.{HasSlot, AreSlots}
@@ -55,7 +52,6 @@ unplanned_slot s slots h i a sound low high =
     let l = length-drop h.planned h.accepted in
     let p = sound.planned in
     let w = is_wanted s.geometry h.planned i (drop h.planned h.accepted) low (omega arith) in
-    let n = number-append (has_id i) h.aside (wants_from s.geometry h.planned (drop h.planned h.accepted)) in
     a.kept i high (not_posted s h i sound (omega arith))
 
 pub get_wants : (geometry : Geometry) (n : ℕ) (xs : List Item) (i : ℕ) (x : Item) → slice_get xs i ≡ Some x → slice_get (wants_from geometry n xs) i ≡ Some (want_of geometry (n + i) x)
@@ -86,32 +82,16 @@ takes_all n m xs low (inr h) = take_all n xs h ∙ sym (take_all m xs (omega ari
 late_alone : (stopped : Option Outcome) (none late : Bool) → stopped ≡ None → none ≡ false → or_else stopped (or_else (refused_where none outcome.NothingToPlan) (refused_where late (outcome.Stopped Clock))) ≡ refused_where late (outcome.Stopped Clock)
 late_alone stopped none late a b = rw (a, b) refl
 
-plan_by_time : (s : Setup) (h : HalfState) (late : Bool) → h.stopped ≡ None → nothing_to_plan s h ≡ false → is_late s.choice s h ≡ late → plan_refusal s h ≡ refused_where late (outcome.Stopped Clock)
-plan_by_time s h late going some is = late_alone (if_stopped h.stopped) (nothing_to_plan s h) (is_late s.choice s h) (ap if_stopped going) some ∙ ap (λ b. refused_where b (outcome.Stopped Clock)) is
+plan_by_time : (s : Setup) (h : HalfState) (late : Bool) → h.stopped ≡ None → nothing_to_plan s h ≡ false → is_late s h ≡ late → plan_refusal s h ≡ refused_where late (outcome.Stopped Clock)
+plan_by_time s h late going some is = late_alone (if_stopped h.stopped) (nothing_to_plan s h) (is_late s h) (ap if_stopped going) some ∙ ap (λ b. refused_where b (outcome.Stopped Clock)) is
 
--- a planning of what is taken ends in time: in order the state says so
-early_by : (choice : Choice) (s : Setup) (h : HalfState) (taken : Taken) → TakesBy choice s h taken → horizon (problem_with h taken.wants) < 2 ^ 62
-    → is_late choice s h ≡ false
-early_by InOrder s h taken takes low =
-    let in_time = subst (λ (t : Taken). horizon (problem_with h t.wants) < 2 ^ 62) takes low in
-    grind (arith, nat_tests)
-early_by ByLun s h taken takes low = refl
-early_by ReadsFirst s h taken takes low = refl
-early_by WholeGroups s h taken takes low = refl
-
--- nothing stands against a planning of what is taken that ends in time
-pub taken_goes_on : (s : Setup) (h : HalfState) (taken : Taken) → h.stopped ≡ None → nothing_to_plan s h ≡ false → Takes s h taken
-    → horizon (problem_with h taken.wants) < 2 ^ 62 → plan_refusal s h ≡ None
-taken_goes_on s h taken going some takes low = plan_by_time s h false going some (early_by s.choice s h taken takes low)
+-- nothing stands against a planning that ends in time
+pub plan_goes_on : (s : Setup) (h : HalfState) → h.stopped ≡ None → nothing_to_plan s h ≡ false → horizon (next_problem s h) < 2 ^ 62 → plan_refusal s h ≡ None
+plan_goes_on s h going some low = plan_by_time s h false going some (grind (arith, nat_tests))
 
 -- one that might end late stops the channel
-pub taken_stops : (s : Setup) (h : HalfState) (taken : Taken) → h.stopped ≡ None → nothing_to_plan s h ≡ false → Takes s h taken
-    → 2 ^ 62 ≤ horizon (problem_with h taken.wants)
-    → (plan_refusal s h ≡ Some (outcome.Stopped Clock)) ⊎ ((plan_refusal s h ≡ None) × (Clock ≡ Clock) × RunsLate s h)
-taken_stops s h taken going some takes high = elim (cases_Bool (is_late s.choice s h)) [
-  | inl late ↦ inl (plan_by_time s h true going some late)
-  | inr early ↦ inr (plan_by_time s h false going some early, refl, (taken, takes, high))
-]
+pub plan_stops : (s : Setup) (h : HalfState) → h.stopped ≡ None → nothing_to_plan s h ≡ false → 2 ^ 62 ≤ horizon (next_problem s h) → plan_refusal s h ≡ Some (outcome.Stopped Clock)
+plan_stops s h going some high = plan_by_time s h true going some (grind (arith, nat_tests))
 
 -- then no item is taken
 pub none_taken : (s : Setup) (h : HalfState) → nothing_to_plan s h ≡ true → is_empty (taken_next s h) ≡ true
@@ -127,15 +107,17 @@ empty_or : {A : Type 0} (xs : List A) → ((is_empty xs ≡ true) × (length xs 
 empty_or [] = inl (refl, refl)
 empty_or (x ∷ xs) = inr (refl, omega arith)
 
--- where nothing is set aside it takes what no planning has looked at
-pub new_takes : (s : Setup) (h : HalfState) → 1 ≤ places_left s.choice h → length h.aside ≡ 0 → nat_lt h.planned (length h.accepted) ≡ not (is_empty (taken_next s h))
-new_takes s h room none =
-    let W = wants_from s.geometry h.planned (drop h.planned h.accepted) in
-    let a = length-append h.aside W in
+-- where the wants not started fill the batch it takes none
+pub none_fit : (s : Setup) (h : HalfState) → h.batch ≤ length h.now.wants → not (is_empty (taken_next s h)) ≡ false
+none_fit s h full = let none : h.batch - length h.now.wants ≡ 0 = omega arith in ap (λ n. not (is_empty (take n (unplanned s h)))) none
+
+-- else it takes what no plan has taken
+pub new_takes : (s : Setup) (h : HalfState) → length h.now.wants < h.batch → nat_lt h.planned (length h.accepted) ≡ not (is_empty (taken_next s h))
+new_takes s h room =
     let b = length_wants s.geometry h.planned (drop h.planned h.accepted) in
     let c = length-drop h.planned h.accepted in
-    let l = length-take (places_left s.choice h) (unplanned s h) in
+    let l = length-take (h.batch - length h.now.wants) (unplanned s h) in
     elim (empty_or (taken_next s h)) [
-      | inl e ↦ le-ltb h.planned (length h.accepted) (let z = e.1 in omega (arith, a, b, c, l, z)) ∙ ap not (sym e.0)
-      | inr e ↦ lt-ltb h.planned (length h.accepted) (let z = e.1 in omega (arith, a, b, c, l, z)) ∙ ap not (sym e.0)
+      | inl e ↦ le-ltb h.planned (length h.accepted) (let z = e.1 in omega (arith, b, c, l, z)) ∙ ap not (sym e.0)
+      | inr e ↦ lt-ltb h.planned (length h.accepted) (let z = e.1 in omega (arith, b, c, l, z)) ∙ ap not (sym e.0)
     ]

@@ -75,14 +75,7 @@ pub below_length : (geometry : Geometry) (n : ℕ) (xs : List Item) (bound : ℕ
 below_length geometry n [] bound e = tt
 below_length geometry n (x ∷ xs) bound e = (omega arith, below_length geometry (n + 1) xs bound (omega arith))
 
-pub none_below : (geometry : Geometry) (n : ℕ) (xs : List Item) → All (λ (w : Want). n ≤ w.id) (wants_from geometry n xs)
-none_below geometry n xs = from_above geometry n n xs (omega arith)
-
-pub wants_rise : (geometry : Geometry) (n : ℕ) (xs : List Item) → Rising (wants_from geometry n xs)
-wants_rise geometry n [] = tt
-wants_rise geometry n (x ∷ xs) = (above n (want_of geometry n x) _ refl (none_below geometry (n + 1) xs), wants_rise geometry (n + 1) xs)
-
--- the items after n others, where all were looked at
+-- the items after n others, where all were taken
 pub all_taken : (s : Setup) (all : List Item) (n : ℕ) (pre xs : List Item) → all ≡ pre ++ xs → n ≡ length pre → All (IsTaken s (length all) all) (wants_from s.geometry n xs)
 all_taken s all n pre [] e f = tt
 all_taken s all n pre (x ∷ xs) e f =
@@ -90,3 +83,7 @@ all_taken s all n pre (x ∷ xs) e f =
       record { below = within_get all n x at; item = x; there = at; is = refl },
       all_taken s all (n + 1) (pre ++ x ∷ []) xs (e ∙ sym (append_assoc pre (x ∷ []) xs)) (omega (arith, length-append pre (x ∷ []))),
     )
+
+-- .. one more above all others
+pub Rising-push : (ws : List Want) (v : Want) → Rising ws → All (λ (w : Want). w.id < v.id) ws → Rising (ws ++ v ∷ [])
+Rising-push ws v rise low = Rising-append v.id ws (v ∷ []) rise (tt, tt) low (omega arith, tt)

@@ -1,5 +1,5 @@
 -- The opening state.
-use Rattle.std.proofs.Common.{◌≡◌, ℕ, zero, suc, ◌+◌, ◌⊎◌, inl, inr, List, [], Some, None, refl, sym, ◌∙◌, arith}
+use Rattle.std.proofs.Common.{◌≡◌, ℕ, zero, suc, ◌+◌, ◌<◌, ◌^◌, ◌⊎◌, inl, inr, false, List, [], Some, None, refl, sym, ◌∙◌, arith}
 use Rattle.std.specs.Prelude.{slice_get, replicate}
 use Rattle.std.specs.List.{flat_map}
 use Rattle.std.proofs.lemmas.List.{length-replicate}
@@ -14,7 +14,10 @@ use Rattle.onfi_schedule.specs.Schedule.{Legal, rest_phases}
 use Rattle.onfi_die.specs.Shapes.{Device, device_of}
 use Rattle.onfi_chip.specs.Chip.{Failures}
 use Rattle.onfi_chip.specs.Chip.Lun.{Idle}
-use Rattle.onfi_core.specs.Kept.{IsSound, first_half, unposted, first_problem, first, IsReached, LunAgrees, commanding}
+use Rattle.onfi_core.specs.declared.setup.Choice.{Choice}
+use Rattle.onfi_core.specs.declared.setup.Choice.TheVariants.{InOrder, NextPhase}
+use Rattle.onfi_problem.specs.Moves.{free_from}
+use Rattle.onfi_core.specs.Kept.{GoesBy, first_books, first_left, IsSound, first_half, unposted, first_problem, first, IsReached, LunAgrees, commanding}
 use Rattle.onfi_core.specs.declared.setup.Setup.{Setup}
 
 -- each is that one
@@ -70,6 +73,23 @@ nothing_unposted i (suc n) = nothing_unposted i n
 opened_problem : (s : Setup) → IsProblem (first_problem s)
 opened_problem s = record { wants = tt; in_range = tt; ids = tt; running = λ lun group next ready h. absurd (none_running s.geometry.lun_count lun group next ready h) }
 
+free_in_time : (n lun : ℕ) → free_from (slice_get (replicate n (Free 0)) lun) < 2 ^ 62
+free_in_time zero lun = omega arith
+free_in_time (suc n) zero = omega arith
+free_in_time (suc n) (suc lun) = free_in_time n lun
+
+-- it goes on by what the setup chose
+opened_way : (s : Setup) (choice : Choice) → s.choice ≡ choice → GoesBy s (first_books choice s) (first_problem s) (first_left choice s) (record { planned = 0; accepted = 0; outdated = false; stopped = None })
+opened_way s InOrder is = record { choice = is; few = omega arith; legal = opened_legal s }
+opened_way s NextPhase is = record {
+  choice = is;
+  waiting = refl;
+  rules = refl;
+  all = refl;
+  current = refl;
+  in_time = λ going. record { bus = omega arith; luns = λ lun. free_in_time s.geometry.lun_count lun };
+}
+
 pub opened_sound : (s : Setup) → IsSound s (first_half s)
 opened_sound s = record {
   planned = omega arith;
@@ -78,16 +98,12 @@ opened_sound s = record {
   timing = refl;
   rules = refl;
   problem = opened_problem s;
-  few = omega arith;
   luns = length-replicate s.geometry.lun_count (Free 0);
-  legal = opened_legal s;
+  way = opened_way s s.choice refl;
   in_range = tt;
   wants = tt;
   running = λ lun group next ready h. absurd (none_running s.geometry.lun_count lun group next ready h);
   once = λ i. omega (arith, nothing_unposted i s.geometry.lun_count);
-  aside = tt;
-  aside_rise = tt;
-  in_order = λ _. refl;
   last = tt;
 }
 

@@ -112,10 +112,9 @@ any_plans o c finish is = any_last c.half.last
 
 -- what is left of a planning that wasn't accepted
 other_plan : (Such : Planning → Type 0) (s : Setup) (c : ChannelState) (channel : ℕ) (o : Outcome) (c' : ChannelState) → Does s c (Plan channel) o c' → PlansSuch Such o c' → IfSome c.half.last Such → IfSome c'.half.last Such
-other_plan Such s c channel o c' (inl (taken, plan, out, plans, after)) such old = such plan.finish out
+other_plan Such s c channel o c' (inl (plan, out, plans, after)) such old = such plan.finish out
 other_plan Such s c channel o c' (inr (inl (out, over, same))) such old = subst (λ (x : ChannelState). IfSome x.half.last Such) (sym same) old
-other_plan Such s c channel o c' (inr (inr (inl (out, late, after)))) such old = subst (λ (x : ChannelState). IfSome x.half.last Such) (sym after) old
-other_plan Such s c channel o c' (inr (inr (inr (out, same)))) such old = subst (λ (x : ChannelState). IfSome x.half.last Such) (sym same) old
+other_plan Such s c channel o c' (inr (inr (out, same))) such old = subst (λ (x : ChannelState). IfSome x.half.last Such) (sym same) old
 
 plan_by : (Such : Planning → Type 0) (s : Setup) (c : ChannelState) (channel : ℕ) (o : Outcome) (c' : ChannelState) (refused : Option Outcome) → StepBy refused s c (Plan channel) o c' → PlansSuch Such o c' → IfSome c.half.last Such → IfSome c'.half.last Such
 plan_by Such s c channel o c' None step such old = other_plan Such s c channel o c' step such old

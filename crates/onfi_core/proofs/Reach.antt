@@ -1,23 +1,22 @@
 -- Each step keeps it, so each run does.
-use Rattle.std.proofs.Common.{◌≡◌, ◌^◌, inl, inr, Bool, true, false, length, Option, Some, None, refl, sym, subst}
-use Rattle.std.specs.Prelude.{slice_get}
+use Rattle.std.proofs.Common.{◌≡◌, ℕ, ◌<◌, ◌^◌, inl, inr, Bool, true, false, length, Option, Some, None, refl, sym, subst}
+use Rattle.std.specs.Prelude.{nat_le, slice_get}
 use Rattle.onfi_request.specs.Range.{fault_of}
 use Rattle.onfi_request.specs.declared.checking.RequestFault.{RequestFault}
 use Rattle.onfi_request.specs.declared.request.Request.{Request}
 use Rattle.onfi_die.specs.Shapes.{device_of}
 use Rattle.onfi_core.specs.Kept.{IsSound, IsReached, IsHalf}
-use Rattle.onfi_core.specs.State.{HalfState, ChannelState, sent_by}
-use Rattle.onfi_core.specs.Steps.{Step, StepBy, Does, Fails, refusal, or_else, refused_where, if_stopped, if_faulty, after_refusal, stopped_by}
+use Rattle.onfi_core.specs.State.{HalfState, ChannelState, flight_of, sent_by}
+use Rattle.onfi_core.specs.Steps.{Step, StepBy, Does, Fails, refusal, or_else, refused_where, if_stopped, if_faulty, after_refusal, latest_by, nothing_to_plan, plan_refusal, stopped_by}
 use Rattle.onfi_core.specs.declared.event.Event.{Event}
 use Rattle.onfi_core.specs.declared.event.Event.TheVariants.{Submit, Accept, Plan, Bus, Wait, Ready, Post, Collect}
 use Rattle.onfi_core.specs.declared.outcome.Cause.{Cause}
-use Rattle.onfi_core.specs.declared.outcome.Cause.TheVariants.{Clock}
 use Rattle.onfi_core.specs.declared.outcome.Outcome.{Outcome}
-use Rattle.onfi_core.specs.declared.outcome.Outcome.TheVariants.{Stopped}
+use Rattle.onfi_core.specs.declared.outcome.Outcome.TheVariants.{Stopped, TooLate}
 use Rattle.onfi_core.specs.declared.setup.Setup.{Setup}
 use Rattle.onfi_core.proofs.Accept.{accept_kept}
 use Rattle.onfi_core.proofs.Bus.{bus_kept}
-use Rattle.onfi_core.proofs.Halves.{other_half, same_replies, sound_but}
+use Rattle.onfi_core.proofs.Halves.{other_half, same_replies, sound_but, stopped_way}
 use Rattle.onfi_core.proofs.Hosts.{submit_kept, post_kept, collect_kept}
 use Rattle.onfi_core.proofs.Plan.{plan_kept}
 use Rattle.onfi_core.proofs.Passing.{wait_kept}
@@ -45,7 +44,16 @@ not_where true o h = cc
 not_where false o h = refl
 
 pub sound_stopped : (s : Setup) (cause : Cause) (h : HalfState) → IsSound s h → IsSound s (record h { stopped = Some cause })
-sound_stopped s cause h r = sound_but s h r h.now h.left h.outdated h.held h.posted (Some cause) refl refl refl r.problem r.few r.legal r.wants r.running r.once
+sound_stopped s cause h r = sound_but s h r h.now h.left h.books h.outdated h.held h.posted (Some cause) refl refl refl r.problem
+    (stopped_way s h.books h.now h.left (record { planned = h.planned; accepted = length h.accepted; outdated = h.outdated; stopped = h.stopped }) cause r.way) r.wants r.running r.once
+
+-- a planning that isn't refused has something to plan
+goes_plan : (s : Setup) (h : HalfState) → plan_refusal s h ≡ None → nothing_to_plan s h ≡ false
+goes_plan s h none = not_where _ _ (none_first _ _ (none_second _ _ none))
+
+-- a wait that isn't refused is to a moment in time
+not_late : (moment : ℕ) (h : HalfState) → refused_where (nat_le (2 ^ 62) (latest_by h.books moment (flight_of h))) TooLate ≡ None → latest_by h.books moment (flight_of h) < 2 ^ 62
+not_late moment h none = below (2 ^ 62) (latest_by h.books moment (flight_of h)) (not_where _ _ none)
 
 -- a stop cause stays
 stop_kept : (s : Setup) (cause : Cause) (c : ChannelState) → IsReached s c → IsReached s (stopped_by cause c)
@@ -70,14 +78,13 @@ does_kept s c (Submit host channel r) o c' reached none d =
     let low = below (2 ^ 32) (length (sent_by host c)) (not_where _ _ (none_first _ _ third)) in
     subst (IsReached s) (sym d.1) (submit_kept s c host r reached f known low)
 does_kept s c (Accept channel) o c' reached none d = accept_kept s c c' reached d.1
-does_kept s c (Plan channel) o c' reached none (inl (taken, plan, out, plans, after)) = subst (IsReached s) (sym after) (plan_kept s c taken plan (not_stopped c.half.stopped (none_first _ _ none)) reached plans)
+does_kept s c (Plan channel) o c' reached none (inl (plan, out, plans, after)) = subst (IsReached s) (sym after) (plan_kept s c plan (goes_plan s c.half none) reached plans)
 does_kept s c (Plan channel) o c' reached none (inr (inl (out, over, after))) = subst (IsReached s) (sym after) reached
-does_kept s c (Plan channel) o c' reached none (inr (inr (inl (out, late, after)))) = subst (IsReached s) (sym after) (stop_kept s Clock c reached)
-does_kept s c (Plan channel) o c' reached none (inr (inr (inr d))) = subst (IsReached s) (sym d.1) reached
+does_kept s c (Plan channel) o c' reached none (inr (inr d)) = subst (IsReached s) (sym d.1) reached
 does_kept s c (Bus channel) o c' reached none (inl (start, out, runs)) = bus_kept s c c' start reached (not_stopped c.half.stopped (none_first _ _ none)) runs
 does_kept s c (Bus channel) o c' reached none (inr (inl (cause, other, out, fails))) = fails_kept s c c' cause reached fails
 does_kept s c (Bus channel) o c' reached none (inr (inr d)) = subst (IsReached s) (sym d.1) reached
-does_kept s c (Wait channel moment) o c' reached none (out, after) = subst (IsReached s) (sym after) (wait_kept s c moment reached)
+does_kept s c (Wait channel moment) o c' reached none (out, after) = subst (IsReached s) (sym after) (wait_kept s c moment (not_late moment c.half (none_second _ _ none)) reached)
 does_kept s c (Ready channel lun) o c' reached none (inl (out, after)) = subst (IsReached s) (sym after) (ready_kept s c lun reached (not_stopped c.half.stopped (none_first _ _ (none_second _ _ none))) (in_array lun (slice_get c.half.now.luns lun) (not_where _ _ (none_second _ _ (none_second _ _ none)))))
 does_kept s c (Ready channel lun) o c' reached none (inr (out, same)) = subst (IsReached s) (sym same) reached
 does_kept s c (Post channel host) o c' reached none (r, h, out, goes, after) = subst (IsReached s) (sym after) (post_kept s c host r h reached goes)

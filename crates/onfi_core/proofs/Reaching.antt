@@ -15,8 +15,8 @@ use Rattle.onfi_core.specs.Core.Doing.{Happens, SetsBatch}
 use Rattle.onfi_core.specs.Kept.{IsReached}
 use Rattle.onfi_core.specs.Reaching.{Reaches, StaysReached, EventsReach, StepReaches, BatchReached, AcceptingReached, PostingReached}
 use Rattle.onfi_core.specs.State.{HalfState, ChannelState, Planning, is_to, posted_to, quiet, sent_by}
-use Rattle.onfi_core.specs.Steps.{IsAny, PlansSuch, Step, StepBy, GoesOut, refusal, submitted}
-use Rattle.onfi_core.specs.View.{IsOldest, accepting}
+use Rattle.onfi_core.specs.Steps.{accepting, IsAny, PlansSuch, Step, StepBy, GoesOut, refusal, submitted}
+use Rattle.onfi_core.specs.View.{IsOldest}
 use Rattle.onfi_core.proofs.Channels.{all_kept, batch_kept, opened_with_none}
 use Rattle.onfi_core.proofs.HeldFor.{goes_to}
 use Rattle.onfi_core.proofs.Hosted.{to_own}
@@ -100,8 +100,8 @@ accepting_reached Such s h chip x open' next =
     let room : 0 < s.submit_cap = (let some = s.some_room in omega arith) in
     let c1 = submitted c x.host x.request in
     let first : Step s c (event.Submit x.host 0 x.request) (outcome.Submitted (length (sent_by x.host c))) c1 = step_does s c (event.Submit x.host 0 x.request) (outcome.Submitted (length (sent_by x.host c))) c1 (submit_open s c x.host 0 x.request next.host (no_fault s.geometry x.request next.in_range) low room) (refl, refl) in
-    let second : Step s c1 (event.Accept 0) (outcome.Accepted (length h.accepted)) (quiet (accepting h sent) chip) = accepts s c1 (quiet (accepting h sent) chip) 0 sent [] open' refl refl in
-    subst (λ (y : Item). StaysReached Such s c (quiet (accepting h y) chip)) same (stays Such s c c1 (quiet (accepting h sent) chip) (event.Submit x.host 0 x.request) (event.Accept 0) _ _ first (λ _ is. cc) second (λ _ is. cc))
+    let second : Step s c1 (event.Accept 0) (outcome.Accepted (length h.accepted)) (quiet (accepting s h sent) chip) = accepts s c1 (quiet (accepting s h sent) chip) 0 sent [] open' refl refl in
+    subst (λ (y : Item). StaysReached Such s c (quiet (accepting s h y) chip)) same (stays Such s c c1 (quiet (accepting s h sent) chip) (event.Submit x.host 0 x.request) (event.Accept 0) _ _ first (λ _ is. cc) second (λ _ is. cc))
 
 -- Posting
 

@@ -1,6 +1,6 @@
 -- Which events are refused, and what an event does that isn't.
 use Rattle.std.proofs.Common.{◌≡◌, ℕ, ◌<◌, ◌≤◌, ◌^◌, inl, inr, Bool, true, false, List, [], ◌∷◌, ◌++◌, length, Option, Some, None, refl, sym, ap, ◌∙◌, subst, arith}
-use Rattle.std.specs.Prelude.{max, nat_le, nat_lt, if◌then◌else◌, ◌==◌, Result, Ok, Err, IfOk, IfErr, OnErr}
+use Rattle.std.specs.Prelude.{max, nat_le, ◌==◌, Result, Ok, Err, IfOk, IfErr, OnErr}
 use Rattle.std.specs.List.{filter}
 use Rattle.std.proofs.lemmas.Bool.{cases_Bool}
 use Rattle.std.proofs.lemmas.Bool.Decides.{nat_tests}
@@ -8,7 +8,6 @@ use Rattle.onfi_request.specs.declared.checking.RequestFault.{RequestFault}
 use Rattle.onfi_request.specs.declared.reply.Reply.{Reply}
 use Rattle.onfi_request.specs.declared.request.Item.{Item}
 use Rattle.onfi_request.specs.declared.request.Request.{Request}
-use Rattle.onfi_flight.specs.Flight.{Flight, latest_waited, waited as flight_waited}
 use Rattle.onfi_chip.specs.Chip.{Chip, found_ready}
 use Rattle.onfi_core.specs.declared.event.Event.{Event}
 use Rattle.onfi_core.specs.declared.event.Event.TheVariants as event
@@ -17,8 +16,9 @@ use Rattle.onfi_core.specs.declared.outcome.Outcome.{Outcome}
 use Rattle.onfi_core.specs.declared.outcome.Outcome.TheVariants as outcome
 use Rattle.onfi_core.specs.declared.setup.Setup.{Setup}
 use Rattle.onfi_core.specs.declared.half.passing.WaitRefusal.{WaitRefusal}
-use Rattle.onfi_core.specs.State.{ChannelState, HalfState, collected_by, flight_of, is_to, posted_to, sent_by, with_flight}
-use Rattle.onfi_core.specs.Steps.{Step, StepBy, Does, refusal, after_refusal, stopped_by, fault_of, is_empty, held_for, not_collected, accept_refusal, or_else, if_stopped, readied, ready_of, ready_refusal, refused_where, wait_refusal, waited}
+use Rattle.onfi_core.specs.Ways.{way_waited}
+use Rattle.onfi_core.specs.State.{ChannelState, HalfState, Way, collected_by, flight_of, is_to, posted_to, sent_by, way_of, with_way}
+use Rattle.onfi_core.specs.Steps.{Step, StepBy, Does, refusal, after_refusal, stopped_by, fault_of, is_empty, held_for, not_collected, accept_refusal, accepting, latest_by, or_else, outdated_by, if_stopped, readied, ready_of, ready_refusal, refused_where, wait_refusal, waited}
 use Rattle.onfi_core.specs.Refusals.{wait_outcome, waited_outcome}
 use Rattle.onfi_core.specs.View.{HalfView, IsOldest}
 
@@ -58,7 +58,7 @@ same_stop : (c : ChannelState) (cause : Cause) → c.half.stopped ≡ Some cause
 same_stop c cause e = ap (λ (o : Option Cause). let z : ChannelState = record c { half = record c.half { stopped = o } } in z) e
 
 -- the front of what waits is accepted
-pub accepts : (s : Setup) (c c' : ChannelState) (channel : ℕ) (x : Item) (behind : List Item) → accept_refusal c.half ≡ None → c.waiting ≡ x ∷ behind → c' ≡ record c { half = record c.half { accepted = c.half.accepted ++ x ∷ [] }; waiting = behind }
+pub accepts : (s : Setup) (c c' : ChannelState) (channel : ℕ) (x : Item) (behind : List Item) → accept_refusal c.half ≡ None → c.waiting ≡ x ∷ behind → c' ≡ record c { half = accepting s c.half x; waiting = behind }
     → Step s c (event.Accept channel) (outcome.Accepted (length c.half.accepted)) c'
 accepts s c c' channel x behind h e is =
     let f = refused_where (is_empty c.waiting) outcome.NothingToAccept in
@@ -90,14 +90,14 @@ after_waiting s c channel moment old new (Err refusal) same done refused left =
     subst P (sym (ap (λ (v : HalfView). v.state) left ∙ same)) (not_waited s c channel moment (wait_outcome refusal) refused)
 
 -- a half waits, whatever its fields are
-pub waits : (v w : HalfView) (moment bus_free : ℕ) (flight' : Flight) (outdated : Bool) → v ≡ w → v.state.stopped ≡ None → latest_waited moment (flight_of v.state) < 2 ^ 62
-    → (bus_free ≡ max v.state.now.bus_free moment) × (flight' ≡ flight_waited moment (flight_of v.state)) → outdated ≡ (if v.state.outdated then true else nat_lt v.state.now.bus_free moment)
+pub waits : (v w : HalfView) (moment bus_free : ℕ) (way' : Way) (outdated : Bool) → v ≡ w → v.state.stopped ≡ None → latest_by v.state.books moment (flight_of v.state) < 2 ^ 62
+    → (bus_free ≡ max v.state.now.bus_free moment) × (way' ≡ way_waited moment (way_of v.state)) → outdated ≡ outdated_by v.state.books v.state.outdated v.state.now.bus_free moment
     → (wait_refusal moment w.state ≡ None) × (bus_free ≡ max w.state.now.bus_free moment)
-    × ((let z : HalfView = record v { state = record (with_flight v.state flight') { outdated = outdated } } in z) ≡ record w { state = waited moment w.state })
-waits v w moment bus_free flight' outdated same going low (free, ef) eo =
-    let new : HalfView = record v { state = record (with_flight v.state flight') { outdated = outdated } } in
+    × ((let z : HalfView = record v { state = record (with_way v.state way') { outdated = outdated } } in z) ≡ record w { state = waited moment w.state })
+waits v w moment bus_free way' outdated same going low (free, ef) eo =
+    let new : HalfView = record v { state = record (with_way v.state way') { outdated = outdated } } in
     let P : HalfView → Type 0 = λ x. (wait_refusal moment x.state ≡ None) × (bus_free ≡ max x.state.now.bus_free moment) × (new ≡ record x { state = waited moment x.state }) in
-    let early = is_above (2 ^ 62) (latest_waited moment (flight_of v.state)) low in
+    let early = is_above (2 ^ 62) (latest_by v.state.books moment (flight_of v.state)) low in
     subst P same (rw (going, early) refl, free, rw (ef, eo) refl)
 
 -- it posts nothing

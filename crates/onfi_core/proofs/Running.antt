@@ -18,40 +18,38 @@ use Rattle.onfi_core.specs.declared.outcome.Outcome.TheVariants as outcome
 use Rattle.onfi_lun.specs.declared.phase_result.PhaseResult.{PhaseResult}
 use Rattle.onfi_core.specs.declared.setup.Setup.{Setup}
 use Rattle.onfi_lun.specs.Drive.{HasRun, AfterDrive, IsStatus}
-use Rattle.onfi_flight.specs.Flight.{left_behind, member_of, move_of}
-use Rattle.onfi_core.specs.Dues.{IsDue, after_due, replies_of}
+use Rattle.onfi_flight.specs.Flight.{member_of, move_of}
+use Rattle.onfi_core.specs.Dues.{IsDue, after_due, left_by, replies_of}
 use Rattle.onfi_core.specs.Kept.{ChipAgrees, IsSound}
 use Rattle.onfi_core.specs.Reaching.{PlannedStep}
 use Rattle.onfi_core.specs.State.{HalfState, ChannelState, Planning, item_at}
-use Rattle.onfi_core.specs.Steps.{Step, Plans, Runs, RunsOnChip, IsCauseOf, IsLostAt, IsToldAs, LacksSectors, Taken, bus_refusal, plan_refusal, planned_by, stopped_by}
+use Rattle.onfi_core.specs.Steps.{Step, Plans, Runs, RunsOnChip, IsCauseOf, IsLostAt, IsToldAs, LacksSectors, bus_refusal, plan_refusal, planned_by, stopped_by}
 use Rattle.onfi_core.specs.Refusals.{cause_of, planned_outcome, refusal_outcome}
 use Rattle.onfi_core.specs.View.{HalfView, PlannedAs, PlanRefused, RefusedAs}
 use Rattle.onfi_core.proofs.Driving.{asks_sectors, asks_status, ran_on_chip}
 use Rattle.onfi_core.proofs.Promised.{refused_is}
 use Rattle.onfi_core.proofs.Reach.{none_first, not_stopped}
 use Rattle.onfi_core.proofs.Refused.{step_refused, step_does}
+use Rattle.onfi_core.proofs.Stepping.{due_of}
 
 -- Plan
 
-pub planned_step : (s : Setup) (c : ChannelState) (channel finish : ℕ) (taken : Taken) (plan : Planning) → plan_refusal s c.half ≡ None → finish ≡ plan.finish → Plans s c.half taken plan → Step s c (event.Plan channel) (outcome.Planned finish) (record c { half = planned_by c.half taken plan })
-planned_step s c channel finish taken plan open' e plans =
-    step_does s c (event.Plan channel) (outcome.Planned finish) (record c { half = planned_by c.half taken plan }) open' (inl (taken, plan, ap outcome.Planned e, plans, refl))
+pub planned_step : (s : Setup) (c : ChannelState) (channel finish : ℕ) (plan : Planning) → plan_refusal s c.half ≡ None → finish ≡ plan.finish → Plans s c.half plan → Step s c (event.Plan channel) (outcome.Planned finish) (record c { half = planned_by s c.half plan })
+planned_step s c channel finish plan open' e plans =
+    step_does s c (event.Plan channel) (outcome.Planned finish) (record c { half = planned_by s c.half plan }) open' (inl (plan, ap outcome.Planned e, plans, refl))
 
 pub not_planned : (s : Setup) (c : ChannelState) (channel : ℕ) (refusal : PlanRefusal) (h : HalfState) → PlanRefused s c.half refusal h → Step s c (event.Plan channel) (refusal_outcome refusal) (record c { half = h })
-not_planned s c channel (refused.Stopped cause) h (inl e, is) = step_refused s c (event.Plan channel) (outcome.Stopped cause) (record c { half = h }) e (ap (λ (x : HalfState). let z : ChannelState = record c { half = x } in z) is)
-not_planned s c channel (refused.Stopped stop) h (inr (open', why, late), is) =
-    let after : (let z : ChannelState = record c { half = h } in z) ≡ stopped_by cause.Clock c = ap (λ (x : HalfState). let z : ChannelState = record c { half = x } in z) is ∙ ap (λ k. stopped_by k c) why in
-    step_does s c (event.Plan channel) (outcome.Stopped stop) (record c { half = h }) open' (inr (inr (inl (ap outcome.Stopped why, late, after))))
+not_planned s c channel (refused.Stopped cause) h (e, is) = step_refused s c (event.Plan channel) (outcome.Stopped cause) (record c { half = h }) e (ap (λ (x : HalfState). let z : ChannelState = record c { half = x } in z) is)
 not_planned s c channel refused.NothingToPlan h (e, is) = step_refused s c (event.Plan channel) outcome.NothingToPlan (record c { half = h }) e (ap (λ (x : HalfState). let z : ChannelState = record c { half = x } in z) is)
 not_planned s c channel (refused.Over opened) h (e, count, more, is) =
     step_does s c (event.Plan channel) (outcome.Over opened) (record c { half = h }) e (inr (inl (ap outcome.Over count, more, ap (λ (x : HalfState). let z : ChannelState = record c { half = x } in z) is)))
 not_planned s c channel refused.Memory h (e, is) =
-    step_does s c (event.Plan channel) (outcome.Memory None) (record c { half = h }) e (inr (inr (inr (refl, ap (λ (x : HalfState). let z : ChannelState = record c { half = x } in z) is))))
+    step_does s c (event.Plan channel) (outcome.Memory None) (record c { half = h }) e (inr (inr (refl, ap (λ (x : HalfState). let z : ChannelState = record c { half = x } in z) is)))
 
 pub planning_step : PlannedStep
-planning_step s c channel (Ok finish) h (open', taken, plan, e, plans, is) none =
+planning_step s c channel (Ok finish) h (open', plan, e, plans, is) none =
     let P : HalfState → Type 0 = λ x. Step s c (event.Plan channel) (outcome.Planned finish) (record c { half = x }) in
-    subst P (sym is) (planned_step s c channel finish taken plan open' e plans)
+    subst P (sym is) (planned_step s c channel finish plan open' e plans)
 planning_step s c channel (Err refusal) h none r = not_planned s c channel refusal h r
 
 -- the half stops, whatever its fields are
@@ -65,17 +63,17 @@ clock_stops inside old A e why = (
 
 -- what a planning came to
 pub after_planning : (s : Setup) (c : ChannelState) (channel : ℕ) (old : HalfView) (result : Result ℕ PlanRefusal) (h : HalfView)
-    → IfOk result (λ finish. (plan_refusal s c.half ≡ None) × (taken : Taken) × (plan : Planning) × (finish ≡ plan.finish) × Plans s c.half taken plan × (h ≡ record old { state = planned_by c.half taken plan }))
+    → IfOk result (λ finish. (plan_refusal s c.half ≡ None) × (plan : Planning) × (finish ≡ plan.finish) × Plans s c.half plan × (h ≡ record old { state = planned_by s c.half plan }))
     → IfErr result (λ refusal. PlanRefused s c.half refusal h.state) → Step s c (event.Plan channel) (planned_outcome result) (record c { half = h.state })
-after_planning s c channel old (Ok finish) h (open', taken, plan, e, plans, is) none =
-    planning_step s c channel (Ok finish) h.state (open', taken, plan, e, plans, ap (λ (v : HalfView). v.state) is) none
+after_planning s c channel old (Ok finish) h (open', plan, e, plans, is) none =
+    planning_step s c channel (Ok finish) h.state (open', plan, e, plans, ap (λ (v : HalfView). v.state) is) none
 after_planning s c channel old (Err refusal) h none r = not_planned s c channel refusal h.state r
 
 -- .. and it posts nothing
 pub nothing_posted : (s : Setup) (c : ChannelState) (old : HalfView) (result : Result ℕ PlanRefusal) (h : HalfView)
-    → IfOk result (λ finish. (plan_refusal s c.half ≡ None) × (taken : Taken) × (plan : Planning) × (finish ≡ plan.finish) × Plans s c.half taken plan × (h ≡ record old { state = planned_by c.half taken plan }))
+    → IfOk result (λ finish. (plan_refusal s c.half ≡ None) × (plan : Planning) × (finish ≡ plan.finish) × Plans s c.half plan × (h ≡ record old { state = planned_by s c.half plan }))
     → IfErr result (λ refusal. PlanRefused s c.half refusal h.state) → h.state.posted ≡ c.half.posted
-nothing_posted s c old (Ok finish) h (open', taken, plan, e, plans, is) none = ap (λ (v : HalfView). v.state.posted) is
+nothing_posted s c old (Ok finish) h (open', plan, e, plans, is) none = ap (λ (v : HalfView). v.state.posted) is
 nothing_posted s c old (Err refusal) h none r = ap (λ (x : HalfState). x.posted) (refused_is s c.half refusal h.state r)
 
 -- Bus
@@ -98,8 +96,9 @@ module _ (s : Setup) (c : ChannelState) (sound : IsSound s c.half) (agrees : Chi
   cause_is drive.Bus stop e status = let q : cause.Bus ≡ stop = cc in subst (IsCauseOf c.half) q tt
   cause_is drive.NotReady stop e status =
       let q : cause.NotReady due.lun ≡ stop = cc in
+      let d = due_of s c.half due sound is in
       let asks = asks_status s c.half c.chip sound agrees due is member.0 member.1 item member.2 (status refl) in
-      subst (IsCauseOf c.half) q (move_of due, due.start, left_behind c.half.left due, is.next sound.legal, is.lun, asks)
+      subst (IsCauseOf c.half) q (move_of due, due.start, left_by c.half.books c.half.left due, d.comes, d.lun, asks)
   cause_is drive.Memory stop e status = cc
 
   -- what a phase that wasn't run leaves of the chip
@@ -108,7 +107,7 @@ module _ (s : Setup) (c : ChannelState) (sound : IsSound s c.half) (agrees : Chi
   lost_by drive.Bus stop chip' e (inr none) =
       let told : stop ≡ cause.Bus = cc in
       let asks = asks_sectors s c.half c.chip sound agrees due is member.0 member.1 item member.2 none.post none.sectors in
-      let lacks : LacksSectors c post_fault.Bus chip' = record { bus = refl; same = none.same; asked = (move_of due, due.start, left_behind c.half.left due, is.next sound.legal, asks) } in
+      let lacks : LacksSectors c post_fault.Bus chip' = record { bus = refl; same = none.same; asked = (move_of due, due.start, left_by c.half.books c.half.left due, (due_of s c.half due sound is).comes, asks) } in
       (post_fault.Bus, told, record { faults = ap (λ (x : Chip). x.faults) none.same; why = inr lacks })
   lost_by drive.NotReady stop chip' e lost = let told : stop ≡ cause.NotReady due.lun = cc in (post_fault.NotReady, (due.lun, told), record { faults = lost.faults; why = inl lost.rose })
   lost_by drive.Memory stop chip' e same = cc
@@ -122,11 +121,11 @@ module _ (s : Setup) (c : ChannelState) (sound : IsSound s c.half) (agrees : Chi
       let c' : ChannelState = record c { half = h; chip = chip' } in
       let runs : Runs c c' due.start = record {
         move = move_of due;
-        left = left_behind c.half.left due;
-        next = is.next sound.legal;
+        left = left_by c.half.books c.half.left due;
+        next = (due_of s c.half due sound is).comes;
         group = due.group;
         phase = due.phase;
-        is = is.phase;
+        is = (due_of s c.half due sound is).phase;
         chip = chip';
         replies = replies_of c.half.accepted c.chip.faults due given;
         on_chip = on;
@@ -159,7 +158,7 @@ short_step s c channel chip' open' same =
 
 -- a planning stops a half, or leaves it as it was
 pub going_before : (old h : HalfView) (result : Result ℕ PlanRefusal) → PlannedAs old h result → RefusedAs old h result → h.state.stopped ≡ None → old.state.stopped ≡ None
-going_before old h (Ok finish) (open', taken, plan, e, plans, is) none going = sym (ap (λ (v : HalfView). v.state.stopped) is) ∙ going
+going_before old h (Ok finish) (open', plan, e, plans, is) none going = sym (ap (λ (v : HalfView). v.state.stopped) is) ∙ going
 going_before old h (Err (refused.Stopped cause)) none ((e, is), same) going = let q : Some cause ≡ None = sym (ap (λ (x : HalfState). x.stopped) is) ∙ going in cc
 going_before old h (Err refused.NothingToPlan) none ((e, is), same) going = sym (ap (λ (x : HalfState). x.stopped) is) ∙ going
 going_before old h (Err (refused.Over opened)) none ((e, count, more, is), same) going = sym (ap (λ (x : HalfState). x.stopped) is) ∙ going

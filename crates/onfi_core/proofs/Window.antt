@@ -1,9 +1,8 @@
 -- The slots of unanswered items.
-use Rattle.std.proofs.Common.{◌≡◌, ◌≢◌, ℕ, ◌+◌, ◌-◌, ◌^◌, ◌<◌, ◌≤◌, ◌⊎◌, inl, inr, true, false, List, [], ◌∷◌, ◌++◌, length, Option, Some, None, refl, sym, ap, ◌∙◌, subst, length-append, arith, zero, suc, Bool, take}
+use Rattle.std.proofs.Common.{◌≡◌, ◌≢◌, ℕ, ◌+◌, ◌-◌, ◌^◌, ◌<◌, ◌≤◌, ◌⊎◌, inl, inr, true, false, List, [], ◌∷◌, ◌++◌, length, Option, Some, None, refl, sym, ap, ◌∙◌, subst, length-append, arith, zero, suc, Bool}
 use Rattle.std.specs.Prelude.{slice_get, count_by, is_some, slice_index_or, cond, ◌==◌}
 use Rattle.std.specs.List.{AllByRecursion as All, filter}
 use Rattle.std.proofs.lemmas.Bool.{cases_lt}
-use Rattle.std.proofs.lemmas.List.{take-append-le, take_all}
 use Rattle.onfi_request.specs.declared.request.Item.{Item}
 use Rattle.onfi_request.specs.declared.reply.Reply.{Reply}
 use Rattle.onfi_group.specs.Words.{number}
@@ -12,19 +11,19 @@ use Rattle.onfi_problem.proofs.Places.{same_place, within_get}
 use Rattle.onfi_problem.specs.Problem.{has_id}
 use Rattle.onfi_die.proofs.Lists.{get_more}
 use Rattle.slab.specs.Slab.{Slab, get, slab_len, Updates}
-use Rattle.onfi_core.specs.declared.arrivals.Arrivals.{Arrivals}
 use Rattle.onfi_core.specs.declared.setup.Setup.{Setup}
 use Rattle.onfi_core.specs.declared.slot.Slot.{Slot}
 use Rattle.onfi_core.specs.declared.lent.Lent.{Lent}
-use Rattle.onfi_core.specs.State.{Planning, HalfState, is_from, wants_from, with_flight}
+use Rattle.onfi_core.specs.State.{Planning, HalfState, Way, is_from, want_of, wants_from, way_of, with_way}
 use Rattle.onfi_core.proofs.Plan.{sound_planned}
 use Rattle.onfi_problem.specs.Problem.{Problem}
 use Rattle.onfi_request.specs.declared.want.Want.{Want}
-use Rattle.onfi_flight.specs.Flight.{Flight}
-use Rattle.onfi_core.specs.Steps.{planned_by, problem_with, Plans, Taken, accept_refusal, if_stopped, unanswered}
+use Rattle.onfi_steady.specs.Waiting.{Books}
+use Rattle.onfi_core.specs.Steps.{planned_by, planned_with, next_problem, Plans, accept_refusal, books_with, if_stopped, taken_next, unanswered}
+use Rattle.onfi_core.specs.Ways.{way_with}
+use Rattle.onfi_core.proofs.Few.{waiting_few}
 use Rattle.onfi_core.specs.Kept.{IsSound, is_of_place, first_half}
 use Rattle.onfi_core.proofs.Opening.{opened_sound}
-use Rattle.onfi_core.specs.Passed.{AreArrivals, count_on}
 use Rattle.onfi_core.specs.View.{IsNext, AreSlots, AreNumbered, AreFields}
 use Rattle.onfi_core.proofs.Accept.{sound_accepted}
 use Rattle.onfi_core.proofs.Lists.{get_at_length}
@@ -74,13 +73,13 @@ numbered_more s h x n next =
       few = from_each (λ host ys. length ys ≤ 2 ^ 32) h.accepted x n.few (let c = next.serial in let low = next.fits in omega (arith, c, low, length-append (filter (is_from x.host) h.accepted) (x ∷ [])));
     }
 
-module _ (slots slots' : Slab Slot) (n nth key : ℕ) (accepted : List Item) (posted : List Reply) (x : Item) (were : AreSlots slots accepted posted) (count : n ≡ length accepted) (u : Updates slots slots' key (Some (record { place = n; nth = nth; item = x }))) (cap : slots'.capacity ≡ slots.capacity) (len : slab_len slots' ≡ slab_len slots + 1) (within : key < slots'.capacity) (vacant : get slots key ≡ None) (fresh : number (is_of_place n) posted ≡ 0) (nth_is : nth ≡ count_on x.request.place.lun accepted) where
+module _ (slots slots' : Slab Slot) (n key : ℕ) (accepted : List Item) (posted : List Reply) (x : Item) (were : AreSlots slots accepted posted) (count : n ≡ length accepted) (u : Updates slots slots' key (Some (record { place = n; item = x }))) (cap : slots'.capacity ≡ slots.capacity) (len : slab_len slots' ≡ slab_len slots + 1) (within : key < slots'.capacity) (vacant : get slots key ≡ None) (fresh : number (is_of_place n) posted ≡ 0) where
   items_more : (k : ℕ) (slot : Slot) → get slots' k ≡ Some slot → slice_get (accepted ++ x ∷ []) slot.place ≡ Some slot.item
   items_more k slot at =
       elim (same_place k key) [
         | inl e ↦ (
-            let q : Some (let z : Slot = record { place = n; nth = nth; item = x } in z) ≡ Some slot = sym u.changed ∙ ap (get slots') (sym e) ∙ at in
-            let same : (let z : Slot = record { place = n; nth = nth; item = x } in z) ≡ slot = cc in
+            let q : Some (let z : Slot = record { place = n; item = x } in z) ≡ Some slot = sym u.changed ∙ ap (get slots') (sym e) ∙ at in
+            let same : (let z : Slot = record { place = n; item = x } in z) ≡ slot = cc in
             let P : Slot → Type 0 = λ z. slice_get (accepted ++ x ∷ []) z.place ≡ Some z.item in
             subst P same (ap (slice_get (accepted ++ x ∷ [])) count ∙ get_at_length accepted x []))
         | inr d ↦ get_more accepted (x ∷ []) slot.place slot.item (were.items k slot (sym (u.others k d) ∙ at))
@@ -90,7 +89,7 @@ module _ (slots slots' : Slab Slot) (n nth key : ℕ) (accepted : List Item) (po
   kept_more place low none =
       let l = length-append accepted (x ∷ []) in
       elim (same_place place n) [
-        | inl e ↦ (key, record { place = n; nth = nth; item = x }, within, u.changed, sym e)
+        | inl e ↦ (key, record { place = n; item = x }, within, u.changed, sym e)
         | inr d ↦ (
             let old = were.kept place (omega arith) none in
             let apart : old.0 ≢ key = λ e. (let z = ap (get slots) (sym e) ∙ old.3 in let z' : None ≡ Some old.1 = sym vacant ∙ z in cc) in
@@ -102,8 +101,8 @@ module _ (slots slots' : Slab Slot) (n nth key : ℕ) (accepted : List Item) (po
   from_slot k slot at =
       elim (same_place k key) [
         | inl e ↦ (
-            let q : Some (let z : Slot = record { place = n; nth = nth; item = x } in z) ≡ Some slot = sym u.changed ∙ ap (get slots') (sym e) ∙ at in
-            let same : (let z : Slot = record { place = n; nth = nth; item = x } in z) ≡ slot = cc in
+            let q : Some (let z : Slot = record { place = n; item = x } in z) ≡ Some slot = sym u.changed ∙ ap (get slots') (sym e) ∙ at in
+            let same : (let z : Slot = record { place = n; item = x } in z) ≡ slot = cc in
             inl (e, ap (λ (z : Slot). z.place) (sym same)))
         | inr d ↦ (
             let old = sym (u.others k d) ∙ at in
@@ -123,22 +122,6 @@ module _ (slots slots' : Slab Slot) (n nth key : ℕ) (accepted : List Item) (po
     | inr old ↦ elim (from_slot j another b) [ inl other ↦ absurd (let low = old.1 in let p = other.1 in omega arith) | inr other ↦ were.apart k j slot another old.0 other.0 e ]
   ]
 
-  -- how many for its LUN came before it
-  nths_more : (k : ℕ) (slot : Slot) → get slots' k ≡ Some slot → slot.nth ≡ count_on slot.item.request.place.lun (take slot.place (accepted ++ x ∷ []))
-  nths_more k slot at =
-      elim (same_place k key) [
-        | inl e ↦ (
-            let q : Some (let z : Slot = record { place = n; nth = nth; item = x } in z) ≡ Some slot = sym u.changed ∙ ap (get slots') (sym e) ∙ at in
-            let same : (let z : Slot = record { place = n; nth = nth; item = x } in z) ≡ slot = cc in
-            let front : take n (accepted ++ x ∷ []) ≡ accepted = ap (λ i. take i (accepted ++ x ∷ [])) count ∙ take-append-le (length accepted) accepted (x ∷ []) (omega arith) ∙ take_all (length accepted) accepted (omega arith) in
-            let P : Slot → Type 0 = λ z. z.nth ≡ count_on z.item.request.place.lun (take z.place (accepted ++ x ∷ [])) in
-            subst P same (nth_is ∙ ap (count_on x.request.place.lun) (sym front)))
-        | inr d ↦ (
-            let old = sym (u.others k d) ∙ at in
-            let low = within_get accepted slot.place slot.item (were.items k slot old) in
-            were.nths k slot old ∙ ap (count_on slot.item.request.place.lun) (sym (take-append-le slot.place accepted (x ∷ []) (omega arith))))
-      ]
-
   pub slots_more : slab_len slots < 64 → AreSlots slots' (accepted ++ x ∷ []) posted
   slots_more room =
       let a = were.reserved in
@@ -151,7 +134,6 @@ module _ (slots slots' : Slab Slot) (n nth key : ℕ) (accepted : List Item) (po
         items = items_more;
         kept = kept_more;
         waits = waits_more;
-        nths = nths_more;
         apart = apart_more;
       }
 
@@ -164,22 +146,31 @@ fresh_place s h sound =
       | inr ge ↦ absurd (let k = was_accepted s.geometry 0 (length h.accepted) h.accepted ge in omega arith)
     ]
 
+-- as many are taken, said of the books before or after
+pub planned_same : (books : Option Books) (w : Want) (planned : ℕ) → planned_with (books_with books w) planned ≡ planned_with books planned
+planned_same None w planned = refl
+planned_same (Some books) w planned = refl
+
+-- by the next phase fewer than 64 wait where the window has room
+pub few_wait : (s : Setup) (h : HalfState) → IsSound s h → accept_refusal h ≡ None → length h.now.wants < 64
+few_wait s h sound open' = omega (arith, waiting_few s h sound, has_room h open')
+
 -- an item is taken in
-pub fields_accepted : (s : Setup) (slots slots' : Slab Slot) (came : ℕ × Arrivals) (nth key room : ℕ) (arrivals' : Arrivals) (kept : List Reply) (at : Option Lent) (h : HalfState) (lent lent' : Option Reply) (x : Item) (accepted' : List Item) (held' posted' : List Reply)
+pub fields_accepted : (s : Setup) (slots slots' : Slab Slot) (came : ℕ) (key room : ℕ) (kept : List Reply) (at : Option Lent) (h : HalfState) (lent lent' : Option Reply) (x : Item) (accepted' : List Item) (held' posted' : List Reply) (way' : Way) (planned' : ℕ)
     → AreFields s slots came room kept at h lent → accept_refusal h ≡ None → IsNext s h x
-    → Updates slots slots' key (Some (record { place = came.0; nth = nth; item = x })) → slots'.capacity ≡ slots.capacity → slab_len slots' ≡ slab_len slots + 1 → key < slots'.capacity → get slots key ≡ None
-    → nth ≡ count_on x.request.place.lun h.accepted → AreArrivals (h.accepted ++ x ∷ []) arrivals'
+    → Updates slots slots' key (Some (record { place = came; item = x })) → slots'.capacity ≡ slots.capacity → slab_len slots' ≡ slab_len slots + 1 → key < slots'.capacity → get slots key ≡ None
     → accepted' ≡ h.accepted ++ x ∷ [] → held' ≡ h.held → posted' ≡ h.posted → lent' ≡ lent
-    → AreFields s slots' (came.0 + 1, arrivals') room kept at (record h { accepted = accepted'; held = held'; posted = posted' }) lent'
-fields_accepted s slots slots' came nth key room arrivals' kept at h lent lent' x accepted' held' posted' f none next u cap len within vacant nth_is arrived e0 e1 e2 e3 =
+    → way' ≡ way_with (want_of s.geometry (length h.accepted) x) (way_of h) → planned' ≡ planned_with way'.books h.planned
+    → AreFields s slots' (came + 1) room kept at (record (with_way h way') { accepted = accepted'; held = held'; posted = posted'; planned = planned' }) lent'
+fields_accepted s slots slots' came key room kept at h lent lent' x accepted' held' posted' way' planned' f none next u cap len within vacant e0 e1 e2 e3 ew ep =
     let low = has_room h none in
     let t = f.slots_are.total in
     let c = f.count in
     let l = length-append h.accepted (x ∷ []) in
-    rw (e0, e1, e2, e3) (record {
-      slots_are = slots_more slots slots' came.0 nth key h.accepted h.posted x f.slots_are c u cap len within vacant (ap (λ i. number (is_of_place i) h.posted) c ∙ fresh_place s h f.sound) nth_is (omega arith);
+    let counted = ep ∙ ap (λ (w : Way). planned_with w.books h.planned) ew ∙ planned_same h.books (want_of s.geometry (length h.accepted) x) h.planned in
+    rw (e0, e1, e2, e3, counted, ew) (record {
+      slots_are = slots_more slots slots' came key h.accepted h.posted x f.slots_are c u cap len within vacant (ap (λ i. number (is_of_place i) h.posted) c ∙ fresh_place s h f.sound) (omega arith);
       count = omega arith;
-      arrivals = arrived;
       numbered = numbered_more s h x f.numbered next;
       room_is = f.room_is;
       lending = f.lending;
@@ -187,8 +178,8 @@ fields_accepted s slots slots' came nth key room arrivals' kept at h lent lent' 
     })
 
 -- the fields at the opening
-pub fields_opened : (s : Setup) (slots : Slab Slot) (arrivals : Arrivals) (room : ℕ) (kept : List Reply) (lent : Option Reply) (h : HalfState) → slots.slots ≡ [] → 64 ≤ slots.capacity → 64 ≤ room → kept ≡ [] → lent ≡ None → h ≡ first_half s → AreArrivals [] arrivals → AreFields s slots (0, arrivals) room kept None h lent
-fields_opened s slots arrivals room kept lent h empty reserved has none unlent is arrived =
+pub fields_opened : (s : Setup) (slots : Slab Slot) (room : ℕ) (kept : List Reply) (lent : Option Reply) (h : HalfState) → slots.slots ≡ [] → 64 ≤ slots.capacity → 64 ≤ room → kept ≡ [] → lent ≡ None → h ≡ first_half s → AreFields s slots 0 room kept None h lent
+fields_opened s slots room kept lent h empty reserved has none unlent is =
     rw (is, none, unlent) (record {
       slots_are = record {
         reserved = reserved;
@@ -197,11 +188,9 @@ fields_opened s slots arrivals room kept lent h empty reserved has none unlent i
         items = λ key slot at. (let e = ap (λ xs. slice_index_or xs key None) empty in let z : None ≡ Some slot = sym e ∙ at in cc);
         kept = λ place low q. absurd (omega (arith, low));
         waits = λ key slot at. (let e = ap (λ xs. slice_index_or xs key None) empty in let z : None ≡ Some slot = sym e ∙ at in cc);
-        nths = λ key slot at. (let e = ap (λ xs. slice_index_or xs key None) empty in let z : None ≡ Some slot = sym e ∙ at in cc);
         apart = λ key other slot another at. (let e = ap (λ xs. slice_index_or xs key None) empty in let z : None ≡ Some slot = sym e ∙ at in cc);
       };
       count = refl;
-      arrivals = arrived;
       numbered = record { hosts = tt; few = λ host. omega arith };
       room_is = has;
       lending = (refl, refl);
@@ -209,10 +198,12 @@ fields_opened s slots arrivals room kept lent h empty reserved has none unlent i
     })
 
 -- a plan takes the old one's place
-pub fields_planned : (s : Setup) (slots : Slab Slot) (came : ℕ × Arrivals) (room : ℕ) (kept : List Reply) (at : Option Lent) (h : HalfState) (lent : Option Reply) (plan : Planning) (taken : Taken) (flight' : Flight) (aside : List Want) (planned : ℕ)
-    → AreFields s slots came room kept at h lent → Plans s h taken plan → flight' ≡ record { now = problem_with h taken.wants; left = plan.schedule } → aside ≡ taken.aside → planned ≡ taken.planned
-    → AreFields s slots came room kept at (record (with_flight h flight') { planned = planned; aside = aside; outdated = false; last = Some plan }) lent
-fields_planned s slots came room kept at h lent plan taken flight' aside planned f plans ef ea ep =
-    let built : (let z : HalfState = record h { planned = taken.planned; aside = taken.aside; now = problem_with h taken.wants; left = plan.schedule; outdated = false; last = Some plan } in z) ≡ planned_by h taken plan = ap (λ (p : Problem). let z : HalfState = record h { planned = taken.planned; aside = taken.aside; now = p; left = plan.schedule; outdated = false; last = Some plan } in z) (sym plans.problem) in
-    let base = fields_but s slots came room room kept kept at at h (planned_by h taken plan) lent lent f refl refl refl f.lending (sound_planned s h f.sound taken plan plans) in
-    rw (ef, ea, ep) (subst (λ z. AreFields s slots came room kept at z lent) (sym built) base)
+pub fields_planned : (s : Setup) (slots : Slab Slot) (came : ℕ) (room : ℕ) (kept : List Reply) (at : Option Lent) (h : HalfState) (lent : Option Reply) (plan : Planning) (way' : Way) (planned : ℕ)
+    → AreFields s slots came room kept at h lent → h.books ≡ None → Plans s h plan → way' ≡ record { now = next_problem s h; left = plan.schedule; books = None } → planned ≡ h.planned + length (taken_next s h)
+    → AreFields s slots came room kept at (record (with_way h way') { planned = planned; outdated = false; last = Some plan }) lent
+fields_planned s slots came room kept at h lent plan way' planned f none plans ef ep =
+    let built : (let z : HalfState = record h { planned = h.planned + length (taken_next s h); now = next_problem s h; left = plan.schedule; outdated = false; last = Some plan } in z) ≡ planned_by s h plan =
+    ap (λ (p : Problem). let z : HalfState = record h { planned = h.planned + length (taken_next s h); now = p; left = plan.schedule; outdated = false; last = Some plan } in z) (sym plans.problem) in
+    let base = fields_but s slots came room room kept kept at at h (planned_by s h plan) lent lent f refl refl refl f.lending (sound_planned s h f.sound none plan plans) in
+    let is = ef ∙ ap (λ b. let w : Way = record { now = next_problem s h; left = plan.schedule; books = b } in w) (sym none) in
+    rw (is, ep) (subst (λ z. AreFields s slots came room kept at z lent) (sym built) base)

@@ -12,7 +12,9 @@ use Rattle.onfi_group.specs.Words.{number}
 use Rattle.onfi_problem.specs.declared.lun_state.LunState.{LunState}
 use Rattle.onfi_problem.specs.declared.lun_state.LunState.TheVariants.{Free, Running}
 use Rattle.onfi_problem.specs.Problem.{Problem, IsProblem, has_id}
-use Rattle.onfi_schedule.specs.Schedule.{Legal}
+use Rattle.onfi_problem.specs.Moves.{free_from}
+use Rattle.onfi_schedule.specs.Schedule.{Legal, Schedule}
+use Rattle.onfi_steady.specs.Waiting.{Books, wants_of}
 use Rattle.onfi_die.specs.Shapes.{Device}
 use Rattle.onfi_die.specs.Contents.{fresh, runs}
 use Rattle.onfi_die.specs.Answers.{answer_at}
@@ -21,12 +23,20 @@ use Rattle.onfi_die.specs.Order.{IsBeginning}
 use Rattle.onfi_chip.specs.declared.post.Post.{Post}
 use Rattle.onfi_chip.specs.Chip.{Chip, Failures, Lun, opened}
 use Rattle.onfi_chip.specs.Chip.Lun.{Idle, Commanding, Posting}
+use Rattle.onfi_core.specs.declared.outcome.Cause.{Cause}
+use Rattle.onfi_core.specs.declared.setup.Choice.{Choice}
+use Rattle.onfi_core.specs.declared.setup.Choice.TheVariants.{InOrder, NextPhase}
 use Rattle.onfi_core.specs.declared.setup.Setup.{Setup}
-use Rattle.onfi_core.specs.State.{HalfState, ChannelState, want_of, wants_from, item_at, request_of, device_for, is_to, sent_by, posted_to, collected_by}
-use Rattle.onfi_core.specs.declared.setup.Choice.TheVariants.{InOrder}
-pub use Rattle.onfi_core.specs.Choice.{is_want_on, on, Rise}
+use Rattle.onfi_core.specs.State.{HalfState, ChannelState, Way, want_of, wants_from, item_at, request_of, device_for, is_to, sent_by, posted_to, collected_by}
 use Rattle.onfi_plan.specs.Certificate.{Certificate}
 use Rattle.onfi_core.specs.Steps.{unplanned, IsPlanned, IsPromised}
+
+abbrev pub is_want_on : ℕ → ℕ → Want → Bool
+is_want_on lun block w = if w.lun == lun then w.block == block else false
+
+-- the wants of a block
+abbrev pub on : ℕ → ℕ → List Want → List Want
+on lun block wants = filter (is_want_on lun block) wants
 
 -- the group of a LUN that has commands left
 abbrev pub commanding : Option LunState → List Want
@@ -67,7 +77,7 @@ pub record ChipAgrees (s : Setup) (h : HalfState) (chip : Chip) : Type 0 where
   pub blocks : (lun block : ℕ) → BlockAgrees s h chip lun block
   pub luns : (lun : ℕ) → LunAgrees (device_for s chip) h.accepted (slice_get h.now.luns lun) (slice_get chip.luns lun)
 
--- a want that a planning has looked at: the item at its place
+-- a want that a plan took: the item at its place
 pub record IsTaken (s : Setup) (planned : ℕ) (accepted : List Item) (w : Want) : Type 0 where
   pub below : w.id < planned
   pub item : Item
@@ -97,6 +107,37 @@ pub record AreMade (device : Device) (accepted : List Item) (replies : List Repl
   pub within : Each (λ r. IsBeginning r.basis.accepted accepted) replies
   pub rise : Pairs (λ a b. IsBeginning a.basis.accepted b.basis.accepted) replies
 
+-- in order what is left of the plan is legal, and has at most eight wants
+pub record GoesInOrder (s : Setup) (now : Problem) (left : Schedule) : Type 0 where
+  pub choice : s.choice ≡ InOrder
+  pub few : length now.wants ≤ 8
+  pub legal : Legal now left
+
+-- how far a half is
+pub record Progress : Type 0 where
+  pub planned : ℕ
+  pub accepted : ℕ
+  pub outdated : Bool
+  pub stopped : Option Cause
+
+-- bus and LUNs are free before 2^62 ns
+pub record IsInTime (p : Problem) : Type 0 where
+  pub bus : p.bus_free < 2 ^ 62
+  pub luns : (lun : ℕ) → free_from (slice_get p.luns lun) < 2 ^ 62
+
+-- by the next phase all that is accepted was taken at once, and what isn't started is what waits by the books; until the channel stops bus and LUNs are free in time
+pub record GoesByBooks (s : Setup) (books : Books) (now : Problem) (progress : Progress) : Type 0 where
+  pub choice : s.choice ≡ NextPhase
+  pub waiting : now.wants ≡ wants_of books.waiting
+  pub rules : books.rules ≡ s.rules
+  pub all : progress.planned ≡ progress.accepted
+  pub current : progress.outdated ≡ false
+  pub in_time : progress.stopped ≡ None → IsInTime now
+
+abbrev pub GoesBy : Setup → Option Books → Problem → Schedule → Progress → Type 0
+GoesBy s None now left progress = GoesInOrder s now left
+GoesBy s (Some books) now left progress = GoesByBooks s books now progress
+
 -- what the sequencer's half keeps, whatever the chip answered
 pub record IsSound (s : Setup) (h : HalfState) : Type 0 where
   pub planned : h.planned ≤ length h.accepted
@@ -105,18 +146,13 @@ pub record IsSound (s : Setup) (h : HalfState) : Type 0 where
   pub timing : h.now.timing ≡ s.timing
   pub rules : h.now.rules ≡ s.rules
   pub problem : IsProblem h.now
-  pub few : length h.now.wants ≤ 8
   pub luns : length h.now.luns ≡ s.geometry.lun_count
-  pub legal : Legal h.now h.left
+  pub way : GoesBy s h.books h.now h.left (record { planned = h.planned; accepted = length h.accepted; outdated = h.outdated; stopped = h.stopped })
   pub in_range : Each (λ x. Fits s.geometry x.request) h.accepted
   pub wants : Each (IsTaken s h.planned h.accepted) h.now.wants
   pub running : (lun : ℕ) (group : List Want) (next ready : ℕ) → slice_get h.now.luns lun ≡ Some (Running group next ready) → Each (IsTaken s h.planned h.accepted) group
   -- each accepted place is exactly one of unplanned, not started, running, held and posted, and no other place is any
   pub once : (place : ℕ) → times s h place ≡ number (has_id place) (wants_from s.geometry 0 h.accepted)
-  -- what is set aside was looked at, in acceptance order; in order nothing is
-  pub aside : Each (IsTaken s h.planned h.accepted) h.aside
-  pub aside_rise : Rise h.aside
-  pub in_order : s.choice ≡ InOrder → h.aside ≡ []
   pub last : IfSome h.last IsPlanned
 
 -- .. and its replies are those of the device
@@ -147,14 +183,26 @@ pub record IsReached (s : Setup) (c : ChannelState) : Type 0 where
 abbrev pub first_problem : Setup → Problem
 first_problem s = record { timing = s.timing; rules = s.rules; bus_free = 0; luns = replicate s.geometry.lun_count (Free 0); wants = [] }
 
+-- by the next phase nothing waits yet, and nothing is planned
+abbrev pub first_left : Choice → Setup → Schedule
+first_left InOrder s = record { rest = replicate s.geometry.lun_count []; groups = [] }
+first_left NextPhase s = record { rest = []; groups = [] }
+
+abbrev pub first_books : Choice → Setup → Option Books
+first_books InOrder s = None
+first_books NextPhase s = Some (record { rules = s.rules; waiting = []; newest = None })
+
+abbrev pub first_way : Setup → Way
+first_way s = record { now = first_problem s; left = first_left s.choice s; books = first_books s.choice s }
+
 abbrev pub first_half : Setup → HalfState
 first_half s = record {
   accepted = [];
   planned = 0;
-  aside = [];
   batch = s.batch;
   now = first_problem s;
-  left = record { rest = replicate s.geometry.lun_count []; groups = [] };
+  left = first_left s.choice s;
+  books = first_books s.choice s;
   outdated = false;
   last = None;
   held = [];

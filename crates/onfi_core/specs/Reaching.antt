@@ -8,14 +8,13 @@ use Rattle.onfi_core.specs.declared.event.Event.{Event}
 use Rattle.onfi_core.specs.declared.event.Event.TheVariants.{Plan}
 use Rattle.onfi_core.specs.declared.half.PlanRefusal.{PlanRefusal}
 use Rattle.onfi_core.specs.declared.outcome.Outcome.{Outcome}
-use Rattle.onfi_core.specs.declared.setup.Choice.TheVariants.{WholeGroups}
 use Rattle.onfi_core.specs.declared.setup.Setup.{Setup}
 use Rattle.onfi_core.specs.State.{HalfState, ChannelState, Planning, quiet, posted_to}
-use Rattle.onfi_core.specs.Steps.{Step, GoesOut, Plans, PlansSuch, Taken, accept_refusal, held_for, none_left, nothing_to_plan, plan_refusal, planned_by, taken_next, unplanned}
+use Rattle.onfi_core.specs.Steps.{Step, GoesOut, Plans, PlansSuch, accept_refusal, accepting, held_for, none_left, plan_refusal, planned_by, taken_next, unplanned}
 use Rattle.onfi_core.specs.Kept.{IsReached, IsSound}
 use Rattle.onfi_core.specs.Core.{Doing, DidAll, IsOpened, IsReachedWith, with_batch}
 use Rattle.onfi_core.specs.Refusals.{planned_outcome}
-use Rattle.onfi_core.specs.View.{IsNext, PlanRefused, accepting}
+use Rattle.onfi_core.specs.View.{IsNext, PlanRefused}
 
 -- the channel was opened, and then this was done to a core that has it alone, and each plan of it is such
 pub record Reaches (Such : Planning → Type 0) (s : Setup) (c : ChannelState) : Type 0 where
@@ -42,7 +41,7 @@ BatchReached Such = (s : Setup) (c : ChannelState) (batch : ℕ) → 1 ≤ batch
 
 -- an item that is next is submitted and accepted
 abbrev pub AcceptingReached : (Planning → Type 0) → Type 0
-AcceptingReached Such = (s : Setup) (h : HalfState) (chip : Chip) (x : Item) → accept_refusal h ≡ None → IsNext s h x → StaysReached Such s (quiet h chip) (quiet (accepting h x) chip)
+AcceptingReached Such = (s : Setup) (h : HalfState) (chip : Chip) (x : Item) → accept_refusal h ≡ None → IsNext s h x → StaysReached Such s (quiet h chip) (quiet (accepting s h x) chip)
 
 -- the oldest reply that is held for a host is posted and collected
 abbrev pub PostingReached : (Planning → Type 0) → Type 0
@@ -51,16 +50,12 @@ PostingReached Such = (s : Setup) (h h' : HalfState) (chip : Chip) (host : ℕ) 
 -- what a half's planning came to is what its channel's does
 abbrev pub PlannedStep : Type 0
 PlannedStep = (s : Setup) (c : ChannelState) (channel : ℕ) (result : Result ℕ PlanRefusal) (h : HalfState)
-    → IfOk result (λ finish. (plan_refusal s c.half ≡ None) × (taken : Taken) × (plan : Planning) × (finish ≡ plan.finish) × Plans s c.half taken plan × (h ≡ planned_by c.half taken plan))
+    → IfOk result (λ finish. (plan_refusal s c.half ≡ None) × (plan : Planning) × (finish ≡ plan.finish) × Plans s c.half plan × (h ≡ planned_by s c.half plan))
     → IfErr result (λ refusal. PlanRefused s c.half refusal h) → Step s c (Plan channel) (planned_outcome result) (record c { half = h })
 
 -- where no phase is left and nothing is to be planned, no want waits to start and no item is unplanned
 abbrev pub IdleIs : Type 0
 IdleIs = (s : Setup) (h : HalfState) → IsSound s h → none_left h ≡ true → taken_next s h ≡ [] → (h.now.wants ≡ []) × (unplanned s h ≡ [])
-
--- after a planning by whole groups nothing is to be planned until an item is accepted, a want begins, no phase is left or time passes
-abbrev pub PlanSettles : Type 0
-PlanSettles = (s : Setup) (h : HalfState) (taken : Taken) (plan : Planning) → IsSound s h → s.choice ≡ WholeGroups → Plans s h taken plan → nothing_to_plan s (planned_by h taken plan) ≡ true
 
 -- where nothing is held for any host of the setup, nothing is held
 abbrev pub NothingHeld : Type 0

@@ -12,6 +12,7 @@ use Rattle.onfi_problem.specs.Problem.{Problem}
 use Rattle.onfi_schedule.specs.Schedule.{Schedule}
 use Rattle.onfi_flight.specs.Flight.{Flight}
 use Rattle.onfi_plan.specs.Certificate.{Certificate}
+use Rattle.onfi_steady.specs.Waiting.{Books}
 use Rattle.onfi_die.specs.Shapes.{Device, device_of}
 use Rattle.onfi_chip.specs.Chip.{Chip}
 use Rattle.onfi_core.specs.declared.setup.Setup.{Setup}
@@ -29,13 +30,14 @@ pub record Planning : Type 0 where
 -- what the sequencer knows of a channel
 pub record HalfState : Type 0 where
   pub accepted : List Item
-  -- how many of them plannings have looked at, and which of those they set aside
+  -- how many of them plans have taken
   pub planned : ℕ
-  pub aside : List Want
   pub batch : ℕ
   -- what is left of the plan: `bus_free`, the LUN states and the wants not started, and the starts of the phases not done
   pub now : Problem
   pub left : Schedule
+  -- by the next phase, where nothing is planned: who waits, how often each was passed over, and the newest program; in order none
+  pub books : Option Books
   -- whether the bus has waited, or a LUN was ready sooner, since that plan was made
   pub outdated : Bool
   -- the last planning
@@ -45,12 +47,21 @@ pub record HalfState : Type 0 where
   pub posted : List Reply
   pub stopped : Option Cause
 
--- what is left of its plan, and the half with another
+-- what is left of its plan
 abbrev pub flight_of : HalfState → Flight
 flight_of h = record { now = h.now; left = h.left }
 
-abbrev pub with_flight : HalfState → Flight → HalfState
-with_flight h f = record h { now = f.now; left = f.left }
+-- how a half goes on: the problem as it stands, and what is left of its plan, or its books
+pub record Way : Type 0 where
+  pub now : Problem
+  pub left : Schedule
+  pub books : Option Books
+
+abbrev pub way_of : HalfState → Way
+way_of h = record { now = h.now; left = h.left; books = h.books }
+
+abbrev pub with_way : HalfState → Way → HalfState
+with_way h w = record h { now = w.now; left = w.left; books = w.books }
 
 pub record ChannelState : Type 0 where
   pub half : HalfState

@@ -1,6 +1,6 @@
 -- What an event does to a channel.
 use Rattle.std.specs.Prelude.{◌≡◌, ◌≢◌, ℕ, ◌+◌, ◌-◌, ◌^◌, ◌<◌, ◌≤◌, ◌⊎◌, ◌==◌, max, not, nat_le, nat_lt, if◌then◌else◌, Bool, true, false, IsTrue, List, [], ◌∷◌, ◌++◌, length, take, drop, Option, Some, None, IfSome, slice_get}
-use Rattle.std.specs.List.{filter, list_any}
+use Rattle.std.specs.List.{filter}
 use Rattle.onfi_timing.specs.declared.operation.Operation.TheVariants.{Read}
 use Rattle.onfi_timing.specs.Kinds.{operation_of, sectors_of}
 use Rattle.onfi_request.specs.declared.want.Want.{Want}
@@ -14,19 +14,22 @@ use Rattle.onfi_group.specs.Group.{lun_of}
 use Rattle.onfi_problem.specs.declared.lun_state.LunState.{LunState}
 use Rattle.onfi_problem.specs.declared.lun_state.LunState.TheVariants.{Free, Running}
 use Rattle.onfi_problem.specs.Problem.{Problem}
-use Rattle.onfi_problem.specs.Moves.{Move, free_from, placed, move_lun}
+use Rattle.onfi_problem.specs.Moves.{Move, Next, Start, free_from, placed, move_lun}
 use Rattle.onfi_problem.specs.Left.{horizon}
 use Rattle.onfi_schedule.specs.Schedule.{Schedule, Legal, phases, finish, Optimal}
 use Rattle.onfi_schedule.specs.Laws.{ComesNext}
 use Rattle.onfi_flight.specs.Flight as flight
-use Rattle.onfi_flight.specs.Flight.{IsPhase}
+use Rattle.onfi_flight.specs.Flight.{Flight, IsPhase}
 use Rattle.onfi_cert.specs.declared.token.Token.{Token}
 use Rattle.onfi_check.specs.Tree.{AcceptsTokens}
 use Rattle.onfi_check.specs.Nodes.{HasMoreNodes}
 use Rattle.onfi_known_check.specs.Laws.{NoneBefore}
 use Rattle.onfi_plan.specs.Certificate.{Certificate, Plain, IsPlain, ShowsBelow}
-use Rattle.onfi_steady.specs.Next.{any_work}
-use Rattle.onfi_steady.specs.Waiting.{Books, channel}
+use Rattle.onfi_steady.specs.declared.next.NextPhase.{NextPhase}
+use Rattle.onfi_steady.specs.Dispatcher.{begun_books}
+use Rattle.onfi_steady.specs.Next.{IsNextPhase, move_of_phase}
+use Rattle.onfi_steady.specs.Waiting as steady
+use Rattle.onfi_steady.specs.Waiting.{Books}
 use Rattle.onfi_chip.specs.declared.fault.PostFault.{PostFault}
 use Rattle.onfi_chip.specs.declared.fault.PostFault.TheVariants as post_fault
 use Rattle.onfi_chip.specs.declared.post.Post.{Post}
@@ -34,106 +37,46 @@ use Rattle.onfi_chip.specs.Chip.{Chip, commanded, found_ready, launched, posted}
 use Rattle.onfi_chip.specs.Chip.Lun.{Posting}
 use Rattle.onfi_chip.specs.Calls.{HasDone, HasRisen}
 use Rattle.onfi_core.specs.declared.setup.Setup.{Setup}
-use Rattle.onfi_core.specs.declared.setup.Choice.{Choice}
-use Rattle.onfi_core.specs.declared.setup.Choice.TheVariants.{InOrder, ByLun, ReadsFirst, WholeGroups}
-use Rattle.onfi_core.specs.Choice.{AreMerged, Rise, IsChoice}
-use Rattle.onfi_core.specs.Passed.{newest_program, waiters_of}
-use Rattle.onfi_core.specs.Whole.{IsWholeChoice, is_running}
 use Rattle.onfi_core.specs.declared.event.Event.{Event}
 use Rattle.onfi_core.specs.declared.event.Event.TheVariants.{Submit, Accept, Plan, Bus, Wait, Ready, Post as PostTo, Collect}
 use Rattle.onfi_core.specs.declared.outcome.Cause.{Cause}
 use Rattle.onfi_core.specs.declared.outcome.Cause.TheVariants.{Bus as BusFailed, NotReady, Clock}
 use Rattle.onfi_core.specs.declared.outcome.Outcome.{Outcome}
 use Rattle.onfi_core.specs.declared.outcome.Outcome.TheVariants.{Submitted, Accepted, Planned, Phase, Waited, ReadyFrom, Posted, Collected, SubmitFull, NothingToAccept, NoPlan, PostFull, NothingToCollect, Stopped, Over, Memory, Refused, SerialsSpent, WindowFull, NothingToPlan, NothingToPost, TooLate, NotInArray, StillBusy, NoSuch}
-use Rattle.onfi_core.specs.State.{Planning, HalfState, ChannelState, flight_of, with_flight, sent_by, posted_to, collected_by, is_to, wants_from, item_at, request_of}
+use Rattle.onfi_core.specs.State.{Planning, HalfState, ChannelState, flight_of, sent_by, posted_to, collected_by, is_to, want_of, wants_from, item_at, request_of}
 pub use Rattle.onfi_request.specs.Range.{fault_of}
 
 -- What a planning takes
 
--- the items that no plan has taken, as wants: those set aside, then those that no planning has looked at
+-- the items that no plan has taken, as wants
 abbrev pub unplanned : Setup → HalfState → List Want
-unplanned s h = h.aside ++ wants_from s.geometry h.planned (drop h.planned h.accepted)
+unplanned s h = wants_from s.geometry h.planned (drop h.planned h.accepted)
 
 abbrev pub is_empty : {A : Type 0} → List A → Bool
 is_empty [] = true
 is_empty (x ∷ xs) = false
 
--- no phase of the plan is left
+-- nothing runs on any of these
+abbrev pub none_runs : List LunState → Bool
+none_runs [] = true
+none_runs (Free since ∷ luns) = none_runs luns
+none_runs (Running group next ready ∷ luns) = false
+
+abbrev pub none_left_by : Option Books → Problem → Schedule → Bool
+none_left_by None now left = is_empty (phases now left)
+none_left_by (Some books) now left = if is_empty now.wants then none_runs now.luns else false
+
+-- no phase is left: of the plan; by the next phase nothing waits and nothing runs
 abbrev pub none_left : HalfState → Bool
-none_left h = is_empty (phases h.now h.left)
+none_left h = none_left_by h.books h.now h.left
 
--- fewer wants are left than the last planning took: one began; so it is before the first planning
-abbrev pub has_begun : Option Planning → List Want → Bool
-has_begun None wants = true
-has_begun (Some plan) wants = nat_lt (length wants) (length plan.problem.wants)
-
--- the last choice stands: no item was accepted since, no want of it began, and a phase is left that will run
-abbrev pub is_settled : HalfState → Bool
-is_settled h = if nat_lt h.planned (length h.accepted) then false else (if has_begun h.last h.now.wants then false else not (none_left h))
-
--- how many wants find a place beside those not started; by whole groups none while the last choice stands, with what it left open
-abbrev pub places_left : Choice → HalfState → ℕ
-places_left WholeGroups h = if is_settled h then 0 else h.batch - length h.now.wants
-places_left other h = h.batch - length h.now.wants
-
--- the first of the unplanned that find a place
+-- the first of the unplanned that find a place beside the wants not started, up to the batch in all
 abbrev pub taken_next : Setup → HalfState → List Want
-taken_next s h = take (places_left s.choice h) (unplanned s h)
+taken_next s h = take (h.batch - length h.now.wants) (unplanned s h)
 
--- these wants; the bus and the LUNs as they stand
-abbrev pub problem_with : HalfState → List Want → Problem
-problem_with h wants = record h.now { wants = wants }
-
--- the wants not started, then those
+-- the wants not started, then those; the bus and the LUNs as they stand
 abbrev pub next_problem : Setup → HalfState → Problem
-next_problem s h = problem_with h (h.now.wants ++ taken_next s h)
-
--- what a planning takes: the wants of its problem; and what it leaves: how many accepted items have been looked at, and which of them are set aside
-pub record Taken : Type 0 where
-  pub wants : List Want
-  pub planned : ℕ
-  pub aside : List Want
-
--- in order: the wants not started, then the first unplanned items
-abbrev pub taken_in_order : Setup → HalfState → Taken
-taken_in_order s h = record { wants = h.now.wants ++ taken_next s h; planned = h.planned + length (taken_next s h); aside = h.aside }
-
--- all accepted items that aren't started, in acceptance order
-pub record AreItems (s : Setup) (h : HalfState) (items : List Want) : Type 0 where
-  pub all : AreMerged h.now.wants (unplanned s h) items
-  pub rise : Rise items
-
--- else: a choice of all accepted items that aren't started; the others are set aside
-pub record Chooses (s : Setup) (h : HalfState) (taken : Taken) : Type 0 where
-  pub items : List Want
-  pub are : AreItems s h items
-  pub choice : IsChoice h.batch (length h.accepted) items taken.wants taken.aside
-  pub all : taken.planned ≡ length h.accepted
-
--- what is known of a choice by whole groups of these wants: how often each was passed over, and the newest program
-abbrev pub books_of : Setup → HalfState → List Want → Books
-books_of s h items = record { rules = s.rules; waiting = waiters_of h.accepted items; newest = newest_program h.accepted }
-
--- by whole groups: such a choice of all accepted items that aren't started, with the bus and the LUNs as they stand
-pub record ChoosesWhole (s : Setup) (h : HalfState) (taken : Taken) : Type 0 where
-  pub items : List Want
-  pub are : AreItems s h items
-  pub choice : IsWholeChoice s.rules (newest_program h.accepted) (any_work (books_of s h items) (channel s.timing h.now.bus_free h.now.luns (books_of s h items))) (list_any is_running h.now.luns) h.batch (waiters_of h.accepted items) taken.wants taken.aside
-  pub all : taken.planned ≡ length h.accepted
-
-abbrev pub TakesBy : Choice → Setup → HalfState → Taken → Type 0
-TakesBy InOrder s h taken = taken ≡ taken_in_order s h
-TakesBy ByLun s h taken = Chooses s h taken
-TakesBy ReadsFirst s h taken = Chooses s h taken
-TakesBy WholeGroups s h taken = ChoosesWhole s h taken
-
-abbrev pub Takes : Setup → HalfState → Taken → Type 0
-Takes s h taken = TakesBy s.choice s h taken
-
--- what a planning takes that ends below 2^62 whatever its plan
-pub record Tries (s : Setup) (h : HalfState) (taken : Taken) : Type 0 where
-  pub takes : Takes s h taken
-  pub in_time : horizon (problem_with h taken.wants) < 2 ^ 62
+next_problem s h = record h.now { wants = h.now.wants ++ taken_next s h }
 
 -- a legal schedule of the problem and its finish, a number no later before which no legal schedule ends, and a certificate accepted for that
 pub record IsPlanned (plan : Planning) : Type 0 where
@@ -185,21 +128,12 @@ abbrev pub PlainIsPlain : Type 0
 PlainIsPlain = (plan : Planning) → IsPlanned plan → IsPromised true IsPlain plan → IsPlainlyPlanned plan
 
 -- the plan takes the old one's place
-abbrev pub planned_by : HalfState → Taken → Planning → HalfState
-planned_by h taken plan = record h { planned = taken.planned; aside = taken.aside; now = plan.problem; left = plan.schedule; outdated = false; last = Some plan }
+abbrev pub planned_by : Setup → HalfState → Planning → HalfState
+planned_by s h plan = record h { planned = h.planned + length (taken_next s h); now = plan.problem; left = plan.schedule; outdated = false; last = Some plan }
 
-pub record Plans (s : Setup) (h : HalfState) (taken : Taken) (plan : Planning) : Type 0 where
-  pub tries : Tries s h taken
-  pub problem : plan.problem ≡ problem_with h taken.wants
+pub record Plans (s : Setup) (h : HalfState) (plan : Planning) : Type 0 where
+  pub problem : plan.problem ≡ next_problem s h
   pub planned : IsPlanned plan
-
--- a search of what a planning takes has more nodes than it may open
-abbrev pub RunsOver : Setup → HalfState → Type 0
-RunsOver s h = (taken : Taken) × Tries s h taken × HasMoreNodes (problem_with h taken.wants) s.limit
-
--- a plan of what a planning chooses might end at 2^62 or later; in order the state decides that
-abbrev pub RunsLate : Setup → HalfState → Type 0
-RunsLate s h = (taken : Taken) × Takes s h taken × (2 ^ 62 ≤ horizon (problem_with h taken.wants))
 
 -- What a phase does
 
@@ -244,15 +178,54 @@ RunsOnChip accepted group phase start chip chip' replies =
     ((Commands accepted group phase start chip chip' ⊎ Launches accepted group phase start chip chip') × (replies ≡ []))
     ⊎ ((member : Want) × (answer : Answer) × Posts group phase start chip chip' member answer × (replies ≡ reply_to accepted chip.faults member answer ∷ []))
 
+-- the move and the start of the phase that is next by the books
+pub record GoesNext (books : Books) (p : Problem) (move : Move) (start : ℕ) : Type 0 where
+  pub phase : NextPhase
+  pub next : IsNextPhase books p phase
+  pub move_is : move ≡ move_of_phase phase
+  pub start_is : start ≡ phase.start
+
+abbrev pub ComesBy : Option Books → Problem → Schedule → Move → ℕ → Schedule → Type 0
+ComesBy None now left move start left' = ComesNext now left move start left'
+ComesBy (Some books) now left move start left' = GoesNext books now move start × (left' ≡ left)
+
+-- the phase that comes next, and what it leaves of the plan: the undone phase of least start, or what is next by the books
+abbrev pub Comes : HalfState → Move → ℕ → Schedule → Type 0
+Comes h move start left = ComesBy h.books h.now h.left move start left
+
+-- what waits once the move's phase ran
+abbrev pub moved : Books → Move → Books
+moved books (Next lun) = books
+moved books (Start members) = begun_books books (lun_of members) members
+
+abbrev pub books_after : Option Books → Move → Option Books
+books_after None move = None
+books_after (Some books) move = Some (moved books move)
+
+-- the bus or the LUN isn't free before 2^62 ns
+abbrev pub is_late_on : Problem → ℕ → Bool
+is_late_on p lun = nat_le (2 ^ 62) (max p.bus_free (free_from (slice_get p.luns lun)))
+
+-- where nothing is planned a phase stops the channel that leaves its bus or its LUN busy until then
+abbrev pub stopped_after : Option Books → Problem → ℕ → Option Cause → Option Cause
+stopped_after None p lun stopped = stopped
+stopped_after (Some books) p lun stopped = if is_late_on p lun then Some Clock else stopped
+
 -- the phase is done, and its reply is held
 abbrev pub half_after_phase : HalfState → Move → ℕ → Schedule → List Reply → HalfState
-half_after_phase h move start left replies = record h { now = placed h.now move start; left = left; held = h.held ++ replies }
+half_after_phase h move start left replies = record h {
+  now = placed h.now move start;
+  left = left;
+  books = books_after h.books move;
+  held = h.held ++ replies;
+  stopped = stopped_after h.books (placed h.now move start) (move_lun move) h.stopped;
+}
 
--- the undone phase of least start happens at its start
+-- the phase that comes next happens at its start
 pub record Runs (c c' : ChannelState) (start : ℕ) : Type 0 where
   pub move : Move
   pub left : Schedule
-  pub next : ComesNext c.half.now c.half.left move start left
+  pub next : Comes c.half move start left
   pub group : List Want
   pub phase : ℕ
   pub is : IsPhase c.half.now move group phase
@@ -295,12 +268,9 @@ accept_refusal h =
     or_else (if_stopped h.stopped)
     (refused_where (nat_le 64 (unanswered h)) WindowFull)
 
--- in order the plan might end at 2^62 or later
-abbrev pub is_late : Choice → Setup → HalfState → Bool
-is_late InOrder s h = nat_le (2 ^ 62) (horizon (next_problem s h))
-is_late ByLun s h = false
-is_late ReadsFirst s h = false
-is_late WholeGroups s h = false
+-- the plan might end at 2^62 or later
+abbrev pub is_late : Setup → HalfState → Bool
+is_late s h = nat_le (2 ^ 62) (horizon (next_problem s h))
 
 -- the plan is that of the bus and the LUNs as they stand, or nothing of it is left
 abbrev pub is_current : HalfState → Bool
@@ -314,17 +284,22 @@ abbrev pub plan_refusal : Setup → HalfState → Option Outcome
 plan_refusal s h =
     or_else (if_stopped h.stopped)
     (or_else (refused_where (nothing_to_plan s h) NothingToPlan)
-    (refused_where (is_late s.choice s h) (Stopped Clock)))
+    (refused_where (is_late s h) (Stopped Clock)))
 
 abbrev pub bus_refusal : HalfState → Option Outcome
 bus_refusal h =
     or_else (if_stopped h.stopped)
     (refused_where (none_left h) NoPlan)
 
+-- the latest that a wait brings about: the moment, or the last start of what would be left of the plan
+abbrev pub latest_by : Option Books → ℕ → Flight → ℕ
+latest_by None moment f = flight.latest_waited moment f
+latest_by (Some books) moment f = moment
+
 abbrev pub wait_refusal : ℕ → HalfState → Option Outcome
 wait_refusal moment h =
     or_else (if_stopped h.stopped)
-    (refused_where (nat_le (2 ^ 62) (flight.latest_waited moment (flight_of h))) TooLate)
+    (refused_where (nat_le (2 ^ 62) (latest_by h.books moment (flight_of h))) TooLate)
 
 -- the array of the LUN works: its group's next phase is the first post
 abbrev pub is_in_array : Option LunState → Bool
@@ -377,13 +352,48 @@ submitted c host r =
     let x : Item = record { host = host; serial = length (sent_by host c); request = r } in
     record c { sent = c.sent ++ x ∷ []; waiting = c.waiting ++ x ∷ [] }
 
+-- by the next phase an item that is accepted waits at once
+abbrev pub planned_with : Option Books → ℕ → ℕ
+planned_with None planned = planned
+planned_with (Some books) planned = planned + 1
+
+abbrev pub wants_with : Option Books → Want → List Want → List Want
+wants_with None w wants = wants
+wants_with (Some books) w wants = wants ++ w ∷ []
+
+abbrev pub books_with : Option Books → Want → Option Books
+books_with None w = None
+books_with (Some books) w = Some (steady.accepted books w)
+
+-- one item more is accepted
+abbrev pub accepting : Setup → HalfState → Item → HalfState
+accepting s h x = record h {
+  accepted = h.accepted ++ x ∷ [];
+  planned = planned_with h.books h.planned;
+  now = record h.now { wants = wants_with h.books (want_of s.geometry (length h.accepted) x) h.now.wants };
+  books = books_with h.books (want_of s.geometry (length h.accepted) x);
+}
+
 -- the front of what waits goes to the end of what is accepted
-abbrev pub Accepts : ChannelState → ChannelState → Type 0
-Accepts c c' = (x : Item) × (behind : List Item) × (c.waiting ≡ x ∷ behind) × (c' ≡ record c { half = record c.half { accepted = c.half.accepted ++ x ∷ [] }; waiting = behind })
+abbrev pub Accepts : Setup → ChannelState → ChannelState → Type 0
+Accepts s c c' = (x : Item) × (behind : List Item) × (c.waiting ≡ x ∷ behind) × (c' ≡ record c { half = accepting s c.half x; waiting = behind })
+
+-- a plan is outdated once the bus isn't free before that moment; where nothing is planned none is
+abbrev pub outdated_by : Option Books → Bool → ℕ → ℕ → Bool
+outdated_by None outdated bus_free moment = if outdated then true else nat_lt bus_free moment
+outdated_by (Some books) outdated bus_free moment = outdated
+
+abbrev pub left_waited : Option Books → ℕ → Flight → Schedule
+left_waited None moment f = (flight.waited moment f).left
+left_waited (Some books) moment f = f.left
 
 -- the bus was idle until the moment, and what is left of the plan starts no sooner; a later bus makes the plan outdated
 abbrev pub waited : ℕ → HalfState → HalfState
-waited moment h = record (with_flight h (flight.waited moment (flight_of h))) { outdated = if h.outdated then true else nat_lt h.now.bus_free moment }
+waited moment h = record h {
+  now = record h.now { bus_free = max h.now.bus_free moment };
+  left = left_waited h.books moment (flight_of h);
+  outdated = outdated_by h.books h.outdated h.now.bus_free moment;
+}
 
 -- from when on a LUN may go on that is ready now
 abbrev pub ready_of : ℕ → HalfState → ℕ
@@ -391,8 +401,9 @@ ready_of lun h = flight.ready_of lun h.now.bus_free (flight_of h)
 
 -- the LUN is ready as the bus is free; one that is ready sooner makes the plan outdated
 abbrev pub readied : ℕ → HalfState → HalfState
-readied lun h = record (with_flight h (flight.readied lun h.now.bus_free (flight_of h))) {
-  outdated = if h.outdated then true else nat_lt h.now.bus_free (free_from (slice_get h.now.luns lun));
+readied lun h = record h {
+  now = record h.now { luns = flight.luns_ready_by h.now.bus_free lun (slice_get h.now.luns lun) h.now.luns };
+  outdated = outdated_by h.books h.outdated h.now.bus_free (free_from (slice_get h.now.luns lun));
 }
 
 -- the chip says that the LUN is ready, or that it isn't: then nothing changes
@@ -424,7 +435,7 @@ pub record AsksSectors (p : Problem) (move : Move) : Type 0 where
 -- the bus may fail at any phase; only the status of a program or an erase says that its LUN isn't ready, where it comes next
 abbrev pub IsCauseOf : HalfState → Cause → Type 0
 IsCauseOf h BusFailed = Unit {0}
-IsCauseOf h (NotReady lun) = (move : Move) × (start : ℕ) × (left : Schedule) × ComesNext h.now h.left move start left × (move_lun move ≡ lun) × AsksStatus h.now move
+IsCauseOf h (NotReady lun) = (move : Move) × (start : ℕ) × (left : Schedule) × Comes h move start left × (move_lun move ≡ lun) × AsksStatus h.now move
 IsCauseOf h Clock = ⊥
 
 -- why the channel stops where a call of the chip failed so
@@ -436,7 +447,7 @@ IsToldAs post_fault.NotReady cause = (lun : ℕ) × (cause ≡ NotReady lun)
 pub record LacksSectors (c : ChannelState) (fault : PostFault) (chip : Chip) : Type 0 where
   pub bus : fault ≡ post_fault.Bus
   pub same : chip ≡ c.chip
-  pub asked : (move : Move) × (start : ℕ) × (left : Schedule) × ComesNext c.half.now c.half.left move start left × AsksSectors c.half.now move
+  pub asked : (move : Move) × (start : ℕ) × (left : Schedule) × Comes c.half move start left × AsksSectors c.half.now move
 
 -- only the chip's faults are known, and its count of that fault, which rose, unless it lacks sectors
 pub record IsLostAt (c : ChannelState) (fault : PostFault) (chip : Chip) : Type 0 where
@@ -462,11 +473,10 @@ pub record GoesOut (h h' : HalfState) (host : ℕ) (r : Reply) : Type 0 where
 
 abbrev pub Does : Setup → ChannelState → Event → Outcome → ChannelState → Type 0
 Does s c (Submit host channel r) o c' = (o ≡ Submitted (length (sent_by host c))) × (c' ≡ submitted c host r)
-Does s c (Accept channel) o c' = (o ≡ Accepted (length c.half.accepted)) × Accepts c c'
+Does s c (Accept channel) o c' = (o ≡ Accepted (length c.half.accepted)) × Accepts s c c'
 Does s c (Plan channel) o c' =
-    ((taken : Taken) × (plan : Planning) × (o ≡ Planned plan.finish) × Plans s c.half taken plan × (c' ≡ record c { half = planned_by c.half taken plan }))
-    ⊎ ((o ≡ Over s.limit) × RunsOver s c.half × (c' ≡ c))
-    ⊎ ((o ≡ Stopped Clock) × RunsLate s c.half × (c' ≡ stopped_by Clock c)) ⊎ GaveUp c o c'
+    ((plan : Planning) × (o ≡ Planned plan.finish) × Plans s c.half plan × (c' ≡ record c { half = planned_by s c.half plan }))
+    ⊎ ((o ≡ Over s.limit) × HasMoreNodes (next_problem s c.half) s.limit × (c' ≡ c)) ⊎ GaveUp c o c'
 Does s c (Bus channel) o c' =
     ((start : ℕ) × (o ≡ Phase start) × Runs c c' start)
     ⊎ ((cause : Cause) × IsCauseOf c.half cause × (o ≡ Stopped cause) × Fails c c' cause) ⊎ GaveUp c o c'

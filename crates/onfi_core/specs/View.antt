@@ -1,11 +1,10 @@
 -- What callers see of a half, and what its fields keep.
-use Rattle.std.specs.Prelude.{◌≡◌, ℕ, ◌+◌, ◌^◌, ◌<◌, ◌≤◌, List, [], ◌∷◌, ◌++◌, length, take, Option, Some, None, Result, IfOk, IfErr, ◌⊎◌, slice_get}
+use Rattle.std.specs.Prelude.{◌≡◌, ℕ, ◌+◌, ◌^◌, ◌<◌, ◌≤◌, List, [], ◌∷◌, ◌++◌, length, take, Option, Some, None, Result, IfOk, IfErr, slice_get}
 use Rattle.std.specs.List.{AllByRecursion as Each, filter}
 use Rattle.onfi_request.specs.Range.{Fits}
 use Rattle.onfi_request.specs.declared.request.Item.{Item}
 use Rattle.onfi_request.specs.declared.reply.Reply.{Reply}
-use Rattle.onfi_request.specs.declared.want.Want.{Want}
-use Rattle.onfi_group.specs.Words.{Has, number}
+use Rattle.onfi_group.specs.Words.{number}
 use Rattle.onfi_problem.specs.Problem.{Problem}
 use Rattle.onfi_problem.specs.Left.{horizon}
 use Rattle.onfi_check.specs.Nodes.{HasMoreNodes}
@@ -16,23 +15,18 @@ use Rattle.onfi_planner.specs.declared.fault.PlanFault.{PlanFault}
 use Rattle.onfi_planner.specs.declared.fault.PlanFault.TheVariants as planner
 use Rattle.slab.specs.Slab.{Slab, get, slab_len}
 use Rattle.onfi_core.specs.declared.setup.Setup.{Setup}
-use Rattle.onfi_core.specs.declared.setup.Choice.{Choice}
-use Rattle.onfi_core.specs.declared.setup.Choice.TheVariants.{InOrder, ByLun, ReadsFirst, WholeGroups}
-use Rattle.onfi_core.specs.declared.arrivals.Arrivals.{Arrivals}
 use Rattle.onfi_core.specs.declared.slot.Slot.{Slot}
 use Rattle.onfi_core.specs.declared.lent.Lent.{Lent}
 use Rattle.onfi_core.specs.declared.batch.Batch.{Batch}
-use Rattle.onfi_core.specs.declared.half.choosing.Taking.{Taking}
 use Rattle.onfi_core.specs.declared.planning.PlanStop.{PlanStop}
 use Rattle.onfi_core.specs.declared.planning.PlanStop.TheVariants.{Clock, Over, Memory}
 use Rattle.onfi_core.specs.declared.half.PlanRefusal.{PlanRefusal}
 use Rattle.onfi_core.specs.declared.half.PlanRefusal.TheVariants.{Stopped, NothingToPlan, Over as IsOver, Memory as NoMemory}
 use Rattle.onfi_core.specs.declared.outcome.Cause.TheVariants as cause
 use Rattle.onfi_core.specs.declared.outcome.Outcome.TheVariants as outcome
-use Rattle.onfi_core.specs.Steps.{AreItems, plan_refusal, planned_by, Plans, RunsLate, RunsOver, Taken, unplanned}
+use Rattle.onfi_core.specs.Steps.{next_problem, plan_refusal, planned_by, Plans, unplanned}
 use Rattle.onfi_core.specs.State.{Planning, HalfState, is_from, is_to}
 use Rattle.onfi_core.specs.Kept.{IsSound, is_of_place}
-use Rattle.onfi_core.specs.Passed.{AreArrivals, count_on}
 
 -- the state, and the held reply that is on its way out
 pub record HalfView : Type 0 where
@@ -66,24 +60,15 @@ pub record IsNext (s : Setup) (h : HalfState) (x : Item) : Type 0 where
   pub serial : x.serial ≡ length (filter (is_from x.host) h.accepted)
   pub fits : x.serial < 2 ^ 32
 
--- whether an item may be taken in beside what is unplanned: in order while that is less than a batch, else always
-abbrev pub WantsBy : Choice → Setup → HalfState → Type 0
-WantsBy InOrder s h = length (unplanned s h) < h.batch
-WantsBy ByLun s h = Unit {0}
-WantsBy ReadsFirst s h = Unit {0}
-WantsBy WholeGroups s h = Unit {0}
-
+-- an item may be taken in beside what is unplanned while that is less than a batch
 abbrev pub WantsItem : Setup → HalfState → Type 0
-WantsItem s h = WantsBy s.choice s h
-
-abbrev pub accepting : HalfState → Item → HalfState
-accepting h x = record h { accepted = h.accepted ++ x ∷ [] }
+WantsItem s h = length (unplanned s h) < h.batch
 
 -- a slot has the place
 abbrev pub HasSlot : Slab Slot → ℕ → Type 0
 HasSlot slots place = (key : ℕ) × (slot : Slot) × (key < slots.capacity) × (get slots key ≡ Some slot) × (slot.place ≡ place)
 
--- each unanswered item stands in one slot, with its place and how many for its LUN came before it
+-- each unanswered item stands in one slot, with its place
 pub record AreSlots (slots : Slab Slot) (accepted : List Item) (posted : List Reply) : Type 0 where
   pub reserved : 64 ≤ slots.capacity
   pub total : slab_len slots + length posted ≡ length accepted
@@ -91,7 +76,6 @@ pub record AreSlots (slots : Slab Slot) (accepted : List Item) (posted : List Re
   pub items : (key : ℕ) (slot : Slot) → get slots key ≡ Some slot → slice_get accepted slot.place ≡ Some slot.item
   pub kept : (place : ℕ) → place < length accepted → number (is_of_place place) posted ≡ 0 → HasSlot slots place
   pub waits : (key : ℕ) (slot : Slot) → get slots key ≡ Some slot → number (is_of_place slot.place) posted ≡ 0
-  pub nths : (key : ℕ) (slot : Slot) → get slots key ≡ Some slot → slot.nth ≡ count_on slot.item.request.place.lun (take slot.place accepted)
   pub apart : (key other : ℕ) (slot another : Slot) → get slots key ≡ Some slot → get slots other ≡ Some another → slot.place ≡ another.place → key ≡ other
 
 -- the items are numbered, by at most four hosts
@@ -114,12 +98,6 @@ pub record IsOldest (host : ℕ) (held : List Reply) (r : Reply) : Type 0 where
   pub own : r.host ≡ host
   pub none : filter (is_to host) before ≡ []
 
--- a want that waits: one of the accepted items that aren't started
-pub record IsWaiting (s : Setup) (h : HalfState) (w : Want) : Type 0 where
-  pub items : List Want
-  pub are : AreItems s h items
-  pub has : Has items w
-
 -- the replies that are kept are those held, without the one that is lent: it stood there
 abbrev pub IsLent : List Reply → List Reply → Option Lent → Option Reply → Type 0
 IsLent held kept None lent = (lent ≡ None) × (kept ≡ held)
@@ -127,10 +105,9 @@ IsLent held kept (Some at) lent =
     (r : Reply) × (before : List Reply) × (behind : List Reply)
     × (lent ≡ Some r) × (held ≡ before ++ r ∷ behind) × (kept ≡ before ++ behind) × (length before ≡ at.at) × (r.place ≡ at.place) × (filter (is_to r.host) before ≡ [])
 
-pub record AreFields (setup : Setup) (slots : Slab Slot) (came : ℕ × Arrivals) (room : ℕ) (kept : List Reply) (place : Option Lent) (state : HalfState) (lent : Option Reply) : Type 0 where
+pub record AreFields (setup : Setup) (slots : Slab Slot) (came : ℕ) (room : ℕ) (kept : List Reply) (place : Option Lent) (state : HalfState) (lent : Option Reply) : Type 0 where
   pub slots_are : AreSlots slots state.accepted state.posted
-  pub count : came.0 ≡ length state.accepted
-  pub arrivals : AreArrivals state.accepted came.1
+  pub count : came ≡ length state.accepted
   pub numbered : AreNumbered state.accepted
   pub room_is : 64 ≤ room
   pub lending : IsLent state.held kept place lent
@@ -156,20 +133,16 @@ refusal_of Memory = NoMemory
 -- why a half doesn't plan, and what it leaves
 abbrev pub PlanRefused : Setup → HalfState → PlanRefusal → HalfState → Type 0
 PlanRefused s h (Stopped why) h' =
-    ((plan_refusal s h ≡ Some (outcome.Stopped why)) ⊎ ((plan_refusal s h ≡ None) × (why ≡ cause.Clock) × RunsLate s h)) × (h' ≡ record h { stopped = Some why })
+    (plan_refusal s h ≡ Some (outcome.Stopped why)) × (h' ≡ record h { stopped = Some why })
 PlanRefused s h NothingToPlan h' = (plan_refusal s h ≡ Some outcome.NothingToPlan) × (h' ≡ h)
-PlanRefused s h (IsOver opened) h' = (plan_refusal s h ≡ None) × (opened ≡ s.limit) × RunsOver s h × (h' ≡ h)
+PlanRefused s h (IsOver opened) h' = (plan_refusal s h ≡ None) × (opened ≡ s.limit) × HasMoreNodes (next_problem s h) s.limit × (h' ≡ h)
 PlanRefused s h NoMemory h' = (plan_refusal s h ≡ None) × (h' ≡ h)
-
--- what is taken, as lists and numbers
-abbrev pub taken_of : Taking → Taken
-taken_of taking = record { wants = taking.wants.items; planned = taking.planned; aside = taking.aside.items }
 
 -- a planning's plan took the old one's place
 abbrev pub PlannedAs : HalfView → HalfView → Result ℕ PlanRefusal → Type 0
 PlannedAs old new result = IfOk result (λ finish.
-    (plan_refusal old.setup old.state ≡ None) × (taken : Taken) × (plan : Planning) × (finish ≡ plan.finish)
-    × Plans old.setup old.state taken plan × (new ≡ record old { state = planned_by old.state taken plan }))
+    (plan_refusal old.setup old.state ≡ None) × (plan : Planning) × (finish ≡ plan.finish)
+    × Plans old.setup old.state plan × (new ≡ record old { state = planned_by old.setup old.state plan }))
 
 -- .. or why it didn't, and what it left
 abbrev pub RefusedAs : HalfView → HalfView → Result ℕ PlanRefusal → Type 0

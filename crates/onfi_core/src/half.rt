@@ -4,13 +4,11 @@ ghost use Rattle.onfi_request.specs.declared.reply.Reply.{Reply as AReply};
 ghost use Rattle.onfi_schedule.specs.Schedule.{Optimal, finish};
 ghost use Rattle.onfi_check.specs.Tree.{AcceptsTokens};
 ghost use Rattle.onfi_core.specs.State.{Planning};
-ghost use Rattle.onfi_core.specs.Steps.{GoesOut, IsPlainPlan, IsPlainlyPlanned, IsPromised, accept_refusal, bus_refusal, held_for, taken_next, planned_by, Plans};
+ghost use Rattle.onfi_core.specs.Steps.{GoesOut, accepting, IsPlainPlan, IsPlainlyPlanned, IsPromised, accept_refusal, bus_refusal, held_for, taken_next, planned_by, planned_with, Plans};
 ghost use Rattle.onfi_core.specs.Dues.{IsDue, due_outcome};
 ghost use Rattle.onfi_core.specs.Refusals.{fault_outcome};
-ghost use Rattle.onfi_core.specs.View.{IsNext, IsOldest, accepting, plainly_with, planning_of, planning_with, PlannedAs, RefusedAs, refusal_of, taken_of};
-ghost use Rattle.onfi_core.specs.declared.setup.Choice.TheVariants.{InOrder};
+ghost use Rattle.onfi_core.specs.View.{IsNext, IsOldest, plainly_with, planning_of, planning_with, PlannedAs, RefusedAs, refusal_of};
 
-use crate::arrivals::Arrivals;
 use crate::batch::Batch;
 use crate::finding::find;
 use crate::history::History;
@@ -20,7 +18,10 @@ use crate::outcome::Cause;
 use crate::planning::{NextPlan, PlanStop, plan_wants};
 use crate::setup::Setup;
 use crate::slot::Slot;
-use onfi_flight::{Due, Flight, Next};
+use crate::wants::want_of;
+use crate::way::Way;
+use arrayvec::ArrayVec;
+use onfi_flight::Due;
 use onfi_plan::{PlainPlanner, Plan, Planner};
 use onfi_planner::Planned;
 use onfi_problem::Problem;
@@ -29,16 +30,11 @@ use slab::Slab;
 use std::alloc::{AllocError, Global};
 use std::marker::Model;
 
-mod choosing;
 mod counts;
 pub(crate) mod passing;
 mod phase;
-mod renewing;
-mod settling;
+mod taking;
 mod unanswered;
-mod waiting;
-
-use choosing::Taking;
 
 /// At most this many accepted items have no posted reply.
 const WINDOW: usize = 64;
@@ -50,10 +46,8 @@ pub struct Half {
     batch: u8,
     slots: Slab<Slot>,
     accepted: u64,
-    arrivals: Arrivals,
     planned: u64,
-    aside: Vec<Want>,
-    flight: Flight,
+    way: Way,
     outdated: bool,
     last: Option<Batch>,
     held: Vec<Reply>,
@@ -73,10 +67,10 @@ impl Model for Half {
       state = record {
         accepted = h.history.accepted;
         planned = h.planned;
-        aside = h.aside.items;
         batch = h.batch;
-        now = h.flight.now;
-        left = h.flight.left;
+        now = h.way.now;
+        left = h.way.left;
+        books = h.way.books;
         outdated = h.outdated;
         last = option_map planning_of h.last;
         held = h.history.held;
@@ -86,14 +80,14 @@ impl Model for Half {
       lent = h.history.lent;
     } };
 
-    ghost invariant = { λ h. AreFields h.setup h.slots (h.accepted, h.arrivals) (vec_capacity h.held) h.held.items h.lent
+    ghost invariant = { λ h. AreFields h.setup h.slots h.accepted (vec_capacity h.held) h.held.items h.lent
         (record {
           accepted = h.history.accepted;
           planned = h.planned;
-          aside = h.aside.items;
           batch = h.batch;
-          now = h.flight.now;
-          left = h.flight.left;
+          now = h.way.now;
+          left = h.way.left;
+          books = h.way.books;
           outdated = h.outdated;
           last = option_map planning_of h.last;
           held = h.history.held;
@@ -116,9 +110,8 @@ pub enum AcceptFault {
 pub enum PlanRefusal {
     /// The channel stopped, now or earlier.
     Stopped(Cause),
-    /// No accepted item is unplanned, or the wants not started fill the batch, or, by whole groups, the last choice stands
-    /// though items wait, such as programs that it held back; and no time passed since the plan was made, or no phase of it is
-    /// left.
+    /// No accepted item is unplanned, or the wants not started fill the batch; and no time passed since the plan was made, or
+    /// no phase of it is left.
     NothingToPlan,
     /// The search opened as many nodes as it may and isn't over; the old plan stands.
     Over { opened: u32 },
@@ -145,16 +138,14 @@ impl Half {
     {
         let slots = Slab::with_capacity(alloc, WINDOW)?;
         let held = Vec::with_capacity(alloc, WINDOW)?;
-        let lun_count = setup.geometry.lun_count;
+        let way = Way::open(alloc, &setup)?;
         Ok(Half {
             setup,
             batch: setup.batch,
             slots,
             accepted: 0,
-            arrivals: Arrivals::new(),
             planned: 0,
-            aside: Vec::new(alloc),
-            flight: Flight::idle(alloc, setup.timing, setup.rules, 0, lun_count),
+            way,
             outdated: false,
             last: None,
             held,
@@ -190,15 +181,16 @@ impl Half {
         requires settled { self.old.lent ≡ None }
         requires open { accept_refusal self.old.state ≡ None }
         requires next { IsNext self.old.setup self.old.state item }
-        ensures accepted { self.new ≡ record self.old { state = accepting self.old.state item } }
+        ensures accepted { self.new ≡ record self.old { state = accepting self.old.setup self.old.state item } }
         ensures place { result ≡ length self.old.state.accepted }
     {
         let place = self.accepted;
-        let nth = self.arrivals.by_lun[usize::from(item.request.place.lun)];
         self.history = self.history.with_accepted(&item);
-        self.arrivals = self.arrivals.with_item(place, &item);
-        self.slots.insert_reserved(Slot { place, nth, item });
+        let want = want_of(&self.setup.geometry, place, &item);
+        self.slots.insert_reserved(Slot { place, item });
         self.accepted += 1;
+        self.way.accept(&want);
+        self.planned = planned_with(&self.way, self.planned);
         place
     }
 
@@ -212,10 +204,9 @@ impl Half {
         self.batch = batch;
     }
 
-    /// Plans, with the bus and the LUNs as they stand: in order the wants not started, and after them the first unplanned
-    /// items, up to the batch in all; else a choice of all accepted items that aren't started, and those that it leaves are
-    /// set aside. The plan is optimal, and tokens show it. It takes the old one's place; its finish is answered, in ns of the
-    /// channel's clock.
+    /// Plans, with the bus and the LUNs as they stand, the wants not started, and after them the first unplanned items, up to
+    /// the batch in all. The plan is optimal, and tokens show it. It takes the old one's place; its finish is answered, in ns
+    /// of the channel's clock.
     ///
     /// # Errors
     /// `Stopped` where the channel stopped; `NothingToPlan` where no accepted item is unplanned, or the wants not started
@@ -251,20 +242,18 @@ impl Half {
         if self.nothing_to_plan() {
             return Err(PlanRefusal::NothingToPlan);
         }
-        let Ok(taking) = self.take_next(alloc) else {
-            return Err(PlanRefusal::Memory);
-        };
+        let wants = self.next_wants();
         self.setup.states_lengths();
         let next = plan_wants(
             alloc,
             planner,
             &self.setup,
-            self.flight.bus_free(),
-            self.flight.luns(),
-            taking.wants.as_slice(),
+            self.way.bus_free(),
+            self.way.flight().luns(),
+            wants.as_slice(),
         );
         match next {
-            Ok(next) => Ok(self.take_over(taking, next)),
+            Ok(next) => Ok(self.take_over(wants, next)),
             Err(stop) => match stop {
                 PlanStop::Clock => {
                     self.stopped = Some(Cause::Clock);
@@ -275,27 +264,28 @@ impl Half {
         }
     }
 
-    // The plan of what was taken takes the old one's place.
-    fn take_over(&mut self, taking: Taking, next: NextPlan) -> u64
-        requires plans { Plans self.old.setup self.old.state (taken_of taking) (planning_of next.batch) }
+    // The plan of these wants takes the old one's place.
+    fn take_over(&mut self, wants: ArrayVec<Want, 8>, next: NextPlan) -> u64
+        requires in_order { self.old.state.books ≡ None }
+        requires wants { wants.items ≡ self.old.state.now.wants ++ taken_next self.old.setup self.old.state }
+        requires plans { Plans self.old.setup self.old.state (planning_of next.batch) }
         requires left { next.left ≡ next.batch.plan.planned.schedule }
-        ensures planned { self.new ≡ record self.old { state = planned_by self.old.state (taken_of taking) (planning_of next.batch) } }
+        ensures planned { self.new ≡ record self.old { state = planned_by self.old.setup self.old.state (planning_of next.batch) } }
         ensures finish { result ≡ next.batch.plan.planned.finish }
     {
         let finish = next.batch.plan.planned.finish;
-        self.planned = taking.planned;
-        self.aside = taking.aside;
-        self.flight.replan(taking.wants, next.left);
+        self.planned += (wants.len() - self.way.flight().wants().len()) as u64;
+        self.way.replan(wants, next.left);
         self.outdated = false;
         self.last = Some(next.batch);
         finish
     }
 
-    /// The undone phase of least start. What [`Half::done`] fills was made by [`Half::open`], so nothing grows here, and `alloc`
+    /// The phase that comes next: the undone one of least start, or by the next phase what the dispatcher gives. What [`Half::done`] fills was made by [`Half::open`], so nothing grows here, and `alloc`
     /// isn't asked.
     ///
     /// # Errors
-    /// `Stopped` where the channel stopped; else `NoPlan` where no phase of the plan is left.
+    /// `Stopped` where the channel stopped; else `NoPlan` where no phase is left.
     pub fn due(&self, alloc: Global) -> Result<Due, DueRefusal>
         ensures due { IfOk result (λ due. IsDue self.now.state due) }
         ensures open { IfOk result (λ due. bus_refusal self.now.state ≡ None) }
@@ -317,10 +307,9 @@ impl Half {
         if let Some(cause) = self.stopped {
             return Err(DueRefusal::Stopped(cause));
         }
-        match self.flight.due() {
-            Next::Due(due) => Ok(due),
-            Next::Done => Err(DueRefusal::NoPlan),
-            Next::Illegal => unreachable!(),
+        match self.way.due() {
+            Some(due) => Ok(due),
+            None => Err(DueRefusal::NoPlan),
         }
     }
 
@@ -395,6 +384,14 @@ impl Half {
             .as_ref()
             .map(|batch| (&batch.problem, &batch.plan))
     }
+}
+
+// So many items are taken once one more is accepted: by the next phase that one too.
+fn planned_with(way: &Way, planned: u64) -> u64
+    requires { planned ≤ 2 ^ 34 }
+    ensures { result ≡ planned_with way.now.books planned }
+{
+    if way.plans() { planned } else { planned + 1 }
 }
 
 // Why there is no plan, as why a half doesn't plan.

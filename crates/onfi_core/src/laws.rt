@@ -2,7 +2,7 @@
 
 ghost use Rattle.onfi_core.specs.Core.{Headline, OpenedIsReached, StepKeeps, RunKeeps, ReachedKeeps, PostedInOrder};
 ghost use Rattle.onfi_core.specs.Steps.{FinishIsBest, IsPromised, PlainIsPlain};
-ghost use Rattle.onfi_core.specs.Reaching.{EventsReach, StepReaches, BatchReached, AcceptingReached, PostingReached, PlannedStep, IdleIs, PlanSettles, NothingHeld, NextBehind};
+ghost use Rattle.onfi_core.specs.Reaching.{EventsReach, StepReaches, BatchReached, AcceptingReached, PostingReached, PlannedStep, IdleIs, NothingHeld, NextBehind};
 
 use onfi_plan::Planner;
 
@@ -68,7 +68,6 @@ pub fn posting_reached<P: Planner>()
 {}
 
 /// What the planning of a half came to is a step of its channel.
-#[tactic(auto, using(crate::proofs::Running::planning_step))]
 pub fn planned_step()
     ensures { PlannedStep }
 {}
@@ -77,12 +76,6 @@ pub fn planned_step()
 #[tactic(auto, using(crate::proofs::HeldFor::idle_is))]
 pub fn idle_is()
     ensures { IdleIs }
-{}
-
-/// After a planning by whole groups nothing is to be planned until an item is accepted, a want begins, no phase is left or time passes.
-#[tactic(auto, using(crate::proofs::Settled::plan_settles))]
-pub fn plan_settles()
-    ensures { PlanSettles }
 {}
 
 /// Where nothing is held for any host of the setup, nothing is held.

@@ -2,7 +2,6 @@ ghost use Rattle.std.specs.Prelude.{◌≡◌, ℕ, ◌<◌, ◌≤◌, ◌↔�
 ghost use Rattle.onfi_core.specs.Ranges.{IsBetween};
 ghost use Rattle.onfi_core.specs.Stated.{StatesParts};
 ghost use Rattle.onfi_core.specs.declared.setup.Choice.TheVariants.{InOrder};
-ghost use Rattle.onfi_core.specs.declared.setup.Replanning.TheVariants.{AtOnce};
 
 use onfi_addr::Geometry;
 use onfi_group::Rules;
@@ -10,30 +9,15 @@ use onfi_request::has_part;
 use onfi_timing::{Kind, Timing};
 use thiserror::Error;
 
-/// Which of the accepted items that aren't started a planning takes, up to the batch.
+/// By what a channel runs its phases.
 #[derive(Clone, Copy, Debug, Default, PartialEq, Eq)]
 pub enum Choice {
-    /// The wants not started, and after them the first items that no plan has taken.
+    /// By plans: the wants not started, and after them the first items that no plan has taken, up to the batch in all.
     #[default]
     InOrder,
-    /// By LUN, the one that comes free soonest first: its oldest request and those that can join its group.
-    ByLun,
-    /// By LUN, and of each its oldest read; where it has none its oldest program, else its oldest erase.
-    ReadsFirst,
-    /// By LUN, whole groups, as [`choose_whole`](crate::choose_whole) goes: what is due first, and a group of programs waits for
-    /// the mates of the newest one while another LUN has work. So a plan may leave room in the batch, or hold no want.
-    WholeGroups,
-}
-
-/// When a sequencer plans anew while a phase of its plan is left.
-#[derive(Clone, Copy, Debug, Default, PartialEq, Eq)]
-pub enum Replanning {
-    /// As soon as there is something to plan.
-    #[default]
-    AtOnce,
-    /// Only where a request that no plan has taken could start before the plan's next phase. Else that phase comes first:
-    /// what is left of a plan stays legal.
-    Lazily,
+    /// By no plan: whenever the bus is free, by the phase that [`Dispatcher::next`](onfi_steady::Dispatcher::next) gives of all
+    /// that is accepted. The batch and the limit aren't looked at.
+    NextPhase,
 }
 
 /// What never changes of a core, and the batch that its channels open with. Each value is in the range that its ghost
@@ -58,10 +42,8 @@ pub struct Setup {
     pub post_cap: u16,
     /// How many nodes one planning opens, 1 to 1,048,576.
     pub limit: u32,
-    /// Which wants a plan takes.
+    /// By what phases run.
     pub choice: Choice,
-    /// When a sequencer plans anew.
-    pub replanning: Replanning,
     // A byte, below 256 in each setup that a program has. Of one that a proof makes up `stated` may say nothing: a batch is
     // driven as if by such a one, whatever its timing states.
     mark: u8,
@@ -128,8 +110,8 @@ fn is_byte(byte: u8)
 
 impl Setup {
     /// The setup of so many channels with chips of this geometry and timing, so many hosts, a batch of so many wants,
-    /// submission and completion queues of so many places, and so many nodes for one planning. Items are planned in order,
-    /// as soon as there are any; [`Setup::with_choice`] and [`Setup::with_replanning`] change that.
+    /// submission and completion queues of so many places, and so many nodes for one planning. Items are planned in order;
+    /// [`Setup::with_choice`] changes that.
     ///
     /// # Errors
     /// The first of `Channels`, `Hosts`, `Batch`, `SubmitCap`, `PostCap` and `Limit` whose number is out of range; else `Lengths`
@@ -149,7 +131,6 @@ impl Setup {
         ensures counts { IfOk result (λ s. (s.channels ≡ channels) × (s.hosts ≡ hosts) × (s.batch ≡ batch)) }
         ensures room { IfOk result (λ s. (s.submit_cap ≡ submit_cap) × (s.post_cap ≡ post_cap) × (s.limit ≡ limit)) }
         ensures choice { IfOk result (λ s. s.choice ≡ InOrder) }
-        ensures replanning { IfOk result (λ s. s.replanning ≡ AtOnce) }
         ensures channels { IsErrOf result SetupFault.Channels ↔ ¬ IsBetween 1 4 channels }
         ensures hosts { IsErrOf result SetupFault.Hosts ↔ (IsBetween 1 4 channels × ¬ IsBetween 1 4 hosts) }
         ensures batch { IsErrOf result SetupFault.Batch ↔ (IsBetween 1 4 channels × IsBetween 1 4 hosts × ¬ IsBetween 1 8 batch) }
@@ -195,26 +176,16 @@ impl Setup {
             post_cap,
             limit,
             choice: Choice::InOrder,
-            replanning: Replanning::AtOnce,
             mark: 0,
         })
     }
 
-    /// The same setup, whose plannings choose so.
+    /// The same setup, whose channels run their phases so.
     pub fn with_choice(self, choice: Choice) -> Setup
         ensures { result ≡ record self { choice = choice } }
     {
         let mut setup = self;
         setup.choice = choice;
-        setup
-    }
-
-    /// The same setup, whose sequencers plan anew so. Cores plan where an event says so.
-    pub fn with_replanning(self, replanning: Replanning) -> Setup
-        ensures { result ≡ record self { replanning = replanning } }
-    {
-        let mut setup = self;
-        setup.replanning = replanning;
         setup
     }
 

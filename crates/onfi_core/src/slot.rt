@@ -5,7 +5,5 @@ use onfi_request::Item;
 pub struct Slot {
     /// Its position in the accepted list.
     pub place: u64,
-    /// How many items for its LUN were accepted before it.
-    pub nth: u64,
     pub item: Item,
 }

@@ -10,7 +10,7 @@ pub struct Piece {
     pub requests: u64,
     /// From when on the bus is free, right before its first command.
     pub begin: u64,
-    /// When the log ended it: the last phase of its groups, and of what ran at its beginning.
+    /// When the log ended the last of its own requests.
     pub end: u64,
     /// When the plan ends that was found for it.
     pub best: u64,

@@ -1,11 +1,15 @@
 //! A log that is followed line by line.
 
-use onfi_audit::{AcceptFault, Audit, Line, LunStage};
-use onfi_log::Requests;
-use onfi_timing::{Kind, Operation};
-use std::alloc::{AllocError, Global};
+ghost use Rattle.std.specs.Prelude.{◌≡◌, true, IfOk, OnOk, slice_index_or};
+ghost use Rattle.onfi_gap.specs.Cuts.{begins_at};
+ghost use Rattle.onfi_gap.specs.Following as spec;
 
-/// How many LUNs a channel has at most.
+use onfi_audit::{Audit, Line, LunStage};
+use onfi_log::{Requests, bring};
+use std::alloc::AllocError;
+use std::marker::Model;
+
+/// How many LUNs a channel has at most: the number of the first group that begins in a log.
 pub(crate) const LUNS: usize = 8;
 
 /// A log as far as it was followed: what it has left, and of each LUN the number of the group that began on it last. What LUNs
@@ -14,110 +18,98 @@ pub(crate) const LUNS: usize = 8;
 pub(crate) struct Walk {
     audit: Audit,
     requests: Requests,
-    last: [usize; LUNS],
-    groups: usize,
+    on: [usize; LUNS],
+    begun: usize,
 }
 
-/// What a request asks for whose command does this: a read of a whole page.
-fn kind_of(operation: Operation) -> Kind {
-    match operation {
-        Operation::Read => Kind::Read,
-        Operation::Program => Kind::Program,
-        Operation::Erase => Kind::Erase,
-    }
-}
+impl Model for Walk {
+    ghost use Rattle.onfi_gap.specs.Following.{Followed};
 
-/// Accepts a request; what isn't accepted has no phase either.
-fn accept(audit: &mut Audit, kind: Kind, lun: u8, block: u16, page: u16) -> Result<(), AllocError> {
-    match audit.accept(kind, lun, block, page) {
-        Err(AcceptFault::Memory | AcceptFault::Full) => Err(AllocError),
-        Ok(_) | Err(AcceptFault::NoLun | AcceptFault::ErasePage | AcceptFault::NoLengths) => Ok(()),
-    }
-}
+    ghost Value = { Followed };
 
-/// The same channel once more, with the same requests, numbered from 0.
-fn copy_of(alloc: Global, opening: &Audit) -> Result<Audit, AllocError> {
-    let luns = opening.luns();
-    let mut audit = Audit::resume(
-        alloc,
-        opening.timing(),
-        opening.rules(),
-        opening.bus_free(),
-        &luns[..luns.len().min(LUNS)],
-        0,
-    );
-    for want in opening.wants() {
-        accept(&mut audit, want.kind, want.lun, want.block, want.page)?;
-    }
-    Ok(audit)
+    ghost view = { λ w. record { audit = w.audit; requests = w.requests; on = w.on; begun = w.begun } };
 }
 
 impl Walk {
     /// A log of which nothing was followed.
-    pub(crate) fn of(
-        alloc: Global,
-        opening: &Audit,
-        requests: Requests,
-    ) -> Result<Walk, AllocError> {
-        let audit = copy_of(alloc, opening)?;
+    ///
+    /// # Errors
+    /// Where memory was refused.
+    pub(crate) fn of(opening: &Audit, requests: Requests) -> Result<Walk, AllocError>
+        ensures { IfOk result (λ w. w ≡ spec.unfollowed opening.now requests) }
+    {
+        let audit = opening.copy()?;
         Ok(Walk {
             audit,
             requests,
-            last: [0, 1, 2, 3, 4, 5, 6, 7],
-            groups: LUNS,
+            on: [0, 1, 2, 3, 4, 5, 6, 7],
+            begun: LUNS,
         })
     }
 
     /// What the log has left.
-    pub(crate) fn audit(&self) -> &Audit {
+    pub(crate) fn audit(&self) -> &Audit
+        ensures { result.now ≡ self.now.audit }
+    {
         &self.audit
     }
 
     /// The number of the group that began on the LUN last.
-    pub(crate) fn last_on(&self, lun: usize) -> usize {
-        self.last.get(lun).copied().unwrap_or(0)
-    }
-
-    /// What the LUN does.
-    pub(crate) fn stage_on(&self, lun: usize) -> Option<&LunStage> {
-        self.audit.luns().get(lun)
+    pub(crate) fn number_on(&self, lun: usize) -> usize
+        ensures { result ≡ slice_index_or self.now.on lun 0 }
+    {
+        self.on.get(lun).copied().unwrap_or(0)
     }
 
     /// Whether the line is a command that begins a group.
-    fn begins_group(&self, line: &Line) -> bool {
-        let stage = self.stage_on(usize::from(line.lun));
-        !line.is_post && matches!(stage, Some(LunStage::Free { .. }))
+    fn begins_group(&self, line: &Line) -> bool
+        ensures { result ≡ spec.begins_group self.now.audit line.now }
+    {
+        if line.is_post {
+            return false;
+        }
+        match self.audit.luns().get(usize::from(line.lun)) {
+            Some(LunStage::Free { .. }) => true,
+            Some(LunStage::Running { .. } | LunStage::Open { .. }) | None => false,
+        }
     }
 
-    /// Whether the line is a command that begins a request, which the log brings.
-    fn brings(&self, line: &Line) -> bool {
-        let stage = self.stage_on(usize::from(line.lun));
-        self.requests == Requests::Mentioned
-            && !line.is_post
-            && matches!(stage, Some(LunStage::Free { .. } | LunStage::Open { .. }))
+    /// Whether the line begins the group of that number.
+    pub(crate) fn begins_at(&self, number: usize, line: &Line) -> bool
+        ensures { result ≡ begins_at self.now number line.now }
+    {
+        self.begins_group(line) && self.begun == number
     }
 
     /// A group begins on the LUN.
-    fn begin(&mut self, lun: usize) {
+    fn begin(&mut self, lun: usize) -> Result<(), AllocError>
+        ensures { OnOk result (self.new ≡ spec.with_group true lun self.old) }
+    {
+        let Some(begun) = self.begun.checked_add(1) else {
+            return Err(AllocError);
+        };
         if lun < LUNS {
-            self.last[lun] = self.groups;
+            self.on[lun] = self.begun;
         }
-        self.groups = self.groups.saturating_add(1);
+        self.begun = begun;
+        Ok(())
     }
 
-    /// The line's phase happens; whether it may come, as each line of a legal log may.
-    pub(crate) fn step(&mut self, line: &Line) -> Result<bool, AllocError> {
+    /// The line's phase happens, with the request that it brings.
+    ///
+    /// # Errors
+    /// Where memory was refused, or the phase may not come: each line of a legal log may.
+    pub(crate) fn step(&mut self, line: &Line) -> Result<(), AllocError>
+        ensures { OnOk result (self.new ≡ spec.followed self.old line.now) }
+    {
         let begins = self.begins_group(line);
-        if self.brings(line) {
-            let kind = kind_of(line.operation);
-            accept(&mut self.audit, kind, line.lun, line.block, line.page)?;
-        }
+        bring(&mut self.audit, self.requests, line)?;
         if self.audit.judge(line).is_err() {
-            return Ok(false);
+            return Err(AllocError);
         }
         if begins {
-            self.begin(usize::from(line.lun));
+            return self.begin(usize::from(line.lun));
         }
-        Ok(true)
+        Ok(())
     }
 }

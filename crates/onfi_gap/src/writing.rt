@@ -9,6 +9,7 @@ ghost use Rattle.onfi_gap.specs.Text.{Writes};
 use crate::finding::Gaps;
 use crate::piece::Piece;
 use crate::summary::{Summary, summarize};
+use crate::whole::LogBound;
 use onfi_log::LogAnswer;
 use std::alloc::{AllocError, Global};
 
@@ -89,6 +90,24 @@ fn put_summary(
     text.extend_from_slice(line.as_bytes())
 }
 
+/// Appends `bound BEGIN END BUS DIE SHARE`, where there is one.
+fn put_bound(alloc: Global, text: &mut Vec<u8>, bound: Option<LogBound>) -> Result<(), AllocError>
+    ensures { OnOk result (text.new.items ≡ text.old.items ++ spec.bound_text bound) }
+{
+    let Some(bound) = bound else {
+        return Ok(());
+    };
+    let share = bound.share();
+    let LogBound {
+        begin,
+        end,
+        bus,
+        die,
+    } = bound;
+    let line = format!(in alloc; "bound {begin} {end} {bus} {die} {share}\n")?;
+    text.extend_from_slice(line.as_bytes())
+}
+
 /// A header and a row for each piece.
 fn table_of(alloc: Global, pieces: &[Piece]) -> Result<Vec<u8>, AllocError>
     ensures { IfOk result (λ v. v.items ≡ codes "line,requests,begin,end,best,below\n" ++ flat_map spec.row_text pieces.now) }
@@ -100,17 +119,22 @@ fn table_of(alloc: Global, pieces: &[Piece]) -> Result<Vec<u8>, AllocError>
 }
 
 /// What is written of a log. Of one that isn't legal that is its answer. Of a legal one `legal N` is followed by a line
-/// `piece LINE REQUESTS BEGIN END BEST BELOW` for each piece, and where there is one by `gap MEAN MEDIAN MOST`; with `csv` the
-/// pieces stand in place of all that, as rows under `line,requests,begin,end,best,below`. Times are in ns.
+/// `piece LINE REQUESTS BEGIN END BEST BELOW` for each piece, and where there is one by `gap MEAN MEDIAN MOST`; and, where it ends a
+/// request, by `bound BEGIN END BUS DIE SHARE`, as a [`LogBound`] has it. With `csv` the pieces stand in place of all that, as rows
+/// under `line,requests,begin,end,best,below`. Times are in ns, SHARE in thousandths.
 ///
 /// # Errors
 /// Where memory was refused.
 pub fn write_gaps(alloc: Global, csv: bool, gaps: Gaps) -> Result<LogAnswer, AllocError>
-    ensures legal { IfOk result (λ a. gaps.answer.status ≡ 0 → Writes csv (answer_of gaps.answer) gaps.pieces.items a.text.items) }
+    ensures legal { IfOk result (λ a. gaps.answer.status ≡ 0 → Writes csv (answer_of gaps.answer) gaps.pieces.items gaps.bound a.text.items) }
     ensures illegal { IfOk result (λ a. gaps.answer.status ≢ 0 → a ≡ gaps.answer) }
     ensures status { IfOk result (λ a. a.status ≡ gaps.answer.status) }
 {
-    let Gaps { answer, pieces } = gaps;
+    let Gaps {
+        answer,
+        pieces,
+        bound,
+    } = gaps;
     let LogAnswer { text, status } = answer;
     if status != 0 {
         return Ok(LogAnswer { text, status });
@@ -122,5 +146,6 @@ pub fn write_gaps(alloc: Global, csv: bool, gaps: Gaps) -> Result<LogAnswer, All
     let mut text = text;
     put_pieces(alloc, &mut text, pieces.as_slice())?;
     put_summary(alloc, &mut text, summarize(alloc, pieces.as_slice())?)?;
+    put_bound(alloc, &mut text, bound)?;
     Ok(LogAnswer { text, status })
 }

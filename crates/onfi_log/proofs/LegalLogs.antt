@@ -98,7 +98,7 @@ line_never None readies all j number phases found more answer e h z rest = let q
 line_never (Some entry) readies all j number phases found more answer (b, k, step, goes) h z rest =
     breach_never b all number (lun_in entry) found answer _ goes h z (rest k (phases + phases_in entry))
 
-never : (texts : List (List ℕ)) (readies : Readies) (all : Bool) (j : Judged) (number phases : ℕ) (found : List ℕ) (answer : Answer)
+pub never : (texts : List (List ℕ)) (readies : Readies) (all : Bool) (j : Judged) (number phases : ℕ) (found : List ℕ) (answer : Answer)
     → AnswersFrom readies all j number phases found texts answer → 0 < length found → answer.status ≡ 0 → ⊥
 never [] readies all j number phases found answer e h z = ended_broken number phases found [] h (sym (ap (λ (a : Answer). a.status) e) ∙ z)
 never (last ∷ []) readies all j number phases found answer e h z = ended_broken number phases found last h (sym (ap (λ (a : Answer). a.status) e) ∙ z)

@@ -4,3 +4,4 @@ pub mod Answering
 pub mod Reports
 pub mod LegalLogs
 pub mod EachLine
+pub mod Coming

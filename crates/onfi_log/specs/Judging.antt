@@ -55,17 +55,23 @@ takes_page Read page = true
 takes_page Program page = true
 takes_page Erase page = page == 0
 
--- the line brings its request
+-- the line brings its request, if it begins one
+abbrev pub brings_where : Requests → Bool → Line → Bool
+brings_where Accepted begins line = false
+brings_where Mentioned begins line = if begins then takes_page line.operation line.page else false
+
 abbrev pub brings_by : Requests → Audit → Line → Bool
-brings_by Accepted a line = false
-brings_by Mentioned a line = if begins a line then takes_page line.operation line.page else false
+brings_by requests a line = brings_where requests (begins a line) line
+
+-- what is left, with the request that the line brings
+abbrev pub brought_by : Requests → Audit → Line → Audit
+brought_by requests a line = if brings_by requests a line then accepting a (request_of a (kind_of line.operation) line.lun line.block line.page) else a
 
 abbrev pub brings : Judged → Line → Bool
 brings j line = brings_by j.requests j.audit line
 
--- what is left, with the request that the line brings
 abbrev pub with_brought : Judged → Line → Audit
-with_brought j line = if brings j line then accepting j.audit (request_of j.audit (kind_of line.operation) line.lun line.block line.page) else j.audit
+with_brought j line = brought_by j.requests j.audit line
 
 -- Numbers of requests
 

@@ -7,7 +7,7 @@ use Rattle.onfi_problem.specs.declared.lun_state.LunState.{LunState}
 use Rattle.onfi_problem.specs.declared.lun_state.LunState.TheVariants.{Free, Running}
 use Rattle.onfi_problem.specs.Moves.{Move, placed}
 use Rattle.onfi_problem.specs.Problem.{Problem, IsProblem}
-use Rattle.onfi_audit.specs.Audit.{Audit, opening}
+use Rattle.onfi_audit.specs.Audit.{Audit, MayCome, after_line, opening}
 use Rattle.onfi_audit.specs.Legal.{Accept, Audited, Entry, IsLineOf, Leads, Phase, lines_of, wants_of, with_wants}
 use Rattle.onfi_audit.specs.declared.line.Line.{Line}
 use Rattle.onfi_log.specs.declared.breach.LineBreach.{LineBreach}
@@ -17,7 +17,7 @@ use Rattle.onfi_log.specs.declared.line.LogLine.{LogLine}
 use Rattle.onfi_log.specs.declared.readies.Readies.{Readies}
 use Rattle.onfi_log.specs.declared.requests.Requests.{Requests}
 use Rattle.onfi_log.specs.Entry.{entry_of, lun_in}
-use Rattle.onfi_log.specs.Judging.{Judged, Takes}
+use Rattle.onfi_log.specs.Judging.{Judged, Takes, brought_by}
 use Rattle.onfi_log.specs.Line.{line_of}
 use Rattle.onfi_log.specs.Parts.{parts}
 use Rattle.onfi_log.specs.Text.{Answer, AnswersLog, AnswersLogBy, breach_text}
@@ -41,6 +41,27 @@ LegalLaw = (p : Problem) (before : List Entry) (a : Audit) (requests : Requests)
     → IsProblem p → Audited (opening p) before a → AnswersLog requests a all text answer → answer.status ≡ 0
     → (entries : List Entry) × (q : Problem) × Says (parts 10 text) (lines_of entries)
     × Leads (with_wants p (wants_of (before ++ entries))) (lines_of (before ++ entries)) q
+
+-- The lines of a legal log
+
+abbrev pub with_phase : Option LogLine → List Line → List Line
+with_phase None lines = []
+with_phase (Some l) lines = l.phase ∷ lines
+
+-- the phases that the texts say, up to the first that says none
+abbrev pub phases_of : List (List ℕ) → List Line
+phases_of [] = []
+phases_of (text ∷ texts) = with_phase (line_of text) (phases_of texts)
+
+-- each line may come after those before it, with the request that it brings
+abbrev pub AllCome : Requests → Audit → List Line → Type 0
+AllCome requests a [] = Unit {0}
+AllCome requests a (line ∷ lines) = MayCome (brought_by requests a line) line × AllCome requests (after_line (brought_by requests a line) line) lines
+
+-- what is answered as legal has lines each of which may come
+abbrev pub ComesLaw : Type 0
+ComesLaw = (requests : Requests) (a : Audit) (all : Bool) (text : List ℕ) (answer : Answer) → AnswersLog requests a all text answer → answer.status ≡ 0
+    → AllCome requests a (phases_of (parts 10 text))
 
 -- Logs with reports
 

@@ -11,6 +11,7 @@ ghost use Rattle.onfi_log.specs.Judging as spec;
 ghost use Rattle.onfi_log.specs.Judging.{Judged as Log};
 
 use crate::breach::LineBreach;
+use crate::bringing::{begins_request, bring_where};
 use crate::bytes::Bytes;
 use crate::entry::LogEntry;
 use crate::line::LogLine;
@@ -38,27 +39,6 @@ impl Model for Judged {
     ghost Value = { Log };
 
     ghost view = { λ j. record { requests = j.requests; audit = j.audit; greatest = j.greatest.items; closers = j.closers } };
-}
-
-/// What a request asks for whose command does this.
-fn kind_of(operation: Operation) -> Kind
-    ensures { result ≡ spec.kind_of operation }
-{
-    match operation {
-        Operation::Read => Kind::Read,
-        Operation::Program => Kind::Program,
-        Operation::Erase => Kind::Erase,
-    }
-}
-
-/// Whether a request of that operation may name the page.
-fn takes_page(operation: Operation, page: u16) -> bool
-    ensures { result ≡ spec.takes_page operation page }
-{
-    match operation {
-        Operation::Read | Operation::Program => true,
-        Operation::Erase => page == 0,
-    }
 }
 
 /// Why a command can't be of request `number` where that one waits first on its block.
@@ -213,24 +193,7 @@ impl Judged {
     fn begins(&self, line: &Line) -> bool
         ensures { result ≡ spec.begins self.now.audit line.now }
     {
-        if line.is_post {
-            return false;
-        }
-        match self.audit.luns().get(usize::from(line.lun)) {
-            Some(LunStage::Free { .. } | LunStage::Open { .. }) => true,
-            Some(LunStage::Running { .. }) | None => false,
-        }
-    }
-
-    /// Whether the line, which begins a request where `begins` says so, brings it.
-    fn brings(&self, begins: bool, line: &Line) -> bool
-        requires { begins ≡ spec.begins self.now.audit line.now }
-        ensures { result ≡ spec.brings self.now line.now }
-    {
-        match self.requests {
-            Requests::Accepted => false,
-            Requests::Mentioned => begins && takes_page(line.operation, line.page),
-        }
+        begins_request(&self.audit, line)
     }
 
     /// Accepts the request that the line brings; whether it brings one.
@@ -241,14 +204,7 @@ impl Judged {
         requires { begins ≡ spec.begins self.old.audit line.now }
         ensures brought { IfOk result (λ b. (b ≡ spec.brings self.old line.now) × (self.new ≡ spec.bringing self.old line.now)) }
     {
-        if !self.brings(begins, line) {
-            return Ok(false);
-        }
-        let kind = kind_of(line.operation);
-        match self.audit.accept(kind, line.lun, line.block, line.page) {
-            Ok(_) => Ok(true),
-            Err(_) => Err(AllocError),
-        }
+        bring_where(&mut self.audit, self.requests, begins, line)
     }
 
     /// The greatest number of a request that began on the line's block, and one more; 0 where none had one.

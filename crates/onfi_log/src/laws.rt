@@ -1,11 +1,16 @@
 //! What the answer to a log says of the log as a whole.
 
-ghost use Rattle.onfi_log.specs.Laws.{EachLaw, LegalLaw, ReportedLaw};
+ghost use Rattle.onfi_log.specs.Laws.{ComesLaw, EachLaw, LegalLaw, ReportedLaw};
 
 /// A log that is answered as legal is: each of its lines is the phase of a move of the problem as it then stands, no sooner than
 /// it may be.
 pub fn legal_answer_is_legal()
     ensures { LegalLaw }
+{}
+
+/// Each of its lines may come after those before it.
+pub fn legal_lines_come()
+    ensures { ComesLaw }
 {}
 
 /// So is a log with reports of statuses, where LUNs are ready from when they were reported so.

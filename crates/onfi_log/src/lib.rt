@@ -4,6 +4,7 @@
 
 mod answer;
 mod breach;
+mod bringing;
 mod bytes;
 mod entry;
 mod judged;
@@ -16,6 +17,7 @@ mod requests;
 
 pub use answer::LogAnswer;
 pub use breach::LineBreach;
+pub use bringing::bring;
 pub use bytes::Bytes;
 pub use entry::{LogEntry, read_entry};
 pub use judging::{judge_log, judge_log_by};

@@ -248,6 +248,31 @@ fn a_change_after_next(rt: HostRuntime) -> Result<(), Fail> {
     Ok(())
 }
 
+// A look makes nothing due; where the bus waits nothing starts sooner, and nothing is due.
+#[test]
+fn a_look_and_a_wait(rt: HostRuntime) -> Result<(), Fail> {
+    let mut dispatcher = Dispatcher::new(&timing(5)?, rules(), 2);
+    assert_eq!(rt; told(&dispatcher.look(4)), None);
+    dispatcher.accept(want(1, Kind::Read, 0, 0))?;
+    assert_eq!(rt;
+        told(&dispatcher.look(4)),
+        Some((0, 4, [1, NONE, NONE, NONE]))
+    );
+    assert_eq!(rt; dispatcher.ran(4), Err(RanFault::NothingDue));
+    assert_eq!(rt;
+        told(&dispatcher.next(4)),
+        Some((0, 4, [1, NONE, NONE, NONE]))
+    );
+    dispatcher.wait(9);
+    assert_eq!(rt; dispatcher.ran(9), Err(RanFault::NothingDue));
+    dispatcher.wait(7);
+    assert_eq!(rt;
+        told(&dispatcher.look(0)),
+        Some((0, 9, [1, NONE, NONE, NONE]))
+    );
+    Ok(())
+}
+
 // The array of a read takes 50 ns; it is found ready after 20, and its output may start then.
 #[test]
 fn an_array_done_early(rt: HostRuntime) -> Result<(), Fail> {

@@ -3,7 +3,7 @@ ghost use Rattle.std.specs.Prelude.{◌≡◌, ◌<◌, ◌≤◌, length, IfSom
 use onfi_plan::{Limit, PlainPlanner, Plan, PlanFault, Planner};
 use onfi_planners::ChosenPlanner;
 use onfi_problem::Problem;
-use onfi_run::{run_script, run_script_by};
+use onfi_run::{Way, run_script, run_script_by};
 use onfi_seq::Gate;
 use std::alloc::Global;
 use std::sync::Wait;
@@ -167,17 +167,8 @@ fn meet<R: Threads + Wait + Sync, P: Planner + Copy + Send + Drop>(
     let script = script_of(alloc, rows)?;
     let mut reader = script.as_bytes();
     let mut text = Vec::new(alloc);
-    let status = run_script_by(
-        rt,
-        alloc,
-        planner,
-        limit,
-        false,
-        gates,
-        &mut reader,
-        &mut text,
-    )
-    .ok()?;
+    let way = Way::by_plans(planner, limit);
+    let status = run_script_by(rt, alloc, way, false, gates, &mut reader, &mut text).ok()?;
     if !meeting.went_well() {
         return None;
     }

@@ -1,6 +1,6 @@
 -- Ports that are the ends of channels.
 use Rattle.std.proofs.Common.{◌≡◌, ◌≤◌, ℕ, List, [], ◌∷◌, ◌++◌, length, map, refl, sym, ap, ◌∙◌, subst, arith, Some}
-use Rattle.std.specs.Prelude.{slice_get}
+use Rattle.std.specs.Prelude.{Option, slice_get}
 use Rattle.std.specs.List.{AllByRecursion as Each}
 use Rattle.std.proofs.lemmas.List.{length-map, map-append}
 use Rattle.std.proofs.lemmas.Simd.{map-map}
@@ -14,7 +14,7 @@ use Rattle.onfi_run.specs.declared.port.Port.{Port}
 use Rattle.onfi_run.specs.declared.station.Station.{Station}
 use Rattle.onfi_run.specs.ByHost.{host_numbers, with_each}
 use Rattle.onfi_run.specs.Keys.{ChannelQueues, PortEnds, port_ends, end_of, AreEnds, AreEndsOf, AreLinked, ends_on, ports_of, queues_of}
-use Rattle.onfi_run.specs.Opening.{lane_queues}
+use Rattle.onfi_run.specs.Opening.{lane_queues, nodes_in}
 use Rattle.onfi_run.proofs.ByHost.{head_of, tail_of, told_before, told_with}
 
 -- ---- one channel
@@ -67,18 +67,18 @@ ends_at p requests host queue number =
     ∙ ap (λ n. let k : PortEnds = record { queue = requests; number = n; inbox = Some p.inbox.queue; hosts = 4 } in k) number
 
 -- .. and the other way round
-ends_of_hosts : (requests : TableId) (replies : List TableId) (limit : ℕ) (ports : List Port) → length ports ≡ 4 → AreHostsOf requests 0 (map (λ (p : Port). p.host) ports)
-    → map (λ (p : Port). p.inbox.queue) ports ≡ replies → AreEndsOf (record { requests = requests; replies = replies; limit = limit }) ports
-ends_of_hosts requests replies limit [] n hosts queues = absurd (omega (arith, n))
-ends_of_hosts requests replies limit (a ∷ []) n hosts queues = absurd (omega (arith, n))
-ends_of_hosts requests replies limit (a ∷ b ∷ []) n hosts queues = absurd (omega (arith, n))
-ends_of_hosts requests replies limit (a ∷ b ∷ c ∷ []) n hosts queues = absurd (omega (arith, n))
-ends_of_hosts requests replies limit (a ∷ b ∷ c ∷ d ∷ []) n (qa, na, (qb, nb, (qc, nc, (qd, nd, t)))) queues =
-    let here : AreEndsOf (record { requests = requests; replies = a.inbox.queue ∷ b.inbox.queue ∷ c.inbox.queue ∷ d.inbox.queue ∷ []; limit = limit }) (a ∷ b ∷ c ∷ d ∷ []) =
+ends_of_hosts : (requests : TableId) (replies : List TableId) (nodes : Option ℕ) (ports : List Port) → length ports ≡ 4 → AreHostsOf requests 0 (map (λ (p : Port). p.host) ports)
+    → map (λ (p : Port). p.inbox.queue) ports ≡ replies → AreEndsOf (record { requests = requests; replies = replies; nodes = nodes }) ports
+ends_of_hosts requests replies nodes [] n hosts queues = absurd (omega (arith, n))
+ends_of_hosts requests replies nodes (a ∷ []) n hosts queues = absurd (omega (arith, n))
+ends_of_hosts requests replies nodes (a ∷ b ∷ []) n hosts queues = absurd (omega (arith, n))
+ends_of_hosts requests replies nodes (a ∷ b ∷ c ∷ []) n hosts queues = absurd (omega (arith, n))
+ends_of_hosts requests replies nodes (a ∷ b ∷ c ∷ d ∷ []) n (qa, na, (qb, nb, (qc, nc, (qd, nd, t)))) queues =
+    let here : AreEndsOf (record { requests = requests; replies = a.inbox.queue ∷ b.inbox.queue ∷ c.inbox.queue ∷ d.inbox.queue ∷ []; nodes = nodes }) (a ∷ b ∷ c ∷ d ∷ []) =
     four_alike (port_ends a) (port_ends b) (port_ends c) (port_ends d) _ _ _ _ (ends_at a requests 0 qa na) (ends_at b requests 1 qb nb)
     (ends_at c requests 2 qc nc) (ends_at d requests 3 qd nd)
-    in subst (λ ids. AreEndsOf (record { requests = requests; replies = ids; limit = limit }) (a ∷ b ∷ c ∷ d ∷ [])) queues here
-ends_of_hosts requests replies limit (a ∷ b ∷ c ∷ d ∷ x ∷ ports) n hosts queues = absurd (omega (arith, n))
+    in subst (λ ids. AreEndsOf (record { requests = requests; replies = ids; nodes = nodes }) (a ∷ b ∷ c ∷ d ∷ [])) queues here
+ends_of_hosts requests replies nodes (a ∷ b ∷ c ∷ d ∷ x ∷ ports) n hosts queues = absurd (omega (arith, n))
 
 -- what opens together with an intake and its posters
 pub opened_ends : {P G : Type 0} (lane : Lane (Gated P G)) (t : IntakeView) (posters : List PosterView) (ports : List Port) → length ports ≡ 4
@@ -91,7 +91,7 @@ opened_ends lane t posters ports n intake posters_are hosts inboxes =
     let queues : map (λ (p : Port). p.inbox.queue) ports ≡ poster_queues lane.channel.sequencer.0.posters =
     sym (map-map (λ (i : InboxView). i.queue) (λ (p : Port). p.inbox) ports) ∙ ap queues_of inboxes ∙ map-map (λ (i : InboxView). i.queue) inbox_of posters
     ∙ ap poster_queues (sym posters_are)
-    in ends_of_hosts lane.channel.sequencer.0.intake.queue (poster_queues lane.channel.sequencer.0.posters) lane.channel.sequencer.0.setup.limit ports n
+    in ends_of_hosts lane.channel.sequencer.0.intake.queue (poster_queues lane.channel.sequencer.0.posters) (nodes_in lane.channel.sequencer.0.setup) ports n
     (subst (λ id. AreHostsOf id 0 (map (λ (p : Port). p.host) ports)) requests hosts_are) queues
 
 -- the same ends after a drain

@@ -1,6 +1,6 @@
 -- From what came of all channels to what a report says of its rows.
 use Rattle.std.proofs.Common.{◌≡◌, ℕ, Bool, true, false, List, length, map, sym, ap, ◌∙◌, subst, Some, refl}
-use Rattle.std.specs.Prelude.{IfSome}
+use Rattle.std.specs.Prelude.{IfSome, Option}
 use Rattle.std.specs.List.{AllByRecursion as Each}
 use Rattle.std.specs.Option.{is_some}
 use Rattle.std.proofs.lemmas.List.{length-map}
@@ -22,10 +22,10 @@ use Rattle.onfi_run.proofs.Collecting.{status_done}
 pub same_length : {A B K : Type 0} (f : A → K) (h : B → K) (xs : List A) (ys : List B) → map f xs ≡ map h ys → length xs ≡ length ys
 same_length f h xs ys e = sym (length-map xs f) ∙ ap length e ∙ length-map ys h
 
-report_told : (now limit : ℕ) (rows : List Row) (before behind : List Station) (channels : ℕ) (r : ReportView) → AreNew rows (channels_in rows) before
+report_told : (now : ℕ) (nodes : Option ℕ) (rows : List Row) (before behind : List Station) (channels : ℕ) (r : ReportView) → AreNew rows (channels_in rows) before
     → HaveSamePorts before behind → channels ≡ channels_in rows
-    → Each (IsOverAt limit) r.ends → IsGathered now (ports_of behind) channels r → IsReportOf false limit rows r
-report_told now limit rows before behind channels r new same count over all = record {
+    → Each (IsOverAt nodes) r.ends → IsGathered now (ports_of behind) channels r → IsReportOf false nodes rows r
+report_told now nodes rows before behind channels r new same count over all = record {
   places_are = all.places ∙ same_by_key port_key (λ k. k.1) (ports_of before) (ports_of behind) same ∙ new.places;
   ends_are = all.count ∙ count;
   suited = all.suited;
@@ -36,9 +36,9 @@ report_told now limit rows before behind channels r new same count over all = re
 }
 
 -- .. with what a clock showed
-report_clocked : (limit : ℕ) (rows : List Row) (r more : ReportView) (clock : ClockReport) → IsReportOf false limit rows r → more ≡ record r { clock = Some clock } → IsClockOf r clock → IsReportOf true limit rows more
-report_clocked limit rows r more clock told is tells =
-    subst (IsReportOf true limit rows) (sym is) (record {
+report_clocked : (nodes : Option ℕ) (rows : List Row) (r more : ReportView) (clock : ClockReport) → IsReportOf false nodes rows r → more ≡ record r { clock = Some clock } → IsClockOf r clock → IsReportOf true nodes rows more
+report_clocked nodes rows r more clock told is tells =
+    subst (IsReportOf true nodes rows) (sym is) (record {
       places_are = told.places_are;
       ends_are = told.ends_are;
       suited = told.suited;
@@ -49,13 +49,13 @@ report_clocked limit rows r more clock told is tells =
     })
 
 -- what came of hosts that opened so
-pub report_settled : (clocked : Bool) (limit now : ℕ) (rows : List Row) (before behind : List Station) (buses : List BusUse) (r : ReportView)
+pub report_settled : (clocked : Bool) (nodes : Option ℕ) (now : ℕ) (rows : List Row) (before behind : List Station) (buses : List BusUse) (r : ReportView)
     → AreNew rows (channels_in rows) before → HaveSamePorts before behind → length buses ≡ channels_in rows
-    → Each (IsOverAt limit) r.ends → Tells clocked now (ports_of behind) buses r → IsReportOf clocked limit rows r
-report_settled false limit now rows before behind buses r new same count over all = report_told now limit rows before behind (length buses) r new same count over all
-report_settled true limit now rows before behind buses r new same count over tells =
-    let plain = subst (λ (x : ReportView). Each (IsOverAt limit) x.ends) tells.with_it over in
-    report_clocked limit rows tells.plain r tells.clock (report_told now limit rows before behind (length buses) tells.plain new same count plain tells.gathered) tells.with_it tells.tells
+    → Each (IsOverAt nodes) r.ends → Tells clocked now (ports_of behind) buses r → IsReportOf clocked nodes rows r
+report_settled false nodes now rows before behind buses r new same count over all = report_told now nodes rows before behind (length buses) r new same count over all
+report_settled true nodes now rows before behind buses r new same count over tells =
+    let plain = subst (λ (x : ReportView). Each (IsOverAt nodes) x.ends) tells.with_it over in
+    report_clocked nodes rows tells.plain r tells.clock (report_told now nodes rows before behind (length buses) tells.plain new same count plain tells.gathered) tells.with_it tells.tells
 
 -- what was gathered, with a clock that gives these buses
 pub clock_told : (now : ℕ) (ports : List (List Port)) (buses told : List BusUse) (channels : ℕ) (r : ReportView) → channels ≡ length buses → IsGathered now ports channels r

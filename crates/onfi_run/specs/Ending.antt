@@ -1,5 +1,7 @@
 -- How the threads of channels go on and end, and what is reported of a channel.
 use Rattle.std.specs.Prelude.{◌≡◌, ℕ, ◌+◌, ◌-◌, ◌^◌, ◌||◌, nat_le, Bool, true, false, if◌then◌else◌, List, Option, Some, None}
+use Rattle.onfi_core.specs.declared.setup.Choice.{Choice}
+use Rattle.onfi_core.specs.declared.setup.Choice.TheVariants.{InOrder, NextPhase}
 use Rattle.onfi_core.specs.State.{Planning}
 use Rattle.onfi_core.specs.Steps.{none_left}
 use Rattle.onfi_queue.specs.Ends.{HostView}
@@ -110,14 +112,19 @@ channel_end (end.Over opened) thread complete short = end.Over opened
 channel_end end.Unfinished thread complete short = end.Unfinished
 
 -- ---- limits
+-- how many nodes a planning may open; where channels go phase by phase none is made
+abbrev pub nodes_by : Choice → ℕ → Option ℕ
+nodes_by InOrder limit = Some limit
+nodes_by NextPhase limit = None
+
 -- where it is over, so many nodes were opened
-abbrev pub IsOverAt : ℕ → ChannelEnd → Type 0
-IsOverAt limit (end.Over opened) = opened ≡ limit
-IsOverAt limit (end.Stopped cause) = Unit {0}
-IsOverAt limit end.Done = Unit {0}
-IsOverAt limit end.Unfinished = Unit {0}
+abbrev pub IsOverAt : Option ℕ → ChannelEnd → Type 0
+IsOverAt nodes (end.Over opened) = nodes ≡ Some opened
+IsOverAt nodes (end.Stopped cause) = Unit {0}
+IsOverAt nodes end.Done = Unit {0}
+IsOverAt nodes end.Unfinished = Unit {0}
 
 -- .. of a turn that ends a thread
-abbrev pub IsTurnOverAt : ℕ → Progress → Type 0
-IsTurnOverAt limit (progress.Over opened) = opened ≡ limit
-IsTurnOverAt limit _ = Unit {0}
+abbrev pub IsTurnOverAt : Option ℕ → Progress → Type 0
+IsTurnOverAt nodes (progress.Over opened) = nodes ≡ Some opened
+IsTurnOverAt nodes _ = Unit {0}

@@ -16,11 +16,11 @@ use Rattle.onfi_run.specs.ByHost.{host_numbers}
 use Rattle.onfi_run.specs.Report.{places}
 use Rattle.onfi_run.specs.Resting.{IsFull}
 
--- the queues of a channel, the submission queue and the completion queue of each host, and how many nodes a planning of it may open
+-- the queues of a channel, the submission queue and the completion queue of each host, and how many nodes a planning of it may open, if any is made
 pub record ChannelQueues : Type 0 where
   pub requests : TableId
   pub replies : List TableId
-  pub limit : ℕ
+  pub nodes : Option ℕ
 
 -- a host's ends on a channel: the submission queue, the host's number there, its completion queue, and how many hosts the channel has
 pub record PortEnds : Type 0 where

@@ -1,5 +1,5 @@
 -- What the channels of a run open with.
-use Rattle.std.specs.Prelude.{◌≡◌, ℕ, ◌+◌, List, [], ◌∷◌, map, take}
+use Rattle.std.specs.Prelude.{◌≡◌, ℕ, ◌+◌, List, [], ◌∷◌, map, take, Option}
 use Rattle.std.specs.List.{AllByRecursion as Each}
 use Rattle.onfi_core.specs.declared.setup.Setup.{Setup}
 use Rattle.onfi_core.specs.Kept.{first_half}
@@ -15,14 +15,19 @@ use Rattle.onfi_run.specs.Chips.{all_on, array_time_on, fault_on, failing_on, un
 use Rattle.onfi_run.specs.declared.port.Port.{Port}
 use Rattle.onfi_run.specs.declared.station.Station.{Station}
 use Rattle.onfi_run.specs.ByHost.{host_numbers}
-use Rattle.onfi_run.specs.Ending.{IsOverAt}
+use Rattle.onfi_run.specs.declared.way.Way.{Way}
+use Rattle.onfi_run.specs.Ending.{IsOverAt, nodes_by}
 use Rattle.onfi_run.specs.Keys.{ChannelQueues, port_places, ports_of}
 use Rattle.onfi_run.specs.Arriving.{expected_of, expected_on}
 use Rattle.onfi_run.specs.Setup.{SetsUp}
 
--- the queues of a channel, and its limit
+-- how many nodes a planning of this setup may open, if any is made
+abbrev pub nodes_in : Setup → Option ℕ
+nodes_in setup = nodes_by setup.choice setup.limit
+
+-- the queues of a channel, and how many nodes a planning of it may open
 abbrev pub lane_queues : {P G : Type 0} → Lane (Gated P G) → ChannelQueues
-lane_queues lane = record { requests = lane.channel.sequencer.0.intake.queue; replies = poster_queues lane.channel.sequencer.0.posters; limit = lane.channel.sequencer.0.setup.limit }
+lane_queues lane = record { requests = lane.channel.sequencer.0.intake.queue; replies = poster_queues lane.channel.sequencer.0.posters; nodes = nodes_in lane.channel.sequencer.0.setup }
 
 -- the channel of that number with that gate as it opens, over the chip that the rows describe
 pub record IsOpened {P G : Type 0} (setup : Setup) (rows : List Row) (number : ℕ) (gate : G) (lane : Lane (Gated P G)) : Type 0 where
@@ -44,14 +49,14 @@ AreOpened setup rows number (gate ∷ gates) (lane ∷ lanes) = IsOpened setup r
 AreOpened setup rows number [] (lane ∷ lanes) = ⊥
 AreOpened setup rows number (gate ∷ gates) [] = ⊥
 
--- all channels that the rows set up on the device, with that limit, each with the gate of its number
-abbrev pub AreOpenedOn : {P G : Type 0} → List Row → PageDevice → ℕ → List G → List (Lane (Gated P G)) → Type 0
-AreOpenedOn rows device limit gates lanes = (setup : Setup) × SetsUp rows device limit setup × AreOpened setup rows 0 (take setup.channels gates) lanes
+-- all channels that the rows set up on the device, to go that way, each with the gate of its number
+abbrev pub AreOpenedOn : {P G : Type 0} → List Row → PageDevice → Way P → List G → List (Lane (Gated P G)) → Type 0
+AreOpenedOn rows device way gates lanes = (setup : Setup) × SetsUp rows device way.limit way.choice setup × AreOpened setup rows 0 (take setup.channels gates) lanes
 
--- these are, after a run, the channels that the rows set up and that opened with that limit
-abbrev pub AreBehind : {P G : Type 0} → List Row → PageDevice → ℕ → List G → List (Lane (Gated P G)) → Type 0
-AreBehind {P} {G} rows device limit gates lanes =
-    (opened : List (Lane (Gated P G))) × AreOpenedOn rows device limit gates opened × (map lane_queues lanes ≡ map lane_queues opened)
+-- these are, after a run, the channels that the rows set up and that opened to go that way
+abbrev pub AreBehind : {P G : Type 0} → List Row → PageDevice → Way P → List G → List (Lane (Gated P G)) → Type 0
+AreBehind {P} {G} rows device way gates lanes =
+    (opened : List (Lane (Gated P G))) × AreOpenedOn rows device way gates opened × (map lane_queues lanes ≡ map lane_queues opened)
 
 -- ---- hosts
 -- nothing was sent there
@@ -71,4 +76,4 @@ pub record AreNew (rows : List Row) (channels : ℕ) (stations : List Station) :
 
 -- where the channel's thread is over, a planning opened as many nodes as it may
 abbrev pub IsWithin : {P G : Type 0} → Lane (Gated P G) → Type 0
-IsWithin lane = IsOverAt (lane_queues lane).limit lane.ended
+IsWithin lane = IsOverAt (lane_queues lane).nodes lane.ended

@@ -65,11 +65,11 @@ woken lane = record lane { pace = record lane.pace { wakes = 0 } }
 
 -- where a channel's thread is over, a planning opened as many nodes as it may
 abbrev pub EndsWithin : {X : Type 0} → (X → ChannelQueues) → Lane X → Type 0
-EndsWithin queues lane = IsOverAt (queues lane.channel).limit lane.ended
+EndsWithin queues lane = IsOverAt (queues lane.channel).nodes lane.ended
 
--- .. which is that limit
-abbrev pub IsLaneWithin : {X : Type 0} → (X → ChannelQueues) → ℕ → Lane X → Type 0
-IsLaneWithin queues limit lane = ((queues lane.channel).limit ≡ limit) × EndsWithin queues lane
+-- .. which are so many
+abbrev pub IsLaneWithin : {X : Type 0} → (X → ChannelQueues) → Option ℕ → Lane X → Type 0
+IsLaneWithin queues nodes lane = ((queues lane.channel).nodes ≡ nodes) × EndsWithin queues lane
 
 -- what hosts leave of a channel as it is
 abbrev pub lane_key : {X : Type 0} → (X → ChannelQueues) → Lane X → ChannelQueues × ChannelEnd

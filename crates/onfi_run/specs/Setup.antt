@@ -3,12 +3,6 @@ use Rattle.std.specs.Prelude.{◌≡◌, ℕ, List, Option, Some}
 use Rattle.onfi_group.specs.declared.rules.Rules.{Rules}
 use Rattle.onfi_core.specs.declared.setup.Setup.{Setup}
 use Rattle.onfi_core.specs.declared.setup.Choice.{Choice}
-use Rattle.onfi_core.specs.declared.setup.Choice.TheVariants as choice
-use Rattle.onfi_core.specs.declared.setup.Replanning.{Replanning}
-use Rattle.onfi_core.specs.declared.setup.Replanning.TheVariants as replanning
-use Rattle.onfi_script.specs.declared.replans.Replans.TheVariants.{Lazily}
-use Rattle.onfi_script.specs.declared.choosing.Choosing.TheVariants.{ByLun, ReadsFirst, WholeGroups}
-use Rattle.onfi_script.specs.declared.row.Row.TheVariants as row
 use Rattle.onfi_script.specs.declared.device.PageDevice.{PageDevice}
 use Rattle.onfi_script.specs.declared.row.Row.{Row}
 use Rattle.onfi_script.specs.declared.row.Row.TheVariants.{Channels, Hosts, Batch, SubmitCap, PostCap}
@@ -29,18 +23,6 @@ abbrev pub batch_from : Option Row → ℕ
 batch_from (Some (Batch count)) = count
 batch_from _ = 8
 
--- in order where no row says
-abbrev pub choice_from : Option Row → Choice
-choice_from (Some (row.Choice ByLun)) = choice.ByLun
-choice_from (Some (row.Choice ReadsFirst)) = choice.ReadsFirst
-choice_from (Some (row.Choice WholeGroups)) = choice.WholeGroups
-choice_from _ = choice.InOrder
-
--- at once where no row says
-abbrev pub replanning_from : Option Row → Replanning
-replanning_from (Some (row.Replanning Lazily)) = replanning.Lazily
-replanning_from _ = replanning.AtOnce
-
 abbrev pub submit_cap_from : Option Row → ℕ
 submit_cap_from (Some (SubmitCap count)) = count
 submit_cap_from _ = 64
@@ -58,12 +40,6 @@ hosts_in rows = hosts_from (row_on on.Hosts rows)
 abbrev pub batch_in : List Row → ℕ
 batch_in rows = batch_from (row_on on.Batch rows)
 
-abbrev pub choice_in : List Row → Choice
-choice_in rows = choice_from (row_on on.Choice rows)
-
-abbrev pub replanning_in : List Row → Replanning
-replanning_in rows = replanning_from (row_on on.Replanning rows)
-
 abbrev pub submit_cap_in : List Row → ℕ
 submit_cap_in rows = submit_cap_from (row_on on.SubmitCap rows)
 
@@ -78,7 +54,7 @@ pub record AreRules (rows : List Row) (device : PageDevice) (rules : Rules) : Ty
   pub plane_bits : rules.plane_bits ≡ device.geometry.plane_address_bits
 
 -- the rows set this up on the device; there are always four hosts, and one that isn't used sends nothing
-pub record SetsUp (rows : List Row) (device : PageDevice) (most : ℕ) (setup : Setup) : Type 0 where
+pub record SetsUp (rows : List Row) (device : PageDevice) (most : ℕ) (by : Choice) (setup : Setup) : Type 0 where
   pub geometry : setup.geometry ≡ device.geometry
   pub timing : setup.timing ≡ device.timing
   pub rules : AreRules rows device setup.rules
@@ -88,5 +64,4 @@ pub record SetsUp (rows : List Row) (device : PageDevice) (most : ℕ) (setup : 
   pub submit_cap : setup.submit_cap ≡ submit_cap_in rows
   pub post_cap : setup.post_cap ≡ post_cap_in rows
   pub limit : setup.limit ≡ most
-  pub choice : setup.choice ≡ choice_in rows
-  pub replanning : setup.replanning ≡ replanning_in rows
+  pub choice : setup.choice ≡ by

@@ -1,5 +1,5 @@
 -- What a report says of the rows that were run.
-use Rattle.std.specs.Prelude.{◌≡◌, ℕ, Bool, true, false, List, [], ◌∷◌, length, map, IfSome, Some}
+use Rattle.std.specs.Prelude.{◌≡◌, ℕ, Bool, true, false, List, [], ◌∷◌, length, map, IfSome, Option, Some}
 use Rattle.std.specs.Option.{is_some}
 use Rattle.std.specs.List.{AllByRecursion as Each}
 use Rattle.onfi_timing.specs.declared.operation.Operation.TheVariants.{Read, Program, Erase}
@@ -40,12 +40,12 @@ abbrev pub Tells : Bool → ℕ → List (List Port) → List BusUse → ReportV
 Tells true now ports buses report = TellsClock now ports buses report
 Tells false now ports buses report = IsGathered now ports (length buses) report
 
--- Of each of four hosts there is, by channel, a place for each of its operations there, in the order of their rows, with its kind and when it arrives, and in it nothing or an answer that suits that operation, collected no sooner than the operation was submitted. Where the status is 0 each place has its answer. A channel is over where a planning opened as many nodes as the limit says. Moments are given where the run has a clock.
-pub record IsReportOf (clocked : Bool) (limit : ℕ) (rows : List Row) (report : ReportView) : Type 0 where
+-- Of each of four hosts there is, by channel, a place for each of its operations there, in the order of their rows, with its kind and when it arrives, and in it nothing or an answer that suits that operation, collected no sooner than the operation was submitted. Where the status is 0 each place has its answer. A channel is over where a planning opened as many nodes as it may, and none is where nothing is planned. Moments are given where the run has a clock.
+pub record IsReportOf (clocked : Bool) (nodes : Option ℕ) (rows : List Row) (report : ReportView) : Type 0 where
   pub places_are : map places_by_channel report.got ≡ map (expected_of rows (channels_in rows)) (0 ∷ 1 ∷ 2 ∷ 3 ∷ [])
   pub ends_are : length report.ends ≡ channels_in rows
   pub suited : Each (Each (Each IsSuited)) report.got
-  pub over_at : Each (IsOverAt limit) report.ends
+  pub over_at : Each (IsOverAt nodes) report.ends
   pub clock_is : is_some report.clock ≡ clocked
   pub clock_tells : IfSome report.clock (IsClockOf report)
   pub complete : status_of report.short_of_memory report.ends ≡ 0 → Each (Each IsComplete) report.got

@@ -30,7 +30,7 @@ pub trait Channel {
     ghost use Rattle.onfi_run.specs.declared.progress.Progress.{Progress};
     ghost use Rattle.onfi_run.specs.Keys.{ChannelQueues};
 
-    /// The queues whose ends it holds, and how many nodes a planning of it may open.
+    /// The queues whose ends it holds, and how many nodes a planning of it may open, if any is made.
     ghost queues: { Self → ChannelQueues };
 
     /// Whether memory was refused to one of its turns.
@@ -52,7 +52,7 @@ pub trait Channel {
     fn turn<R: Wait>(&mut self, rt: &R, alloc: Global, now: u64) -> Progress
         ensures turned { proceeds now self.old result self.new }
         ensures same { queues self.new ≡ queues self.old }
-        ensures over { IsTurnOverAt (queues self.old).limit result }
+        ensures over { IsTurnOverAt (queues self.old).nodes result }
         ensures refused { IsTrue (is_refusal result) → IsTrue (short self.new) }
         ensures short { IsTrue (short self.old) → IsTrue (short self.new) };
 
@@ -75,7 +75,7 @@ pub trait Channel {
         requires { AreEnds (queues self.old) hosts.now inboxes.old }
         ensures drained { drains self.old hosts.now inboxes.old result self.new inboxes.new }
         ensures same { queues self.new ≡ queues self.old }
-        ensures over { IsOverAt (queues self.old).limit result.end }
+        ensures over { IsOverAt (queues self.old).nodes result.end }
         ensures inboxes { queues_of inboxes.new ≡ queues_of inboxes.old }
         ensures short { IsTrue (short self.old) → IsTrue result.short_of_memory };
 

@@ -1,5 +1,5 @@
 //! The end of a run: channels are drained, inboxes emptied, and all ends closed.
-ghost use Rattle.std.specs.Prelude.{◌≡◌, ◌≤◌, ◌++◌, ◌||◌, ℕ, [], ◌∷◌, length, IfOk, IsTrue, map};
+ghost use Rattle.std.specs.Prelude.{◌≡◌, ◌≤◌, ◌++◌, ◌||◌, ℕ, Option, [], ◌∷◌, length, IfOk, IsTrue, map};
 ghost use Rattle.std.specs.List.{list_any, zip, AllZip, AllByRecursion as Each};
 ghost use Rattle.onfi_run.specs.Answers.{AddsReplies, IsSuited};
 ghost use Rattle.onfi_run.specs.ByHost.{with_each};
@@ -113,7 +113,7 @@ fn conclude(
     ensures got { result.got ≡ got }
     ensures finished { IsFinished result }
     ensures end { result.end ≡ spec.channel_end drained.end thread (spec_are_complete got) result.short_of_memory }
-    ensures over { (limit : ℕ) → IsOverAt limit drained.end → IsOverAt limit thread → IsOverAt limit result.end }
+    ensures over { (nodes : Option ℕ) → IsOverAt nodes drained.end → IsOverAt nodes thread → IsOverAt nodes result.end }
     ensures short { result.short_of_memory ≡ (short_of_memory || drained.short_of_memory) }
 {
     let short_of_memory = either(short_of_memory, drained.short_of_memory);
@@ -152,7 +152,7 @@ fn close_channel<R: Wait, C: Channel + Drop>(
     ensures got { AllZip (AddsReplies now) (map (λ p. p.answers) ports) result.got }
     ensures finished { IsFinished result }
     ensures concludes { Concludes (λ d inboxes. (after : C) × C.drains lane.channel (map (λ p. p.host) ports) (map (λ p. p.inbox) ports) d after inboxes) now lane.ended short_of_memory (map (λ p. p.answers) ports) result }
-    ensures over { EndsWithin C.queues lane → IsOverAt (C.queues lane.channel).limit result.end }
+    ensures over { EndsWithin C.queues lane → IsOverAt (C.queues lane.channel).nodes result.end }
     ensures short { IsTrue (short_of_memory || C.short lane.channel) → IsTrue result.short_of_memory }
 {
     let Lane {
@@ -244,7 +244,7 @@ fn gather<R: Wait, C: Channel + Drop>(
 ) -> Result<Report, AllocError>
     requires { AreLinked (map (λ l. C.queues l.channel) lanes.items) stations }
     ensures gathered { IfOk result (λ report. IsGathered now (ports_of stations) (length lanes.items) report) }
-    ensures over { IfOk result (λ report. (limit : ℕ) → Each (IsLaneWithin C.queues limit) lanes.items → Each (IsOverAt limit) report.ends) }
+    ensures over { IfOk result (λ report. (nodes : Option ℕ) → Each (IsLaneWithin C.queues nodes) lanes.items → Each (IsOverAt nodes) report.ends) }
     ensures short { IfOk result (λ report. IsTrue short_of_memory → IsTrue report.short_of_memory) }
     ensures refused { IfOk result (λ report. Each (λ l. IsTrue (C.short l.channel) → IsTrue report.short_of_memory) lanes.items) }
 {
@@ -268,7 +268,7 @@ pub(crate) fn finish_all<R: Wait, C: Channel + Drop>(
 ) -> Result<Report, AllocError>
     requires { AreLinked (map (λ l. C.queues l.channel) lanes.items) stations }
     ensures gathered { IfOk result (λ report. IsGathered now (ports_of stations) (length lanes.items) report) }
-    ensures over { IfOk result (λ report. (limit : ℕ) → Each (IsLaneWithin C.queues limit) lanes.items → Each (IsOverAt limit) report.ends) }
+    ensures over { IfOk result (λ report. (nodes : Option ℕ) → Each (IsLaneWithin C.queues nodes) lanes.items → Each (IsOverAt nodes) report.ends) }
     ensures short { IfOk result (λ report. IsTrue (list_any (λ s. s.short_of_memory) stations) → IsTrue report.short_of_memory) }
     ensures refused { IfOk result (λ report. Each (λ l. IsTrue (C.short l.channel) → IsTrue report.short_of_memory) lanes.items) }
 {

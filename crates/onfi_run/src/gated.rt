@@ -69,8 +69,9 @@ impl<P: Planner + Drop, G: Gate + Drop> Channel for Gated<P, G> {
     ghost use Rattle.onfi_seq.specs.Drained.{poster_queues};
     ghost use Rattle.onfi_seq.specs.Sequencer.{seen_in};
     ghost use Rattle.onfi_run.specs.Ending.{DrainsTo, Proceeds};
+    ghost use Rattle.onfi_run.specs.Opening.{nodes_in};
 
-    ghost queues = { λ c. record { requests = c.sequencer.0.intake.queue; replies = poster_queues c.sequencer.0.posters; limit = c.sequencer.0.setup.limit } };
+    ghost queues = { λ c. record { requests = c.sequencer.0.intake.queue; replies = poster_queues c.sequencer.0.posters; nodes = nodes_in c.sequencer.0.setup } };
 
     ghost short = { λ c. c.sequencer.0.short };
 

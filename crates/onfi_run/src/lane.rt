@@ -62,7 +62,7 @@ impl<C: Channel> Lane<C> {
     fn step<R: Wait>(&mut self, rt: &R, alloc: Global, board: &Board) -> Option<ChannelEnd>
         ensures ended { (p : AProgress) × (all_ended : Bool) × C.proceeds 18446744073709551615 self.old.channel p self.new.channel × (result ≡ thread_end (is_spent self.old.refusals) all_ended p) }
         ensures same { C.queues self.new.channel ≡ C.queues self.old.channel }
-        ensures over { IfSome result (IsOverAt (C.queues self.old.channel).limit) }
+        ensures over { IfSome result (IsOverAt (C.queues self.old.channel).nodes) }
         ensures short { IsTrue (C.short self.old.channel) → IsTrue (C.short self.new.channel) }
     {
         let progress = self.channel.turn(rt, alloc, NO_CLOCK);

@@ -32,6 +32,7 @@ mod stated;
 mod station;
 mod text;
 mod threads;
+mod way;
 
 pub use answers::{Answers, Got};
 pub use bus_use::BusUse;
@@ -52,3 +53,4 @@ pub use running::{run_freely, run_script, run_script_by};
 pub use setup::setup_of;
 pub use stated::StatedDevice;
 pub use text::report_answer;
+pub use way::Way;

@@ -19,8 +19,9 @@ use crate::port::Port;
 use crate::setup::setup_of;
 use crate::stated::StatedDevice;
 use crate::station::{Station, split_hosts};
+use crate::way::Way;
 use onfi_core::Setup;
-use onfi_plan::{Limit, Planner};
+use onfi_plan::Planner;
 use onfi_queue::{Host, Intake};
 use onfi_reply::{Inbox, Poster};
 use onfi_script::Row;
@@ -239,9 +240,9 @@ impl<P: Planner + Copy + Drop, G: Gate + Drop> Stage<P, G> {
         stage.with_channel(lane, ports)
     }
 
-    /// The channels that the rows set up on the device, and their hosts. Each channel plans by a copy of `planner`, since
-    /// nothing else here is of its type, with at most `limit` nodes for one planning; gate i is that of channel i, and
-    /// gates of channels that aren't there are dropped.
+    /// The channels that the rows set up on the device, and their hosts. Each channel goes that way, by a copy of its
+    /// planner, since nothing else here is of its type; gate i is that of channel i, and gates of channels that aren't
+    /// there are dropped.
     ///
     /// # Errors
     /// Where memory was refused.
@@ -249,19 +250,18 @@ impl<P: Planner + Copy + Drop, G: Gate + Drop> Stage<P, G> {
         alloc: Global,
         rows: &[Row],
         device: &StatedDevice,
-        planner: P,
-        limit: Limit,
+        way: Way<P>,
         gates: Vec<G>,
     ) -> Result<Stage<P, G>, AllocError>
         requires gates { length gates.items ≡ 4 }
-        ensures opened { IfOk result (λ s. AreOpenedOn rows.now device.now.chips limit gates.items s.lanes.items) }
+        ensures opened { IfOk result (λ s. AreOpenedOn rows.now device.now.chips way gates.items s.lanes.items) }
         ensures linked { IfOk result (λ s. AreLinked (map lane_queues s.lanes.items) s.stations) }
         ensures new { IfOk result (λ s. AreNew rows.now (channels_in rows.now) s.stations) }
         ensures count { IfOk result (λ s. length s.lanes.items ≡ channels_in rows.now) }
     {
-        let setup = setup_of(rows, device, limit);
+        let setup = setup_of(rows, device, way.limit, way.choice);
         let mut gates = gates;
         gates.truncate(usize::from(setup.channels));
-        Stage::open_each(alloc, setup, rows, planner, gates)
+        Stage::open_each(alloc, setup, rows, way.planner, gates)
     }
 }

@@ -1,9 +1,9 @@
 //! From the bytes of an input to the bytes of its answer.
-ghost use Rattle.std.specs.Prelude.{◌≡◌, ◌≤◌, ℕ, length, map, IfOk, false};
+ghost use Rattle.std.specs.Prelude.{◌≡◌, ◌≤◌, ℕ, Option, Some, length, map, IfOk, false};
 ghost use Rattle.std.specs.List.{AllByRecursion as Each};
 ghost use Rattle.onfi_run.specs.declared.gated.Gated.{Gated as AGated};
 ghost use Rattle.onfi_run.specs.declared.simulation.Settled.{Settled as ASettled};
-ghost use Rattle.onfi_run.specs.Ending.{IsOverAt};
+ghost use Rattle.onfi_run.specs.Ending.{IsOverAt, nodes_by};
 ghost use Rattle.onfi_run.specs.Opening.{AreBehind, IsWithin, lane_queues};
 ghost use Rattle.onfi_run.specs.Pace.{IsLaneWithin};
 ghost use Rattle.std.specs.Io.KnownBytes.{Keeps};
@@ -24,6 +24,7 @@ use crate::report::Report;
 use crate::simulation::{Settled, buses_of, simulate};
 use crate::text::report_answer;
 use crate::threads::run_threads;
+use crate::way::Way;
 use onfi_plan::{Limit, PlainPlanner, Planner};
 use onfi_script::{
     Answer, EngineFault, InputFault, Purpose, Stop, answer_refusal, read_all, write_with_status,
@@ -66,7 +67,7 @@ fn report_of<R: Wait, C: Channel + Drop>(
 ) -> Result<Report, AllocError>
     requires { AreLinked (map (λ l. C.queues l.channel) settled.lanes.items) settled.stations }
     ensures tells { IfOk result (λ report. Tells clocked settled.now (ports_of settled.stations) (map (λ l. l.pace.bus) settled.lanes.items) report) }
-    ensures over { IfOk result (λ report. (limit : ℕ) → Each (IsLaneWithin C.queues limit) settled.lanes.items → Each (IsOverAt limit) report.ends) }
+    ensures over { IfOk result (λ report. (nodes : Option ℕ) → Each (IsLaneWithin C.queues nodes) settled.lanes.items → Each (IsOverAt nodes) report.ends) }
 {
     let Settled {
         lanes,
@@ -85,19 +86,18 @@ fn report_of<R: Wait, C: Channel + Drop>(
 fn run<R: Threads + Wait + Sync, P: Planner + Copy + Send + Drop, G: Gate + Send + Drop>(
     rt: &R,
     alloc: Global,
-    planner: P,
-    limit: Limit,
+    way: Way<P>,
     clocked: bool,
     gates: Vec<G>,
     prepared: &Prepared,
 ) -> Result<Report, AllocError>
     requires gates { length gates.items ≡ 4 }
-    ensures report { IfOk result (λ report. IsReportOf clocked limit prepared.now.rows.items report) }
-    ensures tells { IfOk result (λ report. (settled : ASettled (AGated P G)) × AreBehind prepared.now.rows.items prepared.now.device.chips limit gates.items settled.lanes.items
+    ensures report { IfOk result (λ report. IsReportOf clocked (nodes_by way.choice way.limit) prepared.now.rows.items report) }
+    ensures tells { IfOk result (λ report. (settled : ASettled (AGated P G)) × AreBehind prepared.now.rows.items prepared.now.device.chips way gates.items settled.lanes.items
         × (clocked ≡ false → settled.now ≡ 0) × Tells clocked settled.now (ports_of settled.stations) (map (λ l. l.pace.bus) settled.lanes.items) report) }
 {
     let rows = prepared.rows.as_slice();
-    let stage = Stage::open(alloc, rows, &prepared.device, planner, limit, gates)?;
+    let stage = Stage::open(alloc, rows, &prepared.device, way, gates)?;
     let course = Course {
         alloc,
         geometry: &prepared.device.chips.geometry,
@@ -121,18 +121,17 @@ fn purpose_of(clocked: bool) -> Purpose
 fn answer<R: Threads + Wait + Sync, P: Planner + Copy + Send + Drop, G: Gate + Send + Drop>(
     rt: &R,
     alloc: Global,
-    planner: P,
-    limit: Limit,
+    way: Way<P>,
     clocked: bool,
     gates: Vec<G>,
     input: &[u8],
 ) -> Result<Answer, AllocError>
     requires gates { length gates.items ≡ 4 }
-    ensures { IfOk result (λ a. IsAnswer clocked limit input.now (answer_of a)) }
+    ensures { IfOk result (λ a. IsAnswer clocked (nodes_by way.choice way.limit) input.now (answer_of a)) }
 {
     match prepare_for(alloc, purpose_of(clocked), input) {
         Ok(prepared) => {
-            let report = run(rt, alloc, planner, limit, clocked, gates, &prepared)?;
+            let report = run(rt, alloc, way, clocked, gates, &prepared)?;
             report_answer(alloc, &report)
         }
         Err(Stop::Refused(refusal)) => answer_refusal(alloc, refusal),
@@ -162,20 +161,21 @@ pub fn run_script<R: Threads + Wait + Sync, G: Gate + Send + Drop, I: Read, O: W
     requires some { 1 ≤ limit }
     requires few { limit ≤ 1048576 }
     requires gates { length gates.items ≡ 4 }
-    ensures answer { IfOk result (λ status. Answers false limit (I.remaining reader.old) (O.contents writer.old) (O.contents writer.new) status) }
+    ensures answer { IfOk result (λ status. Answers false (Some limit) (I.remaining reader.old) (O.contents writer.old) (O.contents writer.new) status) }
     ensures unread { result ≡ Err EngineFault.Read → Keeps (O.contents writer.old) (O.contents writer.new) }
-    ensures unwritten { result ≡ Err EngineFault.Write → BeginsAnswer false limit (I.remaining reader.old) (O.contents writer.old) (O.contents writer.new) }
+    ensures unwritten { result ≡ Err EngineFault.Write → BeginsAnswer false (Some limit) (I.remaining reader.old) (O.contents writer.old) (O.contents writer.new) }
 {
-    let limit = Limit::of(limit).unwrap();
-    run_script_by(rt, alloc, PlainPlanner, limit, false, gates, reader, writer)
+    let way = Way::by_plans(PlainPlanner, Limit::of(limit).unwrap());
+    run_script_by(rt, alloc, way, false, gates, reader, writer)
 }
 
-/// What [`run_script`] does, where each channel plans by a copy of `planner`, and where `clocked` all channels and hosts run
-/// by one clock.
+/// What [`run_script`] does, where each channel goes that way, and where `clocked` all channels and hosts run by one clock.
 ///
 /// By a clock, one thread goes from moment to moment: at each, hosts submit and collect what they can and channels make
 /// turns until nothing changes, and what a phase takes of the bus is waited for. So the report rests on the script and the
-/// planner alone, says when each reply was collected, how busy buses were and how long operations took.
+/// way alone, says when each reply was collected, how busy buses were and how long operations took.
+///
+/// A run that goes phase by phase has no channel that is over, so never status 6.
 ///
 /// # Errors
 /// As `run_script`.
@@ -188,24 +188,23 @@ pub fn run_script_by<
 >(
     rt: &R,
     alloc: Global,
-    planner: P,
-    limit: Limit,
+    way: Way<P>,
     clocked: bool,
     gates: Vec<G>,
     reader: &mut I,
     writer: &mut O,
 ) -> Result<u8, EngineFault>
     requires gates { length gates.items ≡ 4 }
-    ensures answer { IfOk result (λ status. Answers clocked limit (I.remaining reader.old) (O.contents writer.old) (O.contents writer.new) status) }
+    ensures answer { IfOk result (λ status. Answers clocked (nodes_by way.choice way.limit) (I.remaining reader.old) (O.contents writer.old) (O.contents writer.new) status) }
     ensures unread { result ≡ Err EngineFault.Read → Keeps (O.contents writer.old) (O.contents writer.new) }
-    ensures unwritten { result ≡ Err EngineFault.Write → BeginsAnswer clocked limit (I.remaining reader.old) (O.contents writer.old) (O.contents writer.new) }
+    ensures unwritten { result ≡ Err EngineFault.Write → BeginsAnswer clocked (nodes_by way.choice way.limit) (I.remaining reader.old) (O.contents writer.old) (O.contents writer.new) }
 {
     let input = match read_all(alloc, reader) {
         Ok(input) => input,
         Err(InputFault::Read) => return Err(EngineFault::Read),
         Err(InputFault::Memory) => return write_with_status(writer, b"memory\n", 4),
     };
-    match answer(rt, alloc, planner, limit, clocked, gates, input.as_slice()) {
+    match answer(rt, alloc, way, clocked, gates, input.as_slice()) {
         Ok(answer) => write_with_status(writer, answer.text.as_slice(), answer.status),
         Err(AllocError) => write_with_status(writer, b"memory\n", 4),
     }
@@ -218,13 +217,12 @@ pub fn run_script_by<
 pub fn run_freely<R: Threads + Wait + Sync, P: Planner + Copy + Send + Drop>(
     rt: &R,
     alloc: Global,
-    planner: P,
-    limit: Limit,
+    way: Way<P>,
     clocked: bool,
     input: &[u8],
 ) -> Result<Answer, AllocError>
-    ensures answer { IfOk result (λ a. IsAnswer clocked limit input.now (answer_of a)) }
+    ensures answer { IfOk result (λ a. IsAnswer clocked (nodes_by way.choice way.limit) input.now (answer_of a)) }
 {
     let gates = no_gates(alloc)?;
-    answer(rt, alloc, planner, limit, clocked, gates, input)
+    answer(rt, alloc, way, clocked, gates, input)
 }

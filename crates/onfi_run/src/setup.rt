@@ -6,10 +6,10 @@ ghost use Rattle.onfi_script.specs.declared.row.Subject.TheVariants as on;
 ghost use Rattle.onfi_run.specs.Setup as spec;
 
 use crate::stated::StatedDevice;
-use onfi_core::{Choice, Replanning, Setup};
+use onfi_core::{Choice, Setup};
 use onfi_group::Rules;
 use onfi_plan::Limit;
-use onfi_script::{Choosing, PageDevice, Replans, Row, Subject, is_strict, row_on};
+use onfi_script::{PageDevice, Row, Subject, is_strict, row_on};
 
 /// How many channels there are.
 pub fn channel_count(rows: &[Row]) -> u8
@@ -44,33 +44,6 @@ fn batch(rows: &[Row]) -> u8
     match row_on(rows, Subject::Batch) {
         Some(Row::Batch { count }) => count.get() as u8,
         _ => 8,
-    }
-}
-
-/// Which wants a plan takes.
-fn choice(rows: &[Row]) -> Choice
-    ensures { result ≡ spec.choice_in rows.now }
-{
-    match row_on(rows, Subject::Choice) {
-        Some(Row::Choice { choosing }) => match choosing {
-            Choosing::ByLun => Choice::ByLun,
-            Choosing::ReadsFirst => Choice::ReadsFirst,
-            Choosing::WholeGroups => Choice::WholeGroups,
-        },
-        _ => Choice::InOrder,
-    }
-}
-
-/// When a plan is made anew.
-fn replanning(rows: &[Row]) -> Replanning
-    ensures { result ≡ spec.replanning_in rows.now }
-{
-    match row_on(rows, Subject::Replanning) {
-        Some(Row::Replanning { replans }) => match replans {
-            Replans::AtOnce => Replanning::AtOnce,
-            Replans::Lazily => Replanning::Lazily,
-        },
-        _ => Replanning::AtOnce,
     }
 }
 
@@ -110,10 +83,10 @@ fn rules(rows: &[Row], device: &PageDevice) -> Rules
     )
 }
 
-/// What the rows set up on their device; one planning opens at most `limit` nodes. There are always four hosts, and one
-/// that isn't used sends nothing.
-pub fn setup_of(rows: &[Row], device: &StatedDevice, limit: Limit) -> Setup
-    ensures { spec.SetsUp rows.now device.now.chips limit result }
+/// What the rows set up on their device, with that choice; one planning opens at most `limit` nodes. There are always four
+/// hosts, and one that isn't used sends nothing.
+pub fn setup_of(rows: &[Row], device: &StatedDevice, limit: Limit, choice: Choice) -> Setup
+    ensures { spec.SetsUp rows.now device.now.chips limit choice result }
 {
     let chips = &device.chips;
     Setup::new(
@@ -128,6 +101,5 @@ pub fn setup_of(rows: &[Row], device: &StatedDevice, limit: Limit) -> Setup
         limit.get(),
     )
     .unwrap()
-    .with_choice(choice(rows))
-    .with_replanning(replanning(rows))
+    .with_choice(choice)
 }

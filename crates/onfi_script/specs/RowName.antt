@@ -8,7 +8,7 @@ use Rattle.onfi_script.specs.declared.purpose.Purpose.TheVariants.{Problem, Run,
 use Rattle.onfi_script.specs.declared.row_name.Form.{Form}
 use Rattle.onfi_script.specs.declared.row_name.Form.TheVariants.{First, Second}
 use Rattle.onfi_script.specs.declared.row_name.RowName.{RowName}
-use Rattle.onfi_script.specs.declared.row_name.RowName.TheVariants.{Shape, Spans, Page, Sheet, Strobe, Bus, Free, Running, Want, Weight, SectorPost, Sector, Sectors, RunSectors, Strict, Channels, Hosts, Batch, SubmitCap, PostCap, Choice, Replanning, Op, OpRead, Fault, ChipFail, NotReady, Array, At, Geometry}
+use Rattle.onfi_script.specs.declared.row_name.RowName.TheVariants.{Shape, Spans, Page, Sheet, Strobe, Bus, Free, Running, Want, Weight, SectorPost, Sector, Sectors, RunSectors, Strict, Channels, Hosts, Batch, SubmitCap, PostCap, Op, OpRead, Fault, ChipFail, NotReady, Array, At, Geometry}
 
 -- the rows that are taken for a run alone
 abbrev pub run_name_of : List ℕ → Option RowName
@@ -16,8 +16,6 @@ run_name_of text =
     if bytes_eq text (codes "channels") then Some Channels
     else (if bytes_eq text (codes "hosts") then Some Hosts
     else (if bytes_eq text (codes "batch") then Some Batch
-    else (if bytes_eq text (codes "choice") then Some Choice
-    else (if bytes_eq text (codes "replanning") then Some Replanning
     else (if bytes_eq text (codes "submitcap") then Some SubmitCap
     else (if bytes_eq text (codes "postcap") then Some PostCap
     else (if bytes_eq text (codes "op") then Some Op
@@ -28,7 +26,7 @@ run_name_of text =
     else (if bytes_eq text (codes "array") then Some Array
     else (if bytes_eq text (codes "at") then Some At
     else (if bytes_eq text (codes "geometry") then Some Geometry
-    else None))))))))))))))
+    else None))))))))))))
 
 -- the rows of reads of some sectors
 abbrev pub sectors_name_of : List ℕ → Option RowName
@@ -145,8 +143,6 @@ has_fields Strict row = length row == 2
 has_fields Channels row = length row == 2
 has_fields Hosts row = length row == 2
 has_fields Batch row = length row == 2
-has_fields Choice row = length row == 2
-has_fields Replanning row = length row == 2
 has_fields SubmitCap row = length row == 2
 has_fields PostCap row = length row == 2
 has_fields At row = length row == 2

@@ -8,13 +8,13 @@ use Rattle.onfi_script.specs.declared.fault.Refusal.{Refusal}
 use Rattle.onfi_script.specs.declared.row.Row.{Row}
 use Rattle.onfi_script.specs.declared.row.Subject.{Subject}
 use Rattle.onfi_script.specs.declared.row_name.RowName.{RowName}
-use Rattle.onfi_script.specs.declared.row_name.RowName.TheVariants.{Shape, Spans, Page, Sheet, Strobe, Bus, Free, Running, Want, Weight, SectorPost, Sector, Sectors, RunSectors, Strict, Channels, Hosts, Batch, SubmitCap, PostCap, Choice, Replanning, Op, OpRead, Fault, ChipFail, NotReady, Array, At, Geometry}
+use Rattle.onfi_script.specs.declared.row_name.RowName.TheVariants.{Shape, Spans, Page, Sheet, Strobe, Bus, Free, Running, Want, Weight, SectorPost, Sector, Sectors, RunSectors, Strict, Channels, Hosts, Batch, SubmitCap, PostCap, Op, OpRead, Fault, ChipFail, NotReady, Array, At, Geometry}
 use Rattle.onfi_script.specs.Field.{given, field}
 use Rattle.onfi_script.specs.RowName.{name_of, is_taken, stands, has_fields}
 use Rattle.onfi_script.specs.Row.{Record, shape_row, spans_row, page_row, sheet_row, strobe_row, bus_row, free_row, running_row, want_row, weight_row, strict_row}
 use Rattle.onfi_script.specs.declared.seen.Seen.{Seen}
 use Rattle.onfi_script.specs.Seen.{seen}
-use Rattle.onfi_script.specs.RunRow.{array_row, at_row, geometry_row, channels_row, hosts_row, batch_row, submit_cap_row, post_cap_row, op_row, op_read_row, fault_row, chip_fail_row, not_ready_row, choice_row, replanning_row}
+use Rattle.onfi_script.specs.RunRow.{array_row, at_row, geometry_row, channels_row, hosts_row, batch_row, submit_cap_row, post_cap_row, op_row, op_read_row, fault_row, chip_fail_row, not_ready_row}
 use Rattle.onfi_script.specs.SectorRow.{sector_post_row, sector_row, sectors_row, run_sectors_row}
 use Rattle.onfi_script.specs.Subject.{subject_of, settles, is_op}
 
@@ -38,8 +38,6 @@ said Strict seen number row = strict_row row
 said Channels seen number row = channels_row row
 said Hosts seen number row = hosts_row row
 said Batch seen number row = batch_row row
-said Choice seen number row = choice_row row
-said Replanning seen number row = replanning_row row
 said SubmitCap seen number row = submit_cap_row row
 said PostCap seen number row = post_cap_row row
 said Op seen number row = op_row row

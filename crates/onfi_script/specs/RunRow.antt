@@ -8,28 +8,9 @@ use Rattle.onfi_script.specs.declared.operation.Aim.{Aim}
 use Rattle.onfi_script.specs.declared.operation.Content.{Content}
 use Rattle.onfi_script.specs.declared.operation.Content.TheVariants.{Given, Filled}
 use Rattle.onfi_script.specs.declared.row.Row.{Row}
-use Rattle.onfi_script.specs.declared.row.Row.TheVariants.{Channels, Hosts, Batch, SubmitCap, PostCap, Op, Fault, ChipFail, NotReady, Array, At, Choice, Replanning, Geometry}
-use Rattle.onfi_script.specs.declared.choosing.Choosing.{Choosing}
-use Rattle.onfi_script.specs.declared.choosing.Choosing.TheVariants.{ByLun, ReadsFirst, WholeGroups}
-use Rattle.onfi_script.specs.declared.replans.Replans.{Replans}
-use Rattle.onfi_script.specs.declared.replans.Replans.TheVariants.{AtOnce, Lazily}
+use Rattle.onfi_script.specs.declared.row.Row.TheVariants.{Channels, Hosts, Batch, SubmitCap, PostCap, Op, Fault, ChipFail, NotReady, Array, At, Geometry}
 use Rattle.onfi_script.specs.Field.{given, field, flag, hex_bytes, number, kind, lun, block, page, span, first_sector, some_sectors}
 use Rattle.onfi_script.specs.Row.{Record}
-
--- by what a batch is chosen
-abbrev pub choosing : List ℕ → Result Choosing ScriptFault
-choosing text =
-    if bytes_eq text (codes "by-lun") then Ok ByLun
-    else (if bytes_eq text (codes "reads-first") then Ok ReadsFirst
-    else (if bytes_eq text (codes "whole-groups") then Ok WholeGroups
-    else Err OutOfRange))
-
--- when a plan is made anew
-abbrev pub replans : List ℕ → Result Replans ScriptFault
-replans text =
-    if bytes_eq text (codes "at-once") then Ok AtOnce
-    else (if bytes_eq text (codes "lazily") then Ok Lazily
-    else Err OutOfRange)
 
 -- the number of a call, below 2^32
 abbrev pub call_number : List ℕ → Result ℕ ScriptFault
@@ -47,12 +28,6 @@ hosts_row row = given (number 1 4 (field row 1)) (λ count. Ok (Hosts count))
 
 abbrev pub batch_row : Record → Result Row ScriptFault
 batch_row row = given (number 1 8 (field row 1)) (λ count. Ok (Batch count))
-
-abbrev pub choice_row : Record → Result Row ScriptFault
-choice_row row = given (choosing (field row 1)) (λ choosing. Ok (Choice choosing))
-
-abbrev pub replanning_row : Record → Result Row ScriptFault
-replanning_row row = given (replans (field row 1)) (λ replans. Ok (Replanning replans))
 
 abbrev pub submit_cap_row : Record → Result Row ScriptFault
 submit_cap_row row = given (number 1 1024 (field row 1)) (λ count. Ok (SubmitCap count))

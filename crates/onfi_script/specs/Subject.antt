@@ -3,7 +3,7 @@ use Rattle.std.specs.Prelude.{◌==◌, ◌&&◌, Bool, true, false, List, Optio
 use Rattle.onfi_timing.specs.declared.kind.Kind.{Kind}
 use Rattle.onfi_timing.specs.declared.kind.Kind.TheVariants.{Read, Program, Erase}
 use Rattle.onfi_script.specs.declared.row.Row.{Row}
-use Rattle.onfi_script.specs.declared.row.Row.TheVariants.{Shape, Spans, Page, Sheet, Strobe, Bus, Free, Running, Want, Weight, SectorPost, Sector, Sectors, RunSectors, Strict, Channels, Hosts, Batch, SubmitCap, PostCap, Choice, Replanning, Op, Fault, ChipFail, NotReady, Array, At, Geometry}
+use Rattle.onfi_script.specs.declared.row.Row.TheVariants.{Shape, Spans, Page, Sheet, Strobe, Bus, Free, Running, Want, Weight, SectorPost, Sector, Sectors, RunSectors, Strict, Channels, Hosts, Batch, SubmitCap, PostCap, Op, Fault, ChipFail, NotReady, Array, At, Geometry}
 use Rattle.onfi_script.specs.declared.row.Subject.{Subject}
 use Rattle.onfi_script.specs.declared.row.Subject.TheVariants as on
 
@@ -26,8 +26,6 @@ subject_of (Strict strict) = Some on.Strict
 subject_of (Channels count) = Some on.Channels
 subject_of (Hosts count) = Some on.Hosts
 subject_of (Batch count) = Some on.Batch
-subject_of (Choice choosing) = Some on.Choice
-subject_of (Replanning replans) = Some on.Replanning
 subject_of (SubmitCap count) = Some on.SubmitCap
 subject_of (PostCap count) = Some on.PostCap
 subject_of (Op op) = None
@@ -63,8 +61,6 @@ is_subject on.Strict on.Strict = true
 is_subject on.Channels on.Channels = true
 is_subject on.Hosts on.Hosts = true
 is_subject on.Batch on.Batch = true
-is_subject on.Choice on.Choice = true
-is_subject on.Replanning on.Replanning = true
 is_subject on.SubmitCap on.SubmitCap = true
 is_subject on.PostCap on.PostCap = true
 is_subject on.Geometry on.Geometry = true

@@ -5,14 +5,12 @@ ghost use Rattle.onfi_script.specs.Device.{bytes_in, is_page};
 ghost use Rattle.onfi_script.specs.Setup.{is_beyond, names_absent, want_in};
 ghost use Rattle.onfi_script.specs.Subject.{subject_of, settles, is_subject, is_kind, is_op};
 
-use crate::choosing::Choosing;
 use crate::count::Count;
 use crate::device::Device;
 use crate::device_row::{PageRow, ShapeRow, SpansRow};
 use crate::layout::GeometryRow;
 use crate::operation::Operation;
 use crate::problem_row::RunningRow;
-use crate::replans::Replans;
 use crate::row_name::Form;
 use crate::sector_row::{RunSectorsRow, SectorPostRow};
 use onfi_addr::plane_at;
@@ -77,14 +75,6 @@ pub enum Row {
     Batch {
         count: Count<8>,
     },
-    /// By what a batch is chosen; without such a row it is taken in order.
-    Choice {
-        choosing: Choosing,
-    },
-    /// When a plan is made anew; without such a row at once.
-    Replanning {
-        replans: Replans,
-    },
     /// How many items a submission queue holds.
     SubmitCap {
         count: Count<1024>,
@@ -144,8 +134,6 @@ pub enum Subject {
     Channels,
     Hosts,
     Batch,
-    Choice,
-    Replanning,
     SubmitCap,
     PostCap,
     /// An operation of an array.
@@ -175,8 +163,6 @@ impl Row {
             Row::Channels { .. } => Some(Subject::Channels),
             Row::Hosts { .. } => Some(Subject::Hosts),
             Row::Batch { .. } => Some(Subject::Batch),
-            Row::Choice { .. } => Some(Subject::Choice),
-            Row::Replanning { .. } => Some(Subject::Replanning),
             Row::SubmitCap { .. } => Some(Subject::SubmitCap),
             Row::PostCap { .. } => Some(Subject::PostCap),
             Row::Op(_)
@@ -335,8 +321,6 @@ impl Subject {
             | (Subject::Channels, Subject::Channels)
             | (Subject::Hosts, Subject::Hosts)
             | (Subject::Batch, Subject::Batch)
-            | (Subject::Choice, Subject::Choice)
-            | (Subject::Replanning, Subject::Replanning)
             | (Subject::SubmitCap, Subject::SubmitCap)
             | (Subject::PostCap, Subject::PostCap)
             | (Subject::Geometry, Subject::Geometry) => true,

@@ -27,8 +27,6 @@ pub enum RowName {
     Channels,
     Hosts,
     Batch,
-    Choice,
-    Replanning,
     SubmitCap,
     PostCap,
     Op,
@@ -121,10 +119,6 @@ impl RowName {
             Some(RowName::Hosts)
         } else if is_word(text, "batch") {
             Some(RowName::Batch)
-        } else if is_word(text, "choice") {
-            Some(RowName::Choice)
-        } else if is_word(text, "replanning") {
-            Some(RowName::Replanning)
         } else if is_word(text, "submitcap") {
             Some(RowName::SubmitCap)
         } else if is_word(text, "postcap") {
@@ -257,8 +251,6 @@ impl RowName {
             | RowName::Channels
             | RowName::Hosts
             | RowName::Batch
-            | RowName::Choice
-            | RowName::Replanning
             | RowName::SubmitCap
             | RowName::PostCap
             | RowName::At => count == 2,

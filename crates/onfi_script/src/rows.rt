@@ -18,8 +18,8 @@ use crate::purpose::Purpose;
 use crate::row::{Row, Subject};
 use crate::row_name::RowName;
 use crate::run_row::{
-    array_row, at_row, batch_row, channels_row, chip_fail_row, choice_row, fault_row, hosts_row,
-    not_ready_row, op_read_row, op_row, post_cap_row, replanning_row, submit_cap_row,
+    array_row, at_row, batch_row, channels_row, chip_fail_row, fault_row, hosts_row, not_ready_row,
+    op_read_row, op_row, post_cap_row, submit_cap_row,
 };
 use crate::sector_row::{run_sectors_row, sector_post_row, sector_row, sectors_row};
 use crate::seen::Seen;
@@ -56,8 +56,6 @@ fn read_row(
         RowName::Channels => Ok(channels_row(fields)?),
         RowName::Hosts => Ok(hosts_row(fields)?),
         RowName::Batch => Ok(batch_row(fields)?),
-        RowName::Choice => Ok(choice_row(fields)?),
-        RowName::Replanning => Ok(replanning_row(fields)?),
         RowName::SubmitCap => Ok(submit_cap_row(fields)?),
         RowName::PostCap => Ok(post_cap_row(fields)?),
         RowName::Op => op_row(alloc, fields),

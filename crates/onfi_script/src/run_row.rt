@@ -5,7 +5,6 @@ ghost use Rattle.onfi_script.specs.Field.{number as number_of};
 ghost use Rattle.onfi_script.specs.RunRow as spec;
 ghost use Rattle.onfi_script.specs.Stop.{Gives, IfFault};
 
-use crate::choosing::Choosing;
 use crate::count::Count;
 use crate::fault::{RowStop, ScriptFault};
 use crate::field::{
@@ -13,7 +12,6 @@ use crate::field::{
     some_sectors,
 };
 use crate::operation::{Aim, Content, Operation};
-use crate::replans::Replans;
 use crate::row::Row;
 use csv::ByteRecord;
 use onfi_addr::Place;
@@ -27,34 +25,6 @@ fn count<const MOST: u16>(text: &[u8]) -> Result<Count<MOST>, ScriptFault>
 {
     let count = number(text, 1, u64::from(MOST))?;
     Ok(Count::of(count as u16))
-}
-
-/// By what a batch is chosen.
-fn read_choice(text: &[u8]) -> Result<Choosing, ScriptFault>
-    ensures { result ≡ spec.choosing text.now }
-{
-    if is_word(text, "by-lun") {
-        Ok(Choosing::ByLun)
-    } else if is_word(text, "reads-first") {
-        Ok(Choosing::ReadsFirst)
-    } else if is_word(text, "whole-groups") {
-        Ok(Choosing::WholeGroups)
-    } else {
-        Err(ScriptFault::OutOfRange)
-    }
-}
-
-/// When a plan is made anew.
-fn replans(text: &[u8]) -> Result<Replans, ScriptFault>
-    ensures { result ≡ spec.replans text.now }
-{
-    if is_word(text, "at-once") {
-        Ok(Replans::AtOnce)
-    } else if is_word(text, "lazily") {
-        Ok(Replans::Lazily)
-    } else {
-        Err(ScriptFault::OutOfRange)
-    }
 }
 
 /// The number of a call, from 0.
@@ -94,22 +64,6 @@ pub fn batch_row(row: &ByteRecord) -> Result<Row, ScriptFault>
 {
     let count = count(field(row, 1))?;
     Ok(Row::Batch { count })
-}
-
-/// `choice,by-lun`, `choice,reads-first` or `choice,whole-groups`
-pub fn choice_row(row: &ByteRecord) -> Result<Row, ScriptFault>
-    ensures { result ≡ spec.choice_row (fields_of row.now) }
-{
-    let choosing = read_choice(field(row, 1))?;
-    Ok(Row::Choice { choosing })
-}
-
-/// `replanning,at-once` or `replanning,lazily`
-pub fn replanning_row(row: &ByteRecord) -> Result<Row, ScriptFault>
-    ensures { result ≡ spec.replanning_row (fields_of row.now) }
-{
-    let replans = replans(field(row, 1))?;
-    Ok(Row::Replanning { replans })
 }
 
 /// `submitcap,N`

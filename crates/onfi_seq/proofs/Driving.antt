@@ -1,5 +1,5 @@
 -- A half with its chip: what its calls come to, and what they keep.
-use Rattle.std.proofs.Common.{◌≡◌, ℕ, ◌≤◌, List, [], ◌∷◌, ◌++◌, None, Option, Result, Ok, Err, IfOk, IfErr, refl, sym, ap, ◌∙◌, subst, arith}
+use Rattle.std.proofs.Common.{◌≡◌, ℕ, ◌<◌, ◌≤◌, ◌^◌, List, [], ◌∷◌, ◌++◌, None, Option, Result, Ok, Err, IfOk, IfErr, refl, sym, ap, ◌∙◌, subst, arith}
 use Rattle.std.specs.Prelude.{IfSome, replicate}
 use Rattle.std.specs.List.{filter}
 use Rattle.onfi_addr.specs.declared.geometry.Geometry.{Geometry}
@@ -15,17 +15,18 @@ use Rattle.onfi_core.specs.declared.drive.PhaseStop.{PhaseStop}
 use Rattle.onfi_core.specs.declared.drive.PhaseStop.TheVariants as phase
 use Rattle.onfi_core.specs.declared.outcome.Outcome.{Outcome}
 use Rattle.onfi_core.specs.declared.setup.Setup.{Setup}
-use Rattle.onfi_flight.specs.Flight.{left_behind, move_of}
-use Rattle.onfi_core.specs.Dues.{IsDue}
+use Rattle.onfi_flight.specs.Flight.{move_of}
+use Rattle.onfi_core.specs.Dues.{IsDue, left_by}
 use Rattle.onfi_core.specs.Kept.{first_half}
 use Rattle.onfi_core.specs.Queues.{IsFresh}
 use Rattle.onfi_core.specs.Reaching.{Reaches}
 use Rattle.onfi_core.specs.Refusals.{phase_outcome, planned_outcome}
 use Rattle.onfi_core.specs.State.{HalfState, ChannelState, Planning, channel_with, is_to, quiet}
-use Rattle.onfi_core.specs.Steps.{GoesOut, Step, accept_refusal}
-use Rattle.onfi_core.specs.View.{HalfView, IsKeptByPhase, IsOldest, PlannedAs, RefusedAs, accepting}
+use Rattle.onfi_core.specs.Steps.{GoesOut, Step, accept_refusal, accepting}
+use Rattle.onfi_core.specs.View.{HalfView, IsKeptByPhase, IsOldest, PlannedAs, RefusedAs}
 use Rattle.onfi_core.specs.View.{IsNext as IsHostsNext}
 use Rattle.onfi_core.proofs.HeldFor.{next_behind}
+use Rattle.onfi_core.proofs.Stepping.{due_of}
 use Rattle.onfi_core.proofs.Reaching.{accepting_reached, batch_reached, events_reach, opened_reaches, posting_reached, step_reaches}
 use Rattle.onfi_core.proofs.Promised.{planned_last, refused_is}
 use Rattle.onfi_core.proofs.Running.{after_planning, going_before, nothing_posted, refused_alone}
@@ -65,7 +66,11 @@ module _ {C : Type 0} where
 
 -- what is due is what starts next
 pub starts_next : (Such : Planning → Type 0) (s : Setup) (h : HalfState) (chip : Chip) → Reaches Such s (quiet h chip) → (due : Due) → IsDue h due → StartsNext h due.start
-starts_next Such s h chip reached due is = record { move = move_of due; left = left_behind h.left due; next = is.next (events_reach Such s (quiet h chip) reached).0.half.sound.legal }
+starts_next Such s h chip reached due is = record { move = move_of due; left = left_by h.books h.left due; next = (due_of s h due (events_reach Such s (quiet h chip) reached).0.half.sound is).comes }
+
+-- .. before 2^63 ns
+pub due_time : (Such : Planning → Type 0) (s : Setup) (h : HalfState) (chip : Chip) → Reaches Such s (quiet h chip) → (due : Due) → IsDue h due → due.start < 2 ^ 63
+due_time Such s h chip reached due is = (due_of s h due (events_reach Such s (quiet h chip) reached).0.half.sound is).time
 
 -- .. and was due where it ran
 pub runs_by : (now : ℕ) (h : HalfState) (start : ℕ) (result : Ran) → StartsNext h start → start ≤ now → IsAt start result → RunsBy now h result
@@ -77,7 +82,7 @@ runs_by now h start ran.NoPhase next low e = absurd e
 
 -- Accepting, and the batch
 
-pub driven_accepting : (Such : Planning → Type 0) (s : Setup) (lent : Option Reply) (h : HalfState) (chip : Chip) (lanes : List AnyLun) (x : Item) → accept_refusal h ≡ None → IsHostsNext s h x → IsDriven Such s lent h chip lanes → IsDriven Such s lent (accepting h x) chip lanes
+pub driven_accepting : (Such : Planning → Type 0) (s : Setup) (lent : Option Reply) (h : HalfState) (chip : Chip) (lanes : List AnyLun) (x : Item) → accept_refusal h ≡ None → IsHostsNext s h x → IsDriven Such s lent h chip lanes → IsDriven Such s lent (accepting s h x) chip lanes
 driven_accepting Such s lent h chip lanes x room next driven = record {
   settled = driven.settled;
   reached = (accepting_reached Such s h chip x room next).1 driven.reached;
@@ -94,7 +99,7 @@ driven_batch Such s lent h chip lanes batch some few driven = record {
 -- Planning
 
 pub accepted_kept : (old h : HalfView) (result : Result ℕ PlanRefusal) → PlannedAs old h result → RefusedAs old h result → h.state.accepted ≡ old.state.accepted
-accepted_kept old h (Ok finish) (open', taken, plan, e, plans, is) none = ap (λ (v : HalfView). v.state.accepted) is
+accepted_kept old h (Ok finish) (open', plan, e, plans, is) none = ap (λ (v : HalfView). v.state.accepted) is
 accepted_kept old h (Err refusal) none why = ap (λ (x : HalfState). x.accepted) (refused_is old.setup old.state refusal h.state why.0)
 
 pub posted_kept : (old h : HalfView) (chip : Chip) (result : Result ℕ PlanRefusal) → PlannedAs old h result → RefusedAs old h result → h.state.posted ≡ old.state.posted

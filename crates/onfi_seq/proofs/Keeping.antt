@@ -12,7 +12,7 @@ use Rattle.onfi_core.specs.State.{HalfState, Planning, is_from, is_to}
 use Rattle.onfi_core.specs.Steps.{GoesOut}
 use Rattle.onfi_seq.specs.declared.turn.TurnAt.{TurnAt}
 use Rattle.onfi_seq.specs.Drained.{TurnPlans}
-use Rattle.onfi_core.specs.View.{accepting}
+use Rattle.onfi_core.specs.Steps.{accepting}
 use Rattle.onfi_core.specs.Reaching.{Reaches}
 use Rattle.onfi_core.proofs.Opening.{same_element}
 use Rattle.onfi_core.proofs.Promise.{rightful_reached}
@@ -94,7 +94,7 @@ kept_opened s channel intake posters counts hosts fresh_intake fresh_posters zer
 -- An item more
 
 module _ (q : SequencerFields) (counts : List ℕ) (x : Item) (kept : IsKept q counts) where
-  one_more : (counts' : List ℕ) → IsNext q.intake.opened.geometry 4 q.intake.accepted x → counts' ≡ slice_set counts x.host (x.serial + 1) → AreCounts (record q { half = accepting q.half x; intake = after_accepting q.intake x }) counts'
+  one_more : (counts' : List ℕ) → IsNext q.intake.opened.geometry 4 q.intake.accepted x → counts' ≡ slice_set counts x.host (x.serial + 1) → AreCounts (record q { half = accepting q.setup q.half x; intake = after_accepting q.intake x }) counts'
   one_more counts' next set = record {
     hosts = ap length set ∙ length_set counts x.host (x.serial + 1) ∙ kept.counts_are.hosts;
     each = λ host count there.
@@ -106,7 +106,7 @@ module _ (q : SequencerFields) (counts : List ℕ) (x : Item) (kept : IsKept q c
         (λ j n d here. kept.counts_are.each j n here ∙ sym (ap length (from_other x.host j q.half.accepted x refl d))) host count (ap (λ (cs : List ℕ). slice_get cs host) (sym set) ∙ there);
   }
 
-  pub kept_accepting : (counts' : List ℕ) → IsNext q.intake.opened.geometry 4 q.intake.accepted x → counts' ≡ slice_set counts x.host (x.serial + 1) → IsKept (record q { half = accepting q.half x; intake = after_accepting q.intake x }) counts'
+  pub kept_accepting : (counts' : List ℕ) → IsNext q.intake.opened.geometry 4 q.intake.accepted x → counts' ≡ slice_set counts x.host (x.serial + 1) → IsKept (record q { half = accepting q.setup q.half x; intake = after_accepting q.intake x }) counts'
   kept_accepting counts' next set = record {
     hosts = kept.hosts;
     opened = kept.opened;

@@ -1,6 +1,6 @@
 -- Time that passes: what it comes to, and what it keeps.
-use Rattle.std.proofs.Common.{◌≡◌, ℕ, zero, suc, ◌+◌, ◌-◌, ◌^◌, ◌<◌, ◌≤◌, ◌⊎◌, inl, inr, Bool, true, false, List, [], ◌∷◌, ◌++◌, length, take, Option, Some, None, Result, Ok, Err, IfOk, IfErr, refl, sym, ap, ◌∙◌, subst, arith}
-use Rattle.std.specs.Prelude.{IfSome, MatchOption, if◌then◌else◌, OnErr, is_some, map, max, nat_lt, not, slice_get, slice_set}
+use Rattle.std.proofs.Common.{◌≡◌, ℕ, zero, suc, ◌+◌, ◌-◌, ◌^◌, ◌<◌, ◌≤◌, inl, inr, Bool, true, false, List, [], ◌∷◌, ◌++◌, length, take, Option, Some, None, Result, Ok, Err, IfOk, IfErr, refl, sym, ap, ◌∙◌, subst, arith}
+use Rattle.std.specs.Prelude.{IfSome, MatchOption, if◌then◌else◌, OnErr, is_some, map, max, slice_get, slice_set}
 use Rattle.std.specs.List.{flat_map}
 use Rattle.std.proofs.Math.Seq.{take-nil}
 use Rattle.onfi_timing.specs.Phases.{Lengths}
@@ -16,20 +16,17 @@ use Rattle.onfi_core.specs.declared.event.Event.TheVariants as event
 use Rattle.onfi_core.specs.declared.half.passing.WaitRefusal.{WaitRefusal}
 use Rattle.onfi_core.specs.declared.outcome.Outcome.TheVariants as outcome
 use Rattle.onfi_core.specs.declared.setup.Setup.{Setup}
-use Rattle.onfi_core.specs.declared.setup.Choice.{Choice}
-use Rattle.onfi_core.specs.declared.setup.Choice.TheVariants.{InOrder, ByLun, ReadsFirst, WholeGroups}
 use Rattle.onfi_core.specs.Reaching.{Reaches}
 use Rattle.onfi_core.specs.Refusals.{wait_outcome, waited_outcome}
 use Rattle.onfi_core.specs.State.{HalfState, ChannelState, Planning, flight_of, quiet}
-use Rattle.onfi_flight.specs.Flight.{luns_ready_by, ready_by, wait_lag}
-use Rattle.onfi_core.specs.Steps.{Step, has_begun, is_current, is_empty, is_settled, none_left, nothing_to_plan, places_left, readied, ready_of, ready_refusal, taken_next, unplanned, wait_refusal, waited}
+use Rattle.onfi_flight.specs.Flight.{luns_ready_by, ready_by, wait_lag, waited as flight_waited}
+use Rattle.onfi_steady.specs.Waiting.{Books}
+use Rattle.onfi_core.specs.Steps.{Step, is_current, is_empty, left_waited, none_left, none_left_by, none_runs, nothing_to_plan, readied, ready_of, ready_refusal, taken_next, unplanned, wait_refusal, waited}
 use Rattle.onfi_flight.specs.Times.{later_group, later_starts}
-use Rattle.onfi_core.specs.View.{HalfView, WantsBy}
+use Rattle.onfi_core.specs.View.{HalfView}
 use Rattle.onfi_core.proofs.HeldFor.{is_nil}
 use Rattle.onfi_core.proofs.Reaching.{events_reach, step_reaches}
-use Rattle.onfi_core.proofs.Rooms.{few_places, places_idle}
 use Rattle.onfi_core.proofs.Refused.{after_waiting, finds_ready, waiting_posts}
-use Rattle.std.proofs.lemmas.Bool.{cases_Bool}
 use Rattle.onfi_lun.specs.declared.lanes.any_lun.AnyLun.{AnyLun}
 use Rattle.onfi_lun.specs.Lanes.{LanesAgree}
 use Rattle.onfi_seq.specs.declared.turn.TurnAt.{TurnAt}
@@ -134,13 +131,20 @@ groups_back by timing (g ∷ groups) none =
 nil_is : {A : Type 0} (xs : List A) → xs ≡ [] → is_empty xs ≡ true
 nil_is xs none = ap is_empty none
 
-pub waited_none : (moment : ℕ) (h : HalfState) → none_left (waited moment h) ≡ true → none_left h ≡ true
-waited_none moment h over =
+plan_waited : (moment : ℕ) (h : HalfState) → is_empty (phases (waited moment h).now (flight_waited moment (flight_of h)).left) ≡ true → is_empty (phases h.now h.left) ≡ true
+plan_waited moment h over =
     let by = wait_lag moment (flight_of h) in
     let both = none_both (rest_phases h.now.timing 0 h.now.luns (map (later_starts by) h.left.rest)) _ (is_nil _ over) in
     let a = rest_back by h.now.timing 0 h.now.luns h.left.rest both.0 in
     let b = groups_back by h.now.timing h.left.groups both.1 in
     nil_is (phases h.now h.left) (rw (a, b) refl)
+
+pub waited_none : (moment : ℕ) (h : HalfState) → none_left (waited moment h) ≡ true → none_left h ≡ true
+waited_none moment h over = by h.books over
+  where
+    by : (books : Option Books) → none_left_by books (waited moment h).now (left_waited books moment (flight_of h)) ≡ true → none_left_by books h.now h.left ≡ true
+    by None e = plan_waited moment h e
+    by (Some books) e = e
 
 state_ready : (moment : ℕ) (timing : Timing) (lun : ℕ) (x : LunState) (ts : List ℕ) → phases_left timing lun (ready_by moment x) ts ≡ phases_left timing lun x ts
 state_ready moment timing lun (Free since) ts = refl
@@ -162,10 +166,26 @@ luns_ready : (moment : ℕ) (timing : Timing) (lun : ℕ) (luns : List LunState)
 luns_ready moment timing lun luns rest None there = refl
 luns_ready moment timing lun luns rest (Some x) there = set_ready moment timing 0 lun luns rest x there
 
+set_runs : (moment lun : ℕ) (luns : List LunState) (x : LunState) → slice_get luns lun ≡ Some x → none_runs (slice_set luns lun (ready_by moment x)) ≡ none_runs luns
+set_runs moment lun [] x there = refl
+set_runs moment zero (Free since ∷ luns) x there = let same : Free since ≡ x = cc in ap (λ (z : LunState). none_runs (ready_by moment z ∷ luns)) (sym same)
+set_runs moment zero (Running g n r ∷ luns) x there = let same : Running g n r ≡ x = cc in ap (λ (z : LunState). none_runs (ready_by moment z ∷ luns)) (sym same)
+set_runs moment (suc lun) (Free since ∷ luns) x there = set_runs moment lun luns x there
+set_runs moment (suc lun) (Running g n r ∷ luns) x there = refl
+
+ready_runs : (moment lun : ℕ) (luns : List LunState) (o : Option LunState) → slice_get luns lun ≡ o → none_runs (luns_ready_by moment lun o luns) ≡ none_runs luns
+ready_runs moment lun luns None there = refl
+ready_runs moment lun luns (Some x) there = set_runs moment lun luns x there
+
 pub readied_none : (lun : ℕ) (h : HalfState) → none_left (readied lun h) ≡ true → none_left h ≡ true
-readied_none lun h over =
-    let same = luns_ready h.now.bus_free h.now.timing lun h.now.luns h.left.rest (slice_get h.now.luns lun) refl in
-    sym (ap (λ ps. is_empty (ps ++ flat_map (group_phases h.now.timing) h.left.groups)) same) ∙ over
+readied_none lun h over = by h.books over
+  where
+    by : (books : Option Books) → none_left_by books (readied lun h).now h.left ≡ true → none_left_by books h.now h.left ≡ true
+    by None e =
+        let same = luns_ready h.now.bus_free h.now.timing lun h.now.luns h.left.rest (slice_get h.now.luns lun) refl in
+        sym (ap (λ ps. is_empty (ps ++ flat_map (group_phases h.now.timing) h.left.groups)) same) ∙ e
+    by (Some books) e =
+        sym (ap (λ b. if is_empty h.now.wants then b else false) (ready_runs h.now.bus_free lun h.now.luns (slice_get h.now.luns lun) refl)) ∙ e
 
 module _ (old new : HalfView) (now : ℕ) where
   pub waited_luns : (r : Result ℕ WaitRefusal) → WaitedAs old new now r → OnErr r (new ≡ old) → new.state.now.luns ≡ old.state.now.luns
@@ -230,20 +250,11 @@ passes_asked now s s' c mid c' known waited by_then same asked kept still = inr 
 
 -- Why no item is accepted, once time has passed
 
-wants_still : (choice : Choice) (s : Setup) (h : HalfState) (p : Problem) (left : Schedule) (outdated : Bool)
-    → WantsBy choice s (record h { now = p; left = left; outdated = outdated }) → WantsBy choice s h
-wants_still InOrder s h p left outdated wants = wants
-wants_still _ s h p left outdated wants = wants
-
 takes_still : (q : Seen) (p : Problem) (left : Schedule) (outdated : Bool) (chip : Chip) → TakesNothing q
     → TakesNothing (record q.0 { half = record q.0.half { now = p; left = left; outdated = outdated } }, chip)
 takes_still q p left outdated chip t = record {
   before = record { posts = t.before.posts; going = t.before.going };
-  items = elim t.items [
-    | inl full ↦ inl full
-    | inr (inl unwanted) ↦ inr (inl (λ wants. unwanted (wants_still q.0.setup.choice q.0.setup q.0.half p left outdated wants)))
-    | inr (inr empty) ↦ inr (inr empty)
-  ];
+  items = t.items;
 }
 
 module _ (q q' : Seen) (after : q' ≡ (record q.0 { half = q'.0.half }, q'.1)) (kept : channel_of q' ≡ in_time (channel_of q) (channel_of q')) where
@@ -265,56 +276,19 @@ current_is false over is = refl
 taken_none : (s : Setup) (h : HalfState) → taken_next s h ≡ [] → is_current h ≡ true → nothing_to_plan s h ≡ true
 taken_none s h none current = ap (λ (ws : List Want). if is_empty ws then is_current h else false) none ∙ current
 
--- where no phase is left a planning takes what the batch has room for
-abbrev taken_idle : Setup → HalfState → List Want
-taken_idle s h = take (h.batch - length h.now.wants) (unplanned s h)
-
-idle_takes : (s : Setup) (h : HalfState) → none_left h ≡ true → taken_next s h ≡ taken_idle s h
-idle_takes s h over = ap (λ n. take n (unplanned s h)) (places_idle s.choice h over)
-
-pub nothing_before : (s : Setup) (c c' : ChannelState) → c' ≡ in_time c c' → none_left c'.half ≡ true → none_left c.half ≡ true → taken_next s c'.half ≡ [] → nothing_to_plan s c.half ≡ true
-nothing_before s c c' kept later over none =
-    let taken : taken_next s c.half ≡ [] = idle_takes s c.half over ∙ sym (ap (λ (x : ChannelState). taken_idle s x.half) kept) ∙ sym (idle_takes s c'.half later) ∙ none in
+pub nothing_before : (s : Setup) (c c' : ChannelState) → c' ≡ in_time c c' → none_left c.half ≡ true → taken_next s c'.half ≡ [] → nothing_to_plan s c.half ≡ true
+nothing_before s c c' kept over none =
+    let taken : taken_next s c.half ≡ [] = sym (ap (λ (x : ChannelState). taken_next s x.half) kept) ∙ none in
     taken_none s c.half taken (current_is c.half.outdated (none_left c.half) over)
 
--- where nothing is taken nothing is once time has passed: a choice by whole groups that stands stands on
-take_less : {A : Type 0} (xs : List A) (few many : ℕ) → few ≤ many → take many xs ≡ [] → take few xs ≡ []
-take_less [] few many low none = take-nil few
-take_less (x ∷ xs) few zero low none = let z : few ≡ zero = omega (arith, low) in ap (λ n. take n (x ∷ xs)) z
-take_less (x ∷ xs) few (suc many) low none = cc
-
-stands_on : (new begun none none' : Bool) → (none' ≡ true → none ≡ true) → (if new then false else (if begun then false else not none)) ≡ true → (if new then false else (if begun then false else not none')) ≡ true
-stands_on true begun none none' on stands = cc
-stands_on false true none none' on stands = cc
-stands_on false false none false on stands = refl
-stands_on false false none true on stands = let t = on refl in let e : not none ≡ false = ap not t in cc
-
-places_then : (choice : Choice) (c c' : ChannelState) → (none_left (in_time c c').half ≡ true → none_left c.half ≡ true) → (places_left choice (in_time c c').half ≤ places_left choice c.half) ⊎ (places_left choice c.half ≡ c.half.batch - length c.half.now.wants)
-places_then WholeGroups c c' on = elim (cases_Bool (is_settled c.half)) [
-  | inl stands ↦ inl (
-      let stood = stands_on (nat_lt c.half.planned (length c.half.accepted)) (has_begun c.half.last c.half.now.wants) (none_left c.half) (none_left (in_time c c').half) on stands in
-      let none : places_left WholeGroups (in_time c c').half ≡ 0 = ap (λ b. if b then 0 else c.half.batch - length c.half.now.wants) stood in
-      omega arith)
-  | inr falls ↦ inr (ap (λ b. if b then 0 else c.half.batch - length c.half.now.wants) falls)
-]
-places_then InOrder c c' on = inr refl
-places_then ByLun c c' on = inr refl
-places_then ReadsFirst c c' on = inr refl
-
-pub still_nothing : (s : Setup) (c c' : ChannelState) → c' ≡ in_time c c' → (none_left c'.half ≡ true → none_left c.half ≡ true) → taken_next s c.half ≡ [] → taken_next s c'.half ≡ []
-still_nothing s c c' kept on none =
-    let on' = subst (λ (x : ChannelState). none_left x.half ≡ true → none_left c.half ≡ true) kept on in
-    let few = few_places s.choice (in_time c c').half in
-    let taken : taken_next s (in_time c c').half ≡ [] = elim (places_then s.choice c c' on') [
-      | inl low ↦ take_less (unplanned s c.half) (places_left s.choice (in_time c c').half) (places_left s.choice c.half) low none
-      | inr all ↦ take_less (unplanned s c.half) (places_left s.choice (in_time c c').half) (places_left s.choice c.half) (omega (arith, few, all)) none
-    ] in
-    subst (λ (x : ChannelState). taken_next s x.half ≡ []) (sym kept) taken
+-- what a planning takes stays so
+pub still_nothing : (s : Setup) (c c' : ChannelState) → c' ≡ in_time c c' → taken_next s c.half ≡ [] → taken_next s c'.half ≡ []
+still_nothing s c c' kept none = ap (λ (x : ChannelState). taken_next s x.half) kept ∙ none
 
 -- What a turn comes to that takes no item in
 
 none_next : (s : Setup) (h : HalfState) → unplanned s h ≡ [] → taken_next s h ≡ []
-none_next s h none = ap (take (places_left s.choice h)) none ∙ take-nil (places_left s.choice h)
+none_next s h none = ap (take (h.batch - length h.now.wants)) none ∙ take-nil (h.batch - length h.now.wants)
 
 rests_here : (now : ℕ) (q mid : Seen) (answer : TurnAt) (q' : Seen) → RestsAtOnce q mid → Rests mid → Goes now mid answer q' → Goes now q answer q'
 rests_here now q mid answer q' still rests goes =

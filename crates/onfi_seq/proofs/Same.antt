@@ -8,7 +8,7 @@ use Rattle.onfi_core.specs.declared.outcome.Outcome.TheVariants as outcome
 use Rattle.onfi_core.specs.declared.setup.Setup.{Setup}
 use Rattle.onfi_core.specs.State.{ChannelState, HalfState}
 use Rattle.onfi_core.specs.Steps.{StepBy, after_refusal, refusal}
-use Rattle.onfi_core.specs.View.{accepting}
+use Rattle.onfi_core.specs.Steps.{accepting}
 use Rattle.onfi_core.proofs.Running.{run_faults}
 use Rattle.onfi_queue.specs.Ends.{IntakeView, after_accepting}
 use Rattle.onfi_reply.specs.Ends.{PosterView, after_posting}
@@ -103,7 +103,7 @@ stays_by_turn now q turn.Posted q' t =
 stays_by_turn now q (turn.Stopped cause) q' (inl (posts, stopped, is)) = stays_self q q' is
 stays_by_turn now q (turn.Stopped cause) q' (inr t) = stays_then now q (turn.Stopped cause) q' t
 stays_by_turn now q turn.Accepted q' t =
-    stays_but q q' (accepting q.0.half t.item) q.0.refused q.0.short (λ short. short) (after_accepting q.0.intake t.item) q.0.posters q.1 refl refl refl t.after
+    stays_but q q' (accepting q.0.setup q.0.half t.item) q.0.refused q.0.short (λ short. short) (after_accepting q.0.intake t.item) q.0.posters q.1 refl refl refl t.after
 stays_by_turn now q turn.PostFull q' t = stays_going now q turn.PostFull q' t
 stays_by_turn now q turn.Idle q' t = stays_going now q turn.Idle q' t
 stays_by_turn now q answer q' t = stays_then now q answer q' t

@@ -1,6 +1,6 @@
 -- Why a turn does what it does.
 use Rattle.std.proofs.Common.{◌≡◌, ℕ, ◌+◌, ◌<◌, inl, inr, Bool, true, false, List, [], Option, Some, None, refl, sym, ap, ◌∙◌, subst, arith}
-use Rattle.std.specs.Prelude.{IsTrue, not, slice_get, slice_set}
+use Rattle.std.specs.Prelude.{slice_get, slice_set}
 use Rattle.std.specs.List.{filter}
 use Rattle.onfi_chip.specs.Chip.{Chip}
 use Rattle.onfi_core.specs.declared.outcome.Cause.{Cause}
@@ -9,11 +9,7 @@ use Rattle.onfi_core.specs.declared.outcome.Outcome.TheVariants.{NoPlan, Nothing
 use Rattle.onfi_core.specs.Reaching.{Reaches}
 use Rattle.onfi_core.specs.State.{ChannelState, HalfState, Planning, is_to}
 use Rattle.onfi_core.specs.Steps.{bus_refusal, held_for, if_stopped, none_left, nothing_to_plan, or_else, plan_refusal, refused_where, taken_next}
-use Rattle.onfi_core.specs.declared.setup.Replanning.{Replanning}
-use Rattle.onfi_core.specs.declared.setup.Replanning.TheVariants.{Lazily}
 use Rattle.onfi_core.specs.declared.setup.Setup.{Setup}
-use Rattle.onfi_core.specs.Renewing.{CouldStart}
-use Rattle.onfi_core.specs.View.{HalfView}
 use Rattle.onfi_core.proofs.HeldFor.{idle_is, is_nil, nothing_held}
 use Rattle.onfi_core.proofs.Next.{none_taken as nothing_taken}
 use Rattle.onfi_core.proofs.Reaching.{events_reach}
@@ -22,11 +18,11 @@ use Rattle.onfi_queue.specs.Ends.{IntakeView}
 use Rattle.onfi_reply.specs.Ends.{PosterView}
 use Rattle.onfi_seq.specs.declared.offer.Offer.{Offer}
 use Rattle.onfi_seq.specs.declared.offer.Offer.TheVariants as offer
-use Rattle.onfi_seq.specs.Driver.{DriverView, Offered, StartsNext}
+use Rattle.onfi_seq.specs.Driver.{DriverView, Offered}
 use Rattle.onfi_seq.specs.Sequencer.{Seen, channel_of}
 use Rattle.onfi_seq.specs.declared.turn.TurnAt.{TurnAt}
 use Rattle.onfi_seq.specs.declared.turn.TurnAt.TheVariants as turn
-use Rattle.onfi_seq.specs.Turned.{Goes, HeldBelow, IsPostRefused, IsRest, KeepsPlan, MayRunPhase, NothingPosts, OfferedAll, OfferedTo, PlansAnew, Rests}
+use Rattle.onfi_seq.specs.Turned.{Goes, HeldBelow, IsPostRefused, IsRest, MayRunPhase, NothingPosts, OfferedAll, OfferedTo, Rests}
 
 -- Refusals of a half that goes on
 
@@ -44,38 +40,6 @@ nothing_new _ _ _ going e = cc
 pub none_taken : (s : Setup) (h : HalfState) → h.stopped ≡ None → plan_refusal s h ≡ Some NothingToPlan → taken_next s h ≡ []
 none_taken s h going e = is_nil (taken_next s h) (nothing_taken s h (nothing_new h.stopped (nothing_to_plan s h) _ going e))
 
--- The plan that is left is kept, or made anew
-
-phase_left : (stopped : Option Cause) (none : Bool) → or_else (if_stopped stopped) (refused_where none NoPlan) ≡ None → none ≡ false
-phase_left None false e = refl
-phase_left None true e = cc
-phase_left (Some cause) none e = cc
-
-not_both : (b : Bool) → IsTrue b → IsTrue (not b) → ⊥
-not_both true so not_so = let e : false ≡ true = not_so in cc
-not_both false so not_so = let e : false ≡ true = so in cc
-
-is_so : (b : Bool) → not b ≡ false → IsTrue b
-is_so true e = refl
-is_so false e = let k : true ≡ false = e in cc
-
-module _ (q : Seen) (v : HalfView) (is : v ≡ record { setup = q.0.setup; state = q.0.half; lent = None }) where
-  pub replans : (s : Setup) (r : Replanning) → s ≡ v.setup → s.replanning ≡ r → q.0.setup.replanning ≡ r
-  replans s r same e = sym (ap (λ (x : Setup). x.replanning) (same ∙ ap (λ (x : HalfView). x.setup) is)) ∙ e
-
-  module _ (start : ℕ) (could : Bool) (next : StartsNext q.0.half start) (sooner : (IsTrue could → CouldStart v.setup v.state start) × (CouldStart v.setup v.state start → IsTrue could)) where
-    pub kept_plan : q.0.setup.replanning ≡ Lazily → bus_refusal q.0.half ≡ None → IsTrue (not could) → KeepsPlan q
-    kept_plan lazily open' not_so = record {
-      lazily = lazily;
-      left = phase_left q.0.half.stopped (none_left q.0.half) open';
-      start = start;
-      next = next;
-      none_sooner = λ starts. not_both could (sooner.1 (subst (λ (x : HalfView). CouldStart x.setup x.state start) (sym is) starts)) not_so;
-    }
-
-    pub made_anew : not could ≡ false → PlansAnew q
-    made_anew so = inr (inr (start, next, subst (λ (x : HalfView). CouldStart x.setup x.state start) is (sooner.0 (is_so could so))))
-
 -- Rest
 
 pub rests_is : (Such : Planning → Type 0) (q : Seen) → Reaches Such q.0.setup (channel_of q) → MayRunPhase q → bus_refusal q.0.half ≡ Some NoPlan → Rests q
@@ -83,8 +47,7 @@ rests_is Such q reached may refused =
     let none = no_plan q.0.half.stopped (none_left q.0.half) may.before.before.going refused in
     let taken : taken_next q.0.setup q.0.half ≡ [] = elim may.plans [
       | inl t ↦ t
-      | inr (inl both) ↦ absurd (let e : true ≡ false = sym none ∙ both.1 in cc)
-      | inr (inr on) ↦ absurd (let e : true ≡ false = sym none ∙ on.left in cc)
+      | inr both ↦ absurd (let e : true ≡ false = sym none ∙ both.1 in cc)
     ] in
     let idle = idle_is q.0.setup q.0.half (events_reach Such q.0.setup (channel_of q) reached).0.half.sound none taken in
     record { before = may.before; phases = none; wants = idle.0; items = idle.1 }

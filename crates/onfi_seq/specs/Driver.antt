@@ -3,7 +3,6 @@ use Rattle.std.specs.Prelude.{◌≡◌, ◌≢◌, ◌⊎◌, ℕ, zero, suc, �
 use Rattle.onfi_request.specs.declared.reply.Reply.{Reply}
 use Rattle.onfi_problem.specs.Moves.{Move}
 use Rattle.onfi_schedule.specs.Schedule.{Schedule}
-use Rattle.onfi_schedule.specs.Laws.{ComesNext}
 use Rattle.onfi_chip.specs.Chip.{Chip}
 use Rattle.onfi_core.specs.declared.drive.PhaseStop.{PhaseStop}
 use Rattle.onfi_core.specs.declared.drive.PhaseStop.TheVariants as phase
@@ -13,7 +12,7 @@ use Rattle.onfi_core.specs.declared.outcome.Outcome.TheVariants as outcome
 use Rattle.onfi_core.specs.declared.setup.Setup.{Setup}
 use Rattle.onfi_core.specs.Reaching.{Reaches}
 use Rattle.onfi_core.specs.State.{HalfState, ChannelState, Planning, quiet}
-use Rattle.onfi_core.specs.Steps.{GoesOut, Step, bus_refusal, held_for, ready_of, wait_refusal}
+use Rattle.onfi_core.specs.Steps.{Comes, GoesOut, Step, bus_refusal, held_for, ready_of, wait_refusal}
 use Rattle.onfi_lun.specs.declared.lanes.any_lun.AnyLun.{AnyLun}
 use Rattle.onfi_lun.specs.Lanes.{LanesAgree}
 use Rattle.onfi_reply.specs.Ends.{PosterView, SawFull, after_posting}
@@ -45,7 +44,7 @@ pub record IsDriven (Such : Planning → Type 0) (s : Setup) (lent : Option Repl
 pub record StartsNext (h : HalfState) (start : ℕ) : Type 0 where
   pub move : Move
   pub left : Schedule
-  pub next : ComesNext h.now h.left move start left
+  pub next : Comes h move start left
 
 -- the next phase was due by the moment
 abbrev pub WasDue : ℕ → HalfState → Type 0

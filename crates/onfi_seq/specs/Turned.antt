@@ -5,10 +5,8 @@ use Rattle.onfi_request.specs.declared.request.Item.{Item}
 use Rattle.onfi_core.specs.declared.event.Event.TheVariants as event
 use Rattle.onfi_core.specs.declared.outcome.Outcome.{Outcome}
 use Rattle.onfi_core.specs.declared.outcome.Outcome.TheVariants as outcome
-use Rattle.onfi_core.specs.declared.setup.Replanning.TheVariants.{AtOnce, Lazily}
-use Rattle.onfi_core.specs.Renewing.{CouldStart}
-use Rattle.onfi_core.specs.Steps.{GoesOut, Step, accept_refusal, held_for, none_left, nothing_to_plan, taken_next, unanswered, unplanned}
-use Rattle.onfi_core.specs.View.{IsNext, WantsItem, accepting}
+use Rattle.onfi_core.specs.Steps.{GoesOut, Step, accept_refusal, accepting, held_for, none_left, nothing_to_plan, taken_next, unanswered, unplanned}
+use Rattle.onfi_core.specs.View.{IsNext, WantsItem}
 use Rattle.onfi_queue.specs.Ends.{SawEmpty, after_accepting}
 use Rattle.onfi_reply.specs.Ends.{PosterView, SawFull, after_posting}
 use Rattle.onfi_seq.specs.declared.offer.Offer.{Offer}
@@ -32,7 +30,7 @@ pub record IsGoing (q : Seen) : Type 0 where
   pub posts : NothingPosts q 4
   pub going : q.0.half.stopped ≡ None
 
--- no item is accepted: 64 are unanswered, or none is wanted, since in order the batch is unplanned, or the submission queue was empty
+-- no item is accepted: 64 are unanswered, or none is wanted, since the batch is unplanned, or the submission queue was empty
 abbrev pub WhyNoItem : Seen → Type 0
 WhyNoItem q = (64 ≤ unanswered q.0.half) ⊎ (¬ WantsItem q.0.setup q.0.half) ⊎ SawEmpty q.0.intake
 
@@ -41,30 +39,14 @@ pub record TakesNothing (q : Seen) : Type 0 where
   pub before : IsGoing q
   pub items : WhyNoItem q
 
--- the plan is made anew: at once; or lazily, since none of its phases is left, or a request that no plan has taken could start before the next
-abbrev pub PlansAnew : Seen → Type 0
-PlansAnew q =
-    (q.0.setup.replanning ≡ AtOnce)
-    ⊎ (none_left q.0.half ≡ true)
-    ⊎ ((start : ℕ) × StartsNext q.0.half start × CouldStart q.0.setup q.0.half start)
-
--- the plan that is left goes on: it is made anew lazily, and no request that no plan has taken could start before its next phase
-pub record KeepsPlan (q : Seen) : Type 0 where
-  pub lazily : q.0.setup.replanning ≡ Lazily
-  pub left : none_left q.0.half ≡ false
-  pub start : ℕ
-  pub next : StartsNext q.0.half start
-  pub none_sooner : ¬ CouldStart q.0.setup q.0.half start
-
 -- .. and no planning was refused since the last phase while a phase is left
 pub record MayPlan (q : Seen) : Type 0 where
   pub before : TakesNothing q
   pub again : (q.0.refused ≡ false) ⊎ (none_left q.0.half ≡ true)
-  pub renewed : PlansAnew q
 
--- nothing is planned: nothing is to be planned; or a planning was refused since the last phase, and a phase is left; or the plan that is left goes on
+-- nothing is planned: nothing is to be planned; or a planning was refused since the last phase, and a phase is left
 abbrev pub WhyNoPlan : Seen → Type 0
-WhyNoPlan q = (taken_next q.0.setup q.0.half ≡ []) ⊎ ((q.0.refused ≡ true) × (none_left q.0.half ≡ false)) ⊎ KeepsPlan q
+WhyNoPlan q = (taken_next q.0.setup q.0.half ≡ []) ⊎ ((q.0.refused ≡ true) × (none_left q.0.half ≡ false))
 
 -- nothing goes out, no item is accepted, and nothing is planned
 pub record MayRunPhase (q : Seen) : Type 0 where
@@ -118,7 +100,7 @@ pub record Takes (q q' : Seen) : Type 0 where
   pub wanted : WantsItem q.0.setup q.0.half
   pub item : Item
   pub next : IsNext q.0.setup q.0.half item
-  pub after : q' ≡ (record q.0 { half = accepting q.0.half item; intake = after_accepting q.0.intake item }, q.1)
+  pub after : q' ≡ (record q.0 { half = accepting q.0.setup q.0.half item; intake = after_accepting q.0.intake item }, q.1)
 
 -- a planning came to that, whichever number the channel has; the half alone changed, and what is said of refusals and of memory
 pub record PlansTo (q : Seen) (o : Outcome) (refused short : Bool) (q' : Seen) : Type 0 where
@@ -163,9 +145,9 @@ Goes now q turn.PostFull q' = Rests q × (q.0.half.held ≢ []) × (q' ≡ q)
 Goes now q turn.Idle q' = Rests q × (q.0.half.held ≡ []) × (q' ≡ q)
 
 -- why nothing is planned, whatever was found as time passed: the plan is that of the bus and the LUNs as they stand, or nothing of it is
--- left; or a planning was refused since the last phase, and a phase is left; or the plan that is left goes on
+-- left; or a planning was refused since the last phase, and a phase is left
 abbrev pub PlansLater : Seen → Type 0
-PlansLater q = (nothing_to_plan q.0.setup q.0.half ≡ true) ⊎ ((q.0.refused ≡ true) × (none_left q.0.half ≡ false)) ⊎ KeepsPlan q
+PlansLater q = (nothing_to_plan q.0.setup q.0.half ≡ true) ⊎ ((q.0.refused ≡ true) × (none_left q.0.half ≡ false))
 
 -- a LUN that is ready is planned with at once: as time passed no LUN changed, or it was planned, or nothing is planned then
 abbrev pub PlansAtOnce : Seen → Seen → TurnAt → Seen → Type 0

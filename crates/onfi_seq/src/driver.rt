@@ -9,8 +9,8 @@ ghost use Rattle.onfi_core.specs.Queues.{IsFresh};
 ghost use Rattle.onfi_core.specs.Reaching.{Reaches};
 ghost use Rattle.onfi_core.specs.Refusals.{planned_outcome};
 ghost use Rattle.onfi_core.specs.State.{is_to};
-ghost use Rattle.onfi_core.specs.Steps.{IsPromised, Step, accept_refusal, bus_refusal, unanswered};
-ghost use Rattle.onfi_core.specs.View.{IsNext, PlanRefused, WantsItem, accepting};
+ghost use Rattle.onfi_core.specs.Steps.{IsPromised, Step, accept_refusal, accepting, bus_refusal, unanswered};
+ghost use Rattle.onfi_core.specs.View.{IsNext, PlanRefused, WantsItem};
 ghost use Rattle.onfi_seq.specs.Driver.{IsAt, Offered, RanTo, RunsBy, channel_in, ran_of};
 
 use crate::offer::Offer;
@@ -119,7 +119,7 @@ impl<C: Chip, P: Planner> Driver<C, P> {
     pub(crate) fn accept(&mut self, item: Item)
         requires open { accept_refusal self.old.0.half ≡ None }
         requires next { IsNext self.old.0.setup self.old.0.half item }
-        ensures { self.new ≡ (record self.old.0 { half = accepting self.old.0.half item }, self.old.1) }
+        ensures { self.new ≡ (record self.old.0 { half = accepting self.old.0.setup self.old.0.half item }, self.old.1) }
     {
         self.half.accept(item);
     }
@@ -147,7 +147,7 @@ impl<C: Chip, P: Planner> Driver<C, P> {
         self.half.plan_by(alloc, &self.planner)
     }
 
-    /// Runs the undone phase of least start on the chip, if it doesn't start after that moment, in ns. Memory is asked for
+    /// Runs the phase that comes next on the chip, if it doesn't start after that moment, in ns. Memory is asked for
     /// before the chip is called.
     pub(crate) fn run(&mut self, alloc: Global, now: u64) -> Ran
         ensures ran { RanTo self.old.0.setup (channel_in C.state self.old) result (channel_in C.state self.new) }

@@ -1,5 +1,5 @@
 -- From what was written to what is carried out.
-use Rattle.std.proofs.Common.{◌≡◌, ◌≤◌, ℕ, List, Ok, Err, Some, None, true, false, refl, sym, inl, inr, take, subst, suc, zero, arith}
+use Rattle.std.proofs.Common.{◌≡◌, ◌≤◌, ℕ, List, Ok, Err, Some, None, true, false, refl, ap, ◌∙◌, sym, inl, inr, take, subst, suc, zero, arith}
 use Rattle.std.proofs.lemmas.Bool.Decides.{nat_tests}
 use Rattle.std.specs.Prelude.{Bool, Option, Result, IfOk, IfErr, IfSome, nat_le}
 use Rattle.std.specs.Io.KnownBytes.{Appends}
@@ -10,8 +10,11 @@ use Rattle.onfi_script.specs.declared.text.Answer.{Answer as Made}
 use Rattle.onfi_script.specs.declared.transfer.EngineFault.{EngineFault}
 use Rattle.onfi_script.specs.declared.transfer.EngineFault.TheVariants.{Write}
 use Rattle.onfi_console.specs.declared.parsed.Named.{Named}
-use Rattle.onfi_console.specs.declared.parsed.Named.TheVariants.{Problem, Run, Device, Audit, Gaps}
+use Rattle.onfi_console.specs.declared.parsed.Named.TheVariants.{Problem, Run, RunNext, Device, Audit, Gaps}
 use Rattle.onfi_console.specs.Words.{RunPlanner}
+use Rattle.onfi_core.specs.declared.setup.Choice.TheVariants.{InOrder, NextPhase}
+use Rattle.onfi_run.specs.declared.way.Way.{Way}
+use Rattle.onfi_run.specs.Ending.{nodes_by}
 use Rattle.onfi_run.specs.Running.{is_memory, Answers as RunAnswers, BeginsAnswer as BeginsRun}
 use Rattle.onfi_script.specs.Answer.{Answers, AnswersBy, BeginsAnswer, BeginsAnswerBy, IsAnswerBy, PartsTell}
 use Rattle.onfi_script.specs.Auditing.{AnswersAuditBy}
@@ -26,6 +29,7 @@ use Rattle.onfi_sim.specs.Carrying.{AnswersNamed, BeginsToCarryOut, CarriesOut, 
 pub memory_answers : (named : Named) (xs : List ℕ) → AnswersNamed named xs memory
 memory_answers (Problem command workers) xs = inl refl
 memory_answers (Run planner limit clocked) xs = is_memory refl
+memory_answers (RunNext clocked) xs = is_memory refl
 memory_answers Device xs = inl refl
 memory_answers (Audit options) xs = inl refl
 memory_answers (Gaps options) xs = inl refl
@@ -117,21 +121,34 @@ measured options xs (Err refused) is = tt
 
 -- a run without a clock, and one within a limit of that number
 pub run_plainly : (planner : RunPlanner) (limit : ℕ) (clocked : Bool) (input old new : Option (List ℕ)) (r : Result ℕ EngineFault) → clocked ≡ false
-    → IfOk r (λ s. RunAnswers false limit input old new s) → IfOk r (λ s. CarriesOut (Run planner limit clocked) input old new s)
+    → IfOk r (λ s. RunAnswers false (Some limit) input old new s) → IfOk r (λ s. CarriesOut (Run planner limit clocked) input old new s)
 run_plainly planner limit clocked input old new r e is =
     subst (λ b. IfOk r (λ s. CarriesOut (Run planner limit b) input old new s)) (sym e) is
 
 pub run_plainly_begun : (planner : RunPlanner) (limit : ℕ) (clocked : Bool) (input old new : Option (List ℕ)) → clocked ≡ false
-    → BeginsRun false limit input old new → BeginsToCarryOut (Run planner limit clocked) input old new
+    → BeginsRun false (Some limit) input old new → BeginsToCarryOut (Run planner limit clocked) input old new
 run_plainly_begun planner limit clocked input old new e is =
     subst (λ b. BeginsToCarryOut (Run planner limit b) input old new) (sym e) is
 
-pub run_within : (planner : RunPlanner) (limit within : ℕ) (clocked : Bool) (input old new : Option (List ℕ)) (r : Result ℕ EngineFault) → within ≡ limit
-    → IfOk r (λ s. RunAnswers clocked within input old new s) → IfOk r (λ s. CarriesOut (Run planner limit clocked) input old new s)
-run_within planner limit within clocked input old new r e is =
-    subst (λ n. IfOk r (λ s. CarriesOut (Run planner n clocked) input old new s)) e is
+-- a way by plans within that number
+pub way_plans : (planner : RunPlanner) (limit within : ℕ) (way : Way RunPlanner) → within ≡ limit → way ≡ record { planner = planner; limit = within; choice = InOrder } → nodes_by way.choice way.limit ≡ Some limit
+way_plans planner limit within way same is = ap (λ (w : Way RunPlanner). nodes_by w.choice w.limit) is ∙ ap Some same
 
-pub run_within_begun : (planner : RunPlanner) (limit within : ℕ) (clocked : Bool) (input old new : Option (List ℕ)) → within ≡ limit
-    → BeginsRun clocked within input old new → BeginsToCarryOut (Run planner limit clocked) input old new
-run_within_begun planner limit within clocked input old new e is =
-    subst (λ n. BeginsToCarryOut (Run planner n clocked) input old new) e is
+pub run_within : (planner : RunPlanner) (limit : ℕ) (way : Way RunPlanner) (clocked : Bool) (input old new : Option (List ℕ)) (r : Result ℕ EngineFault) → nodes_by way.choice way.limit ≡ Some limit
+    → IfOk r (λ s. RunAnswers clocked (nodes_by way.choice way.limit) input old new s) → IfOk r (λ s. CarriesOut (Run planner limit clocked) input old new s)
+run_within planner limit way clocked input old new r e is =
+    subst (λ n. IfOk r (λ s. RunAnswers clocked n input old new s)) e is
+
+-- .. one that goes phase by phase
+pub run_next : {P : Type 0} (way : Way P) (clocked : Bool) (input old new : Option (List ℕ)) (r : Result ℕ EngineFault) → way.choice ≡ NextPhase
+    → IfOk r (λ s. RunAnswers clocked (nodes_by way.choice way.limit) input old new s) → IfOk r (λ s. CarriesOut (RunNext clocked) input old new s)
+run_next way clocked input old new r e is = subst (λ c. IfOk r (λ s. RunAnswers clocked (nodes_by c way.limit) input old new s)) e is
+
+pub run_next_begun : {P : Type 0} (way : Way P) (clocked : Bool) (input old new : Option (List ℕ)) → way.choice ≡ NextPhase
+    → BeginsRun clocked (nodes_by way.choice way.limit) input old new → BeginsToCarryOut (RunNext clocked) input old new
+run_next_begun way clocked input old new e is = subst (λ c. BeginsRun clocked (nodes_by c way.limit) input old new) e is
+
+pub run_within_begun : (planner : RunPlanner) (limit : ℕ) (way : Way RunPlanner) (clocked : Bool) (input old new : Option (List ℕ)) → nodes_by way.choice way.limit ≡ Some limit
+    → BeginsRun clocked (nodes_by way.choice way.limit) input old new → BeginsToCarryOut (Run planner limit clocked) input old new
+run_within_begun planner limit way clocked input old new e is =
+    subst (λ n. BeginsRun clocked n input old new) e is

@@ -8,7 +8,7 @@ use Rattle.onfi_script.specs.Auditing.{AnswersAuditBy}
 use Rattle.onfi_script.specs.Gaps.{AnswersGaps}
 use Rattle.onfi_script.specs.Text.{Answer, memory}
 use Rattle.onfi_console.specs.declared.parsed.Named.{Named}
-use Rattle.onfi_console.specs.declared.parsed.Named.TheVariants.{Problem, Run, Device, Audit, Gaps}
+use Rattle.onfi_console.specs.declared.parsed.Named.TheVariants.{Problem, Run, RunNext, Device, Audit, Gaps}
 use Rattle.onfi_console.specs.Described.{IsDescription}
 use Rattle.onfi_run.specs.Running.{IsAnswer as IsRunAnswer}
 
@@ -31,10 +31,11 @@ abbrev pub TellsBy : Bool → ℕ → Posed → ℕ → Type 0
 TellsBy true = OneTells
 TellsBy false = PartsTell
 
--- the answers to an input by what is named: a plan or a verdict, the report of a run within that limit, a device's description, or what an audit says of a log; or that memory was refused
+-- the answers to an input by what is named: a plan or a verdict, the report of a run within that limit, or of one that plans nothing, a device's description, or what an audit says of a log; or that memory was refused
 abbrev pub AnswersNamed : Named → List ℕ → Answer → Type 0
 AnswersNamed (Problem command workers) input answer = IsAnswerBy (TellsBy (nat_le workers 1)) command input answer
-AnswersNamed (Run planner limit clocked) input answer = IsRunAnswer clocked limit input answer
+AnswersNamed (Run planner limit clocked) input answer = IsRunAnswer clocked (Some limit) input answer
+AnswersNamed (RunNext clocked) input answer = IsRunAnswer clocked None input answer
 AnswersNamed Device input answer = (answer ≡ memory) ⊎ IsDescription input answer
 AnswersNamed (Audit options) input answer = (answer ≡ memory) ⊎ AnswersAuditBy options input answer
 AnswersNamed (Gaps options) input answer = (answer ≡ memory) ⊎ AnswersGaps options input answer

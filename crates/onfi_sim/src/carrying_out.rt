@@ -10,7 +10,7 @@ ghost use Rattle.onfi_sim.specs.Carrying as spec;
 ghost use Rattle.onfi_sim.specs.Carrying.{BeginsToCarryOut, CarriesOut};
 
 use onfi_console::{ChosenPlanner, Command, EngineFault, Named, SlackPlanner, describe};
-use onfi_run::{Limit, no_gates, run_script, run_script_by};
+use onfi_run::{Limit, Way, no_gates, run_script, run_script_by};
 use onfi_script::{
     Answer, AuditOptions, GapOptions, InputFault, audit_by, audit_gaps, engine, engine_split,
     engine_split_by, read_all, write_with_status,
@@ -111,8 +111,27 @@ fn carry_out_run<R: Threads + Wait + Sync, I: Read, W: Write>(
     if !clocked && plain {
         return run_script(rt, alloc, limit, gates, reader, writer);
     }
-    let limit = Limit::of(limit).unwrap();
-    run_script_by(rt, alloc, planner, limit, clocked, gates, reader, writer)
+    let way = Way::by_plans(planner, Limit::of(limit).unwrap());
+    run_script_by(rt, alloc, way, clocked, gates, reader, writer)
+}
+
+/// Runs the operations of a script phase by phase.
+fn carry_out_next<R: Threads + Wait + Sync, I: Read, W: Write>(
+    rt: &R,
+    alloc: Global,
+    clocked: bool,
+    reader: &mut I,
+    writer: &mut W,
+) -> Result<u8, EngineFault>
+    ensures answer { IfOk result (λ status. CarriesOut (ANamed.RunNext clocked) (I.remaining reader.old) (W.contents writer.old) (W.contents writer.new) status) }
+    ensures unread { result ≡ Err EngineFault.Read → Keeps (W.contents writer.old) (W.contents writer.new) }
+    ensures unwritten { result ≡ Err EngineFault.Write → BeginsToCarryOut (ANamed.RunNext clocked) (I.remaining reader.old) (W.contents writer.old) (W.contents writer.new) }
+{
+    let Ok(gates) = no_gates(alloc) else {
+        return write_answer(writer, Err(AllocError));
+    };
+    let way = Way::by_next_phase();
+    run_script_by(rt, alloc, way, clocked, gates, reader, writer)
 }
 
 /// What is answered where an input isn't read to its end.
@@ -199,6 +218,7 @@ fn carry_out_from<R: Threads + Wait + Sync, I: Read, W: Write>(
             limit,
             clocked,
         } => carry_out_run(rt, alloc, planner, limit, clocked, reader, writer),
+        Named::RunNext { clocked } => carry_out_next(rt, alloc, clocked, reader, writer),
         Named::Device => carry_out_device(alloc, reader, writer),
         Named::Audit { options } => carry_out_audit(alloc, options, reader, writer),
         Named::Gaps { options } => carry_out_gaps(alloc, options, reader, writer),

@@ -11,4 +11,4 @@ pub use onfi_console::{
     PlanOptions, SlackPlanner, Weighing, WordsFault, audit, audit_gaps, describe, engine,
     engine_split, words,
 };
-pub use onfi_run::{Gate, Limit, NoGate, run_script};
+pub use onfi_run::{Gate, Limit, NoGate, Way, run_script};

@@ -14,7 +14,7 @@ use Rattle.onfi_group.proofs.Lists.{All-append}
 use Rattle.onfi_problem.specs.declared.lun_state.LunState.{LunState}
 use Rattle.onfi_problem.specs.declared.lun_state.LunState.TheVariants.{Free, Running}
 use Rattle.onfi_problem.specs.Problem.{Problem}
-use Rattle.onfi_problem.specs.Moves.{IsMove, Next, Start, free_from, lun_after, placed}
+use Rattle.onfi_problem.specs.Moves.{IsMove, Next, Start, free_from, lun_after, move_lun, placed}
 use Rattle.onfi_problem.proofs.Lists.{map_get, map_set}
 use Rattle.onfi_problem.proofs.Places.{get_set_other, get_set_same, length_set}
 use Rattle.onfi_steady.specs.declared.begin.Begin.{Begin}
@@ -320,6 +320,7 @@ gone_on timing books old new l after started ended is same newest e changed some
     let step : move_by lun (due_wants old) ≡ Next lun = ap (move_by lun) none in
     record {
       move = subst (IsMove p) (sym step) (g, l.run.next, l.run.since, state);
+      lun = ap move_lun step;
       bus_free = bus ∙ (went.ends ∙ sym (ap (λ z. (placed p z started).bus_free) step ∙ ap (λ (z : Problem). z.bus_free) goes));
       states = ap states_in changed ∙ (states_changed (luns_of old) lun after ∙ (ap (slice_set (states_of old) lun) (went.state ∙ ap (lun_after timing g l.run.next) went.ends)
           ∙ sym (ap (λ z. (placed p z started).luns) step ∙ ap (λ (z : Problem). z.luns) goes)));
@@ -358,6 +359,7 @@ module _ (timing : Timing) (books : Books) (old new : Dispatcher) (l after : Lun
       let last = begin.last ∙ ap (greatest_number 0) (sym begin.members) in
       record {
         move = subst (IsMove p) (sym step) (l.run.since, free, starts.startable);
+        lun = ap move_lun step ∙ starts.on;
         bus_free = bus ∙ (end ∙ sym (ap (λ z. (placed p z started).bus_free) step));
         states = ap states_in changed ∙ (states_changed (luns_of old) lun after ∙ (ap (slice_set (states_of old) lun) (began.state ∙ ap (lun_after timing g 0) end)
             ∙ (ap (λ z. slice_set (states_of old) z (lun_after timing g 0 (started + phase_length (group_spans timing g) (length g) 0))) (sym starts.on) ∙ sym (ap (λ z. (placed p z started).luns) step))));

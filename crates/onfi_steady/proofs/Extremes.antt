@@ -3,7 +3,7 @@ use Rattle.std.proofs.Common.{◌≡◌, ℕ, ◌+◌, ◌<◌, List, [], ◌∷
 use Rattle.std.specs.Prelude.{max, min}
 use Rattle.std.proofs.lemmas.List.{take_more}
 use Rattle.onfi_request.specs.declared.want.Want.{Want}
-use Rattle.onfi_steady.specs.Rule.{least_number}
+use Rattle.onfi_steady.specs.Ranks.{least_number}
 use Rattle.onfi_steady.specs.Waiting.{greatest_number}
 
 least_push : (least : ℕ) (ms : List Want) (m : Want) → least_number least (ms ++ m ∷ []) ≡ min (least_number least ms) m.id

@@ -13,7 +13,7 @@ use Rattle.onfi_problem.specs.Problem.{Problem}
 use Rattle.onfi_problem.specs.Moves.{Move, Next, IsMove, after}
 use Rattle.onfi_problem.specs.Position.{state_of}
 use Rattle.onfi_problem.proofs.Lists.{map_found}
-use Rattle.onfi_steady.specs.Rule.{keeps_bus, keeps_bus_before, move_keeps_bus, is_kept_from}
+use Rattle.onfi_steady.specs.Ranks.{keeps_bus, keeps_bus_before, move_keeps_bus, is_kept_from}
 
 pub any_one_more : {A : Type 0} (test : A → Bool) (xs : List A) (x : A) → list_any test (xs ++ x ∷ []) ≡ (if list_any test xs then true else test x)
 any_one_more test xs x = list_any-append test xs (x ∷ []) ∙ go (list_any test xs) (test x)

@@ -12,8 +12,8 @@ use Rattle.onfi_problem.specs.declared.lun_state.LunState.{LunState}
 use Rattle.onfi_problem.specs.declared.lun_state.LunState.TheVariants.{Free, Running}
 use Rattle.onfi_problem.specs.Problem.{Problem}
 use Rattle.onfi_problem.specs.Moves.{Next, Start, earliest, free_from, next_ran}
-use Rattle.onfi_steady.specs.Rule.{is_kept_from, keeps_bus, keeps_bus_at, keeps_bus_before, oldest, phase_numbers, post_rank, running, running_rank, start_rank}
-use Rattle.onfi_steady.specs.Choosing.{numbers_of}
+use Rattle.onfi_steady.specs.Ranks.{is_kept_from, keeps_bus, keeps_bus_at, keeps_bus_before, oldest, phase_numbers, post_rank, running, running_rank, start_rank}
+use Rattle.onfi_steady.specs.Ranks.{numbers_of}
 use Rattle.onfi_steady.specs.Waiting.{Books, channel}
 use Rattle.onfi_steady.specs.Kept.{IsKeptBy, IsKeptFrom, earlier, is_kept, kept_with}
 use Rattle.onfi_steady.proofs.KeptBus.{any_one_more, min_less}

@@ -1,8 +1,5 @@
 pub mod Order
-pub mod OwnMoves
 pub mod KeptBus
-pub mod Giving
-pub mod FirstPhase
 pub mod GreatestBound
 pub mod RuleRun
 pub mod Firsts
@@ -24,3 +21,7 @@ pub mod KindPlaces
 pub mod LunKept
 pub mod Changing
 pub mod Fair
+pub mod Beginning
+pub mod Following
+pub mod Placing
+pub mod Batch

@@ -14,8 +14,8 @@ use Rattle.onfi_problem.specs.Moves.{ComesBefore, IsMove, Move, Next, Start, mov
 use Rattle.onfi_steady.specs.declared.waiter.Waiter.{Waiter}
 use Rattle.onfi_steady.specs.declared.next.Candidate.{Candidate}
 use Rattle.onfi_steady.specs.Order.{GoesBefore, is_less}
-use Rattle.onfi_steady.specs.Rule.{phase_numbers}
-use Rattle.onfi_steady.specs.Choosing.{numbers_of}
+use Rattle.onfi_steady.specs.Ranks.{phase_numbers}
+use Rattle.onfi_steady.specs.Ranks.{numbers_of}
 use Rattle.onfi_steady.specs.Waiting.{Books, channel, wants_of}
 use Rattle.onfi_steady.specs.Offer.{erase_group, own_group, ready_on}
 use Rattle.onfi_steady.specs.Next.{IsFirstGiven, any_work, begin_with, given_by, given_group, given_move, is_held, is_number, move_by}

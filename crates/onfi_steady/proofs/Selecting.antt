@@ -21,8 +21,8 @@ use Rattle.onfi_steady.specs.declared.run.Run.{Run}
 use Rattle.onfi_steady.specs.declared.turn.Turn.{Turn}
 use Rattle.onfi_steady.specs.declared.waiter.Waiter.{Waiter}
 use Rattle.onfi_steady.specs.Order.{GoesBefore, is_less}
-use Rattle.onfi_steady.specs.Rule.{keeps_bus, phase_numbers}
-use Rattle.onfi_steady.specs.Choosing.{numbers_of}
+use Rattle.onfi_steady.specs.Ranks.{keeps_bus, phase_numbers}
+use Rattle.onfi_steady.specs.Ranks.{numbers_of}
 use Rattle.onfi_steady.specs.Waiting.{Books, channel, wants_of}
 use Rattle.onfi_steady.specs.Offer.{is_kind, is_open, on_lun, own_group, ready_on}
 use Rattle.onfi_steady.specs.Next.{IsFirstGiven, IsNextPhase, any_work, begin_with, given_by, given_group, given_move, has_work, have_work, is_held, is_number, move_by, move_of_phase}

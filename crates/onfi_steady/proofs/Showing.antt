@@ -11,7 +11,7 @@ use Rattle.onfi_steady.specs.declared.offer.Offer.{Offer}
 use Rattle.onfi_steady.specs.declared.next.Candidate.{Candidate}
 use Rattle.onfi_steady.specs.declared.next.NextPhase.{NextPhase}
 use Rattle.onfi_steady.specs.Order.{is_less}
-use Rattle.onfi_steady.specs.Choosing.{numbers_of}
+use Rattle.onfi_steady.specs.Ranks.{numbers_of}
 use Rattle.onfi_steady.specs.Waiting.{Books}
 use Rattle.onfi_steady.specs.Offer.{IsOffer}
 use Rattle.onfi_steady.specs.Next.{IsShown}

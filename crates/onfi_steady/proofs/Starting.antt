@@ -15,7 +15,7 @@ use Rattle.onfi_group.specs.Group.{IsFirst, IsGroup, IsStartable, above_planes, 
 use Rattle.onfi_group.specs.Joining.{GoesWith}
 use Rattle.onfi_group.proofs.Lists.{All-each, All-has}
 use Rattle.onfi_steady.specs.declared.waiter.Waiter.{Waiter}
-use Rattle.onfi_steady.specs.Rule.{operation_rank}
+use Rattle.onfi_steady.specs.Ranks.{operation_rank}
 use Rattle.onfi_steady.specs.Waiting.{want_of, wants_of}
 use Rattle.onfi_steady.specs.Offer.{erase_group, goes_with, group_with, is_due, is_kind, is_mate, is_same_page, is_same_row, member_on, or_else, own_group, ready_on, turned_to}
 use Rattle.onfi_steady.proofs.Firsts.{ready_is}

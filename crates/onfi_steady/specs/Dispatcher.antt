@@ -4,7 +4,8 @@ use Rattle.std.specs.List.{AllByRecursion as Each, filter, list_any}
 use Rattle.onfi_timing.specs.declared.timing.Timing.{Timing}
 use Rattle.onfi_request.specs.declared.want.Want.{Want}
 use Rattle.onfi_problem.specs.declared.lun_state.LunState.{LunState}
-use Rattle.onfi_problem.specs.Moves.{IsMove, placed}
+use Rattle.onfi_problem.specs.declared.lun_state.LunState.TheVariants.{Running}
+use Rattle.onfi_problem.specs.Moves.{IsMove, move_lun, placed}
 use Rattle.onfi_steady.specs.declared.dispatcher.Dispatcher.{Dispatcher}
 use Rattle.onfi_steady.specs.declared.fault.AcceptFault.{AcceptFault}
 use Rattle.onfi_steady.specs.declared.fault.AcceptFault.TheVariants.{BadLun, BadOrder, Full, Waits}
@@ -12,6 +13,7 @@ use Rattle.onfi_steady.specs.declared.fault.RanFault.{RanFault}
 use Rattle.onfi_steady.specs.declared.fault.RanFault.TheVariants.{NothingDue, TooLate, TooSoon}
 use Rattle.onfi_steady.specs.declared.fault.ReadyFault.{ReadyFault}
 use Rattle.onfi_steady.specs.declared.fault.ReadyFault.TheVariants.{BadLun as NoLun, NotInArray}
+use Rattle.onfi_steady.specs.declared.group_phase.GroupPhase.{GroupPhase}
 use Rattle.onfi_steady.specs.declared.lun_books.LunBooks.{LunBooks}
 use Rattle.onfi_steady.specs.declared.newest.Newest.{Newest}
 use Rattle.onfi_steady.specs.declared.next.NextPhase.{NextPhase}
@@ -21,7 +23,7 @@ use Rattle.onfi_steady.specs.Waiting.{Books, begun, channel, is_on}
 use Rattle.onfi_steady.specs.Offer.{ready_on}
 use Rattle.onfi_steady.specs.Next.{move_by}
 use Rattle.onfi_steady.specs.Slots.{AreSpansOf, has_number, is_line_below, slots_in}
-use Rattle.onfi_steady.specs.LunBooks.{states_in}
+use Rattle.onfi_steady.specs.LunBooks.{IsGroupPhase, states_in}
 use Rattle.onfi_steady.specs.Selecting.{AreLuns, begun_at, can_run_at}
 
 abbrev pub luns_of : Dispatcher → List LunBooks
@@ -61,6 +63,12 @@ pub record IsDue (d : Dispatcher) (phase : NextPhase) : Type 0 where
   pub members : due_wants d ≡ phase.members.items
   pub start : d.due.start ≡ phase.start
 
+-- the next phase of what the LUN runs, or the first of these members that begin on it
+abbrev pub IsPhaseOn : Timing → List LunState → ℕ → List Want → GroupPhase → Type 0
+IsPhaseOn timing luns lun [] phase =
+    (group : List Want) × (next : ℕ) × (ready : ℕ) × (slice_get luns lun ≡ Some (Running group next ready)) × IsGroupPhase timing group next phase
+IsPhaseOn timing luns lun (m ∷ ms) phase = IsGroupPhase timing (m ∷ ms) 0 phase
+
 -- why the due phase didn't run from then on: the first of these
 abbrev pub ran_refusal : Dispatcher → ℕ → Option RanFault
 ran_refusal d started =
@@ -74,13 +82,14 @@ begun_books books lun (m ∷ ms) = begun books lun (m ∷ ms)
 -- the due phase ran from `started` on: bus and LUNs are those of the problem that it leaves, and what began waits no more
 pub record HasRun (timing : Timing) (books : Books) (old new : Dispatcher) (started : ℕ) : Type 0 where
   pub move : IsMove (channel timing old.bus_free (states_of old) books) (move_by old.due.lun (due_wants old))
+  pub lun : move_lun (move_by old.due.lun (due_wants old)) ≡ old.due.lun
   pub bus_free : new.bus_free ≡ (placed (channel timing old.bus_free (states_of old) books) (move_by old.due.lun (due_wants old)) started).bus_free
   pub states : states_of new ≡ (placed (channel timing old.bus_free (states_of old) books) (move_by old.due.lun (due_wants old)) started).luns
   pub is : IsOf timing (begun_books books old.due.lun (due_wants old)) new
 
 -- why no more may wait for a LUN: the first of these
 abbrev pub lun_refusal : LunBooks → ℕ → Option AcceptFault
-lun_refusal l id = if nat_lt l.line.count.of 64 then (if is_line_below l.line id then None else Some BadOrder) else Some Full
+lun_refusal l id = if nat_lt (length (slots_in l.line)) 64 then (if is_line_below l.line id then None else Some BadOrder) else Some Full
 
 abbrev pub line_refusal : ℕ → Option LunBooks → Option AcceptFault
 line_refusal id None = Some BadLun
@@ -131,7 +140,7 @@ abbrev pub accepted_again : Books → Want → Books
 accepted_again books want = record { rules = books.rules; waiting = record { want = want; passed = 0 } ∷ books.waiting; newest = books.newest }
 
 abbrev pub head_refusal : LunBooks → ℕ → Option AcceptFault
-head_refusal l id = if nat_lt l.line.count.of 64 then (if has_number (slots_in l.line) id then Some Waits else None) else Some Full
+head_refusal l id = if nat_lt (length (slots_in l.line)) 64 then (if has_number (slots_in l.line) id then Some Waits else None) else Some Full
 
 abbrev pub again_line_refusal : ℕ → Option LunBooks → Option AcceptFault
 again_line_refusal id None = Some BadLun

@@ -15,8 +15,8 @@ use Rattle.onfi_steady.specs.declared.offer.Offer.{Offer}
 use Rattle.onfi_steady.specs.declared.next.Candidate.{Candidate}
 use Rattle.onfi_steady.specs.declared.next.NextPhase.{NextPhase}
 use Rattle.onfi_steady.specs.Order.{GoesBefore, is_less}
-use Rattle.onfi_steady.specs.Rule.{keeps_bus, keeps_bus_before, phase_numbers}
-use Rattle.onfi_steady.specs.Choosing.{numbers_of}
+use Rattle.onfi_steady.specs.Ranks.{keeps_bus, keeps_bus_before, phase_numbers}
+use Rattle.onfi_steady.specs.Ranks.{numbers_of}
 use Rattle.onfi_steady.specs.Waiting.{Books, begins_with, channel, is_on, passed_by}
 use Rattle.onfi_steady.specs.Offer.{IsOffer, is_kind, own_group, ready_on}
 use Rattle.onfi_steady.specs.Next.{given_move, move_by}

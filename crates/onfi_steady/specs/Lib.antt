@@ -1,6 +1,5 @@
 pub mod Order
-pub mod Rule
-pub mod Choosing
+pub mod Ranks
 pub mod Below
 pub mod Waiting
 pub mod Offer
@@ -11,3 +10,6 @@ pub mod LunBooks
 pub mod Selecting
 pub mod Dispatcher
 pub mod Fair
+pub mod Following
+pub mod Rule
+pub mod Placing

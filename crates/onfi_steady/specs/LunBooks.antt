@@ -1,5 +1,5 @@
 -- What a LUN does, what waits for it and what it would begin, as a dispatcher keeps them.
-use Rattle.std.specs.Prelude.{◌≡◌, ℕ, ◌+◌, ◌*◌, ◌≤◌, ◌==◌, nat_lt, if◌then◌else◌, Bool, List, length, map, take}
+use Rattle.std.specs.Prelude.{◌≡◌, ℕ, ◌+◌, ◌*◌, ◌≤◌, ◌==◌, nat_lt, if◌then◌else◌, Bool, List, Some, length, map, take}
 use Rattle.std.specs.List.{list_any}
 use Rattle.onfi_timing.specs.declared.kind.Kind.TheVariants.{Read}
 use Rattle.onfi_timing.specs.declared.operation.Operation.TheVariants.{Erase}
@@ -11,13 +11,15 @@ use Rattle.onfi_group.specs.Group.{group_operation, group_spans}
 use Rattle.onfi_problem.specs.Moves.{lun_after}
 use Rattle.onfi_problem.specs.declared.lun_state.LunState.{LunState}
 use Rattle.onfi_problem.specs.declared.lun_state.LunState.TheVariants.{Free, Running}
+use Rattle.onfi_flight.specs.Flight.{member_of}
 use Rattle.onfi_steady.specs.declared.begin.Begin.{Begin}
+use Rattle.onfi_steady.specs.declared.group_phase.GroupPhase.{GroupPhase}
 use Rattle.onfi_steady.specs.declared.lun_books.LunBooks.{LunBooks}
 use Rattle.onfi_steady.specs.declared.lun_books.LunOffer.{LunOffer}
 use Rattle.onfi_steady.specs.declared.run.Run.{Run}
 use Rattle.onfi_steady.specs.declared.slot.Slot.{Slot}
 use Rattle.onfi_steady.specs.declared.waiter.Waiter.{Waiter}
-use Rattle.onfi_steady.specs.Rule.{oldest, operation_rank, post_rank}
+use Rattle.onfi_steady.specs.Ranks.{oldest, operation_rank, post_rank}
 use Rattle.onfi_steady.specs.Offer.{erase_group, firsts, is_kind, is_open, own_group}
 use Rattle.onfi_steady.specs.Slots.{IsBegin, left_of, slots_in, waiters_in, wants_in}
 
@@ -41,6 +43,18 @@ pub record IsGoing (timing : Timing) (r : Run) : Type 0 where
   pub oldest : r.oldest ≡ oldest (wants_in (runs r))
   pub erases : r.erases ≡ (operation_rank (group_operation (wants_in (runs r))) == operation_rank Erase)
   pub within : r.next + 1 ≤ 2 * length (wants_in (runs r))
+
+-- what runs has a phase left
+abbrev pub HasPhaseLeft : LunState → Type 0
+HasPhaseLeft (Free since) = Unit {0}
+HasPhaseLeft (Running group next ready) = next + 1 ≤ 2 * length group
+
+-- phase `number` of a group: of which member it is, how long it takes, and how many members there are
+pub record IsGroupPhase (timing : Timing) (group : List Want) (number : ℕ) (p : GroupPhase) : Type 0 where
+  pub want : member_of group number ≡ Some p.want
+  pub number_is : p.number ≡ number
+  pub members : p.members ≡ length group
+  pub length_is : p.length ≡ phase_length (group_spans timing group) (length group) number
 
 -- what a LUN would begin of what waits for it, and that of its oldest erase; whether it is open; and whether a read waits
 pub record IsLunOffer (timing : Timing) (rules : Rules) (waiting : List Waiter) (offer : LunOffer) : Type 0 where

@@ -14,7 +14,7 @@ use Rattle.onfi_problem.specs.Moves.{Move, Next, Start, IsMove, earliest, move_l
 use Rattle.onfi_steady.specs.declared.waiter.Waiter.{Waiter}
 use Rattle.onfi_steady.specs.declared.next.NextPhase.{NextPhase}
 use Rattle.onfi_steady.specs.Order.{GoesBefore}
-use Rattle.onfi_steady.specs.Rule.{operation_rank, phase_numbers}
+use Rattle.onfi_steady.specs.Ranks.{operation_rank, phase_numbers}
 use Rattle.onfi_steady.specs.Waiting.{Books}
 use Rattle.onfi_steady.specs.Offer.{ready_on, on_lun, own_group, erase_group, is_open, is_kind, is_due}
 

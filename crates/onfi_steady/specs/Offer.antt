@@ -12,7 +12,7 @@ use Rattle.onfi_group.specs.declared.rules.Rules.{Rules}
 use Rattle.onfi_group.specs.Group.{above_planes, may_group, on_block}
 use Rattle.onfi_steady.specs.declared.waiter.Waiter.{Waiter}
 use Rattle.onfi_steady.specs.declared.offer.Offer.{Offer}
-use Rattle.onfi_steady.specs.Rule.{operation_rank}
+use Rattle.onfi_steady.specs.Ranks.{operation_rank}
 use Rattle.onfi_steady.specs.Waiting.{is_on, want_of}
 
 -- those that may begin: without what waits for another one of its block

@@ -12,8 +12,8 @@ use Rattle.onfi_steady.specs.declared.run.Run.{Run}
 use Rattle.onfi_steady.specs.declared.slot.Slot.{Slot}
 use Rattle.onfi_steady.specs.declared.turn.Turn.{Turn}
 use Rattle.onfi_steady.specs.Order.{GoesBefore, is_less}
-use Rattle.onfi_steady.specs.Rule.{phase_numbers}
-use Rattle.onfi_steady.specs.Choosing.{numbers_of}
+use Rattle.onfi_steady.specs.Ranks.{phase_numbers}
+use Rattle.onfi_steady.specs.Ranks.{numbers_of}
 use Rattle.onfi_steady.specs.Waiting.{Books}
 use Rattle.onfi_steady.specs.Offer.{on_lun}
 use Rattle.onfi_steady.specs.Next.{IsNextPhase, given_move, move_by}

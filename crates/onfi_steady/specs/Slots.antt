@@ -12,7 +12,7 @@ use Rattle.onfi_steady.specs.declared.waiter.Waiter.{Waiter}
 use Rattle.onfi_steady.specs.declared.kind_spans.KindSpans.{KindSpans}
 use Rattle.onfi_steady.specs.declared.begin.Begin.{Begin}
 use Rattle.onfi_steady.specs.declared.line.Line.{Line}
-use Rattle.onfi_steady.specs.Rule.{oldest, start_rank}
+use Rattle.onfi_steady.specs.Ranks.{oldest, start_rank}
 use Rattle.onfi_steady.specs.Waiting.{greatest_number}
 
 -- kinds by their numbers

@@ -1,6 +1,7 @@
 //! A group that may begin on a LUN, kept as numbers.
-ghost use Rattle.std.specs.Prelude.{◌≡◌, ◌<◌, ◌≤◌, ◌^◌, length};
+ghost use Rattle.std.specs.Prelude.{◌≡◌, ◌*◌, ◌<◌, ◌≤◌, ◌^◌, IfSome, IsSome, List, length};
 
+use crate::group_phase::GroupPhase;
 use crate::kind_spans::KindSpans;
 use crate::left::greatest_number;
 use crate::next_turn::kind_of;
@@ -30,7 +31,9 @@ pub struct Begin {
 
 impl Begin {
     ghost use Rattle.onfi_timing.specs.declared.timing.Timing.{Timing as AnyTiming};
+    ghost use Rattle.onfi_request.specs.declared.want.Want.{Want as AnyWant};
     ghost use Rattle.onfi_steady.specs.Slots.{AreSpansOf, IsBegin, begins};
+    ghost use Rattle.onfi_steady.specs.LunBooks.{IsGroupPhase};
 
     /// Of these members, by rising plane.
     pub fn of(spans: &KindSpans, members: &[Want]) -> Begin
@@ -46,6 +49,23 @@ impl Begin {
             last: greatest_number(members),
             members: members.len() as u8,
             rank: start_rank(kind.operation()),
+        }
+    }
+
+    /// Its first phase: the command of its first member, where there is one.
+    pub fn phase(&self) -> Option<GroupPhase>
+        ensures phase { (timing : AnyTiming) (group : List AnyWant) → IsBegin timing group self.now → IfSome result (IsGroupPhase timing group 0) }
+        ensures some { 1 ≤ self.now.members → IsSome result }
+        ensures within { IfSome result (λ p. (p.members ≤ 4) × (p.number < 2 * p.members) × (p.length < 2 ^ 50)) }
+    {
+        match self.members().first() {
+            Some(member) => Some(GroupPhase {
+                want: member.want(),
+                length: self.cmd,
+                number: 0,
+                members: self.members,
+            }),
+            None => None,
         }
     }
 

@@ -4,7 +4,7 @@ ghost use Rattle.std.specs.Prelude.{◌≡◌, ◌<◌, ◌≤◌, List, length,
 ghost use Rattle.onfi_problem.specs.declared.lun_state.LunState.{LunState as AnyState};
 ghost use Rattle.onfi_problem.specs.declared.lun_state.LunState.TheVariants.{Running};
 ghost use Rattle.onfi_problem.specs.Moves.{free_from};
-ghost use Rattle.onfi_steady.specs.Rule.{keeps_bus};
+ghost use Rattle.onfi_steady.specs.Ranks.{keeps_bus};
 ghost use Rattle.onfi_steady.specs.Waiting.{Books, channel};
 ghost use Rattle.onfi_steady.specs.Next.{any_work, has_work};
 ghost use Rattle.onfi_steady.specs.Kept.{AreOffered, IsKeptFrom, earlier, is_kept, kept_with};

@@ -1,15 +1,24 @@
 //! A channel without batches, with its books kept from call to call.
-ghost use Rattle.std.specs.Prelude.{◌≡◌, ◌<◌, ◌≤◌, ◌^◌, [], None, length, max, IfOk, IfErr, IfNone, IsTrue, MatchOption, MatchResult};
+ghost use Rattle.std.specs.Prelude.{◌≡◌, ◌*◌, ◌<◌, ◌≤◌, ◌^◌, [], None, length, max, slice_get, take, true, IfOk, IfErr, IfNone, IfSome, IsSome, IsTrue, MatchOption, MatchResult};
+ghost use Rattle.std.specs.List.{AllByRecursion as Each};
+ghost use Rattle.onfi_timing.specs.declared.timing.Timing.{Timing as AnyTiming};
+ghost use Rattle.onfi_steady.specs.LunBooks.{HasPhaseLeft, IsLun, state_in, states_in};
+ghost use Rattle.onfi_steady.specs.Slots.{AreSpansOf, slots_in, waiters_in};
+
+mod batch;
+mod state;
 
 use crate::due_phase::DuePhase;
 use crate::fault::{AcceptFault, RanFault, ReadyFault};
 use crate::finding::find_number;
 use crate::first::{Choice, first_phase};
+use crate::group_phase::GroupPhase;
 use crate::kind_spans::KindSpans;
 use crate::lun_books::LunBooks;
 use crate::newest::Newest;
 use crate::next::NextPhase;
 use onfi_group::Rules;
+use onfi_problem::LunState;
 use onfi_request::Want;
 use onfi_timing::{Kind, Timing};
 
@@ -32,15 +41,48 @@ pub struct Dispatcher {
     lun: [LunBooks; 8],
 }
 
+// What is kept of each of these LUNs, for which nothing waits, and of free ones after them.
+fn books_of(rules: &Rules, spans: &KindSpans, luns: &[LunState]) -> [LunBooks; 8]
+    requires few { length luns.now ≤ 8 }
+    requires left { Each HasPhaseLeft luns.now }
+    ensures eight { length result ≡ 8 }
+    ensures states { states_in (take (length luns.now) result) ≡ luns.now }
+    ensures none { Each (λ l. waiters_in (slots_in l.line) ≡ []) result }
+    ensures luns { (timing : AnyTiming) → AreSpansOf timing spans.now → Each (IsLun timing rules.now) result }
+{
+    [
+        books_at(rules, spans, luns, 0),
+        books_at(rules, spans, luns, 1),
+        books_at(rules, spans, luns, 2),
+        books_at(rules, spans, luns, 3),
+        books_at(rules, spans, luns, 4),
+        books_at(rules, spans, luns, 5),
+        books_at(rules, spans, luns, 6),
+        books_at(rules, spans, luns, 7),
+    ]
+}
+
+// What is kept of the LUN at that place, or of a free one.
+fn books_at(rules: &Rules, spans: &KindSpans, luns: &[LunState], at: usize) -> LunBooks
+    requires { Each HasPhaseLeft luns.now }
+    ensures state { IfSome (slice_get luns.now at) (λ state. state_in result.run ≡ state) }
+    ensures none { waiters_in (slots_in result.line) ≡ [] }
+    ensures lun { (timing : AnyTiming) → AreSpansOf timing spans.now → IsLun timing rules.now result }
+{
+    match luns.get(at) {
+        Some(state) => LunBooks::with_state(rules, spans, state),
+        None => LunBooks::new(rules, spans),
+    }
+}
+
 impl Dispatcher {
-    ghost use Rattle.std.specs.Prelude.{Some, false, slice_get, true};
-    ghost use Rattle.std.specs.List.{AllByRecursion as Each};
-    ghost use Rattle.onfi_timing.specs.declared.timing.Timing.{Timing as AnyTiming};
+    ghost use Rattle.std.specs.Prelude.{Some, false};
+    ghost use Rattle.onfi_steady.specs.declared.next.NextPhase.{NextPhase as AnyPhase};
     ghost use Rattle.onfi_problem.specs.declared.lun_state.LunState.TheVariants.{Free};
     ghost use Rattle.onfi_steady.specs.Waiting.{Books, accepted, channel};
     ghost use Rattle.onfi_steady.specs.Next.{IsIdle, IsNextPhase};
-    ghost use Rattle.onfi_steady.specs.Dispatcher.{HasRun, IsBut, IsCancelled, IsDue, IsOf, StandsFirst, accept_refusal, accepted_again, again_refusal, has_due, luns_of, ran_refusal, ready_refusal, states_of};
-    ghost use Rattle.onfi_steady.specs.Selecting.{IsChoice, IsHolder, IsPhaseOf};
+    ghost use Rattle.onfi_steady.specs.Dispatcher.{HasRun, IsBut, IsCancelled, IsDue, IsOf, IsPhaseOn, StandsFirst, accept_refusal, accepted_again, again_refusal, has_due, luns_of, ran_refusal, ready_refusal, states_of};
+    ghost use Rattle.onfi_steady.specs.Selecting.{IsChoice, IsHolder, IsNextChoice, IsPhaseOf};
     ghost use Rattle.onfi_flight.specs.Flight.{luns_ready_by};
 
     /// Of a channel with so many LUNs, on which nothing runs or waits from time 0 on.
@@ -70,6 +112,59 @@ impl Dispatcher {
             },
             lun: [LunBooks::new(&rules, &spans); 8],
         }
+    }
+
+    /// Of a channel whose bus is free from then on, in ns, and whose LUNs do that; nothing waits.
+    pub fn with_luns(timing: &Timing, rules: Rules, bus_free: u64, luns: &[LunState]) -> Dispatcher
+        requires some { 1 ≤ length luns.now }
+        requires few { length luns.now ≤ 8 }
+        requires left { Each HasPhaseLeft luns.now }
+        ensures is { IsOf timing.now (record { rules = rules; waiting = []; newest = None }) result }
+        ensures states { states_of result ≡ luns.now }
+        ensures bus_free { result.bus_free ≡ bus_free }
+        ensures over { has_due result ≡ false }
+    {
+        let spans = KindSpans::of(timing);
+        Dispatcher {
+            rules,
+            spans,
+            bus_free,
+            newest: Newest {
+                number: 0,
+                is_there: false,
+            },
+            due: DuePhase {
+                start: 0,
+                is_there: false,
+                erase: false,
+                lun: 0,
+                luns: luns.len() as u8,
+            },
+            lun: books_of(&rules, &spans, luns),
+        }
+    }
+
+    /// Whether its counts are in their ranges. They are, unless something else wrote its memory.
+    pub fn is_whole(&self) -> bool
+        ensures { result ≡ true }
+    {
+        self.due.luns <= 8
+            && self.due.lun < self.due.luns
+            && self.lun.iter().all(|lun| lun.is_whole())
+    }
+
+    /// The phase that is due, as one of its group; None where none is.
+    pub fn due(&self) -> Option<GroupPhase>
+        ensures due { (timing : AnyTiming) (books : Books) (next : AnyPhase) → IsOf timing books self.now → IsDue self.now next
+            → IfSome result (IsPhaseOn timing (states_of self.now) next.lun next.members.items) }
+        ensures some { (timing : AnyTiming) (books : Books) → IsOf timing books self.now → has_due self.now ≡ true → IsSome result }
+        ensures none { has_due self.now ≡ false → result ≡ None }
+        ensures within { IfSome result (λ p. (p.members ≤ 4) × (p.number < 2 * p.members) × (p.length < 2 ^ 50)) }
+    {
+        if !self.has_due() {
+            return None;
+        }
+        self.lun[usize::from(self.due.lun)].phase(self.due.erase)
     }
 
     /// Takes in a request after the others that wait for its LUN.
@@ -118,8 +213,20 @@ impl Dispatcher {
         self.lun[usize::from(want.lun)].accept(&self.rules, &self.spans, want);
     }
 
-    /// The phase that is next where it is `now`, in ns, and which is due from then on: what goes first of that which LUNs give, as
-    /// [`next_phase`](crate::next_phase) says it. None only where nothing runs and nothing waits.
+    /// The phase that is next where it is `now`, in ns: what goes first of that which LUNs give, as [`next_phase`](crate::next_phase)
+    /// says it. None only where nothing runs and nothing waits. Nothing is due for it: [`Dispatcher::next`] is for what is to run.
+    pub fn look(&self, now: u64) -> Option<NextPhase>
+        ensures next { (timing : AnyTiming) (books : Books) → IsOf timing books self.now
+            → MatchOption result (IsIdle (channel timing (max self.now.bus_free now) (states_of self.now) books)) (IsNextPhase books (channel timing (max self.now.bus_free now) (states_of self.now) books)) }
+        ensures empty { (timing : AnyTiming) (books : Books) → IsOf timing books self.now → IfNone result (books.waiting ≡ []) }
+    {
+        match self.choose(now) {
+            Some(choice) => Some(self.phase_of(&choice)),
+            None => None,
+        }
+    }
+
+    /// What [`Dispatcher::look`] gives, and which is due from then on.
     pub fn next(&mut self, now: u64) -> Option<NextPhase>
         ensures next { (timing : AnyTiming) (books : Books) → IsOf timing books self.old
             → MatchOption result (IsIdle (channel timing (max self.old.bus_free now) (states_of self.old) books)) (IsNextPhase books (channel timing (max self.old.bus_free now) (states_of self.old) books)) }
@@ -129,16 +236,24 @@ impl Dispatcher {
         ensures states { states_of self.new ≡ states_of self.old }
         ensures bus_free { self.new.bus_free ≡ self.old.bus_free }
     {
-        let from = self.bus_free.max(now);
-        let array = self.spans.of_kind(Kind::Program).array;
-        let luns = &self.lun[..usize::from(self.due.luns)];
-        match first_phase(luns, from, array, self.newest.number()) {
+        match self.choose(now) {
             Some(choice) => Some(self.give(choice)),
             None => {
                 self.due.is_there = false;
                 None
             }
         }
+    }
+
+    /// The bus isn't free before that moment, in ns, where it was free sooner. Nothing is due then.
+    pub fn wait(&mut self, moment: u64)
+        ensures bus_free { self.new.bus_free ≡ max self.old.bus_free moment }
+        ensures over { has_due self.new ≡ false }
+        ensures is { (timing : AnyTiming) (books : Books) → IsOf timing books self.old → IsOf timing books self.new }
+        ensures states { states_of self.new ≡ states_of self.old }
+    {
+        self.due.is_there = false;
+        self.bus_free = self.bus_free.max(moment);
     }
 
     /// The phase that is due ran from `started` on, in ns.
@@ -288,6 +403,31 @@ impl Dispatcher {
         self.lun[usize::from(want.lun)].accept_again(&self.rules, &self.spans, want);
     }
 
+    // What goes first where it is `now`.
+    fn choose(&self, now: u64) -> Option<Choice>
+        ensures next { (timing : AnyTiming) (books : Books) → IsOf timing books self.now
+            → MatchOption result (IsIdle (channel timing (max self.now.bus_free now) (states_of self.now) books)) (IsNextChoice books (channel timing (max self.now.bus_free now) (states_of self.now) books) (luns_of self.now)) }
+        ensures empty { (timing : AnyTiming) (books : Books) → IsOf timing books self.now → IfNone result (books.waiting ≡ []) }
+        ensures there { IfSome result (IsChoice (luns_of self.now)) }
+    {
+        let from = self.bus_free.max(now);
+        let array = self.spans.of_kind(Kind::Program).array;
+        let luns = &self.lun[..usize::from(self.due.luns)];
+        first_phase(luns, from, array, self.newest.number())
+    }
+
+    // The phase that was chosen.
+    fn phase_of(&self, choice: &Choice) -> NextPhase
+        requires { IsChoice (luns_of self.now) choice.now }
+        ensures { IsPhaseOf (luns_of self.now) choice.now result }
+    {
+        NextPhase {
+            lun: choice.lun,
+            start: choice.turn.start,
+            members: self.lun[usize::from(choice.lun)].wants(choice.erase),
+        }
+    }
+
     // The phase that was chosen is due from now on.
     fn give(&mut self, choice: Choice) -> NextPhase
         requires { IsChoice (luns_of self.old) choice }
@@ -295,6 +435,7 @@ impl Dispatcher {
         ensures due { IsDue self.new result }
         ensures same { IsBut self.old self.new }
     {
+        let phase = self.phase_of(&choice);
         self.due = DuePhase {
             start: choice.turn.start,
             is_there: true,
@@ -302,11 +443,7 @@ impl Dispatcher {
             lun: choice.lun,
             luns: self.due.luns,
         };
-        NextPhase {
-            lun: choice.lun,
-            start: choice.turn.start,
-            members: self.lun[usize::from(choice.lun)].wants(choice.erase),
-        }
+        phase
     }
 
     // Whether a phase is due.
@@ -324,7 +461,7 @@ impl Dispatcher {
     }
 
     // The phase that is due runs from `started` on.
-    fn run_due(&mut self, started: u64)
+    pub(crate) fn run_due(&mut self, started: u64)
         requires due { has_due self.old ≡ true }
         requires time { started < 2 ^ 62 }
         ensures ran { (timing : AnyTiming) (books : Books) → IsOf timing books self.old → HasRun timing books self.old self.new started }

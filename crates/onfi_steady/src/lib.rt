@@ -6,14 +6,13 @@
 mod begin;
 mod below;
 mod bus;
-mod choosing;
 mod dispatch;
 mod dispatcher;
 mod due_phase;
 mod fault;
 mod finding;
 mod first;
-mod given;
+mod group_phase;
 mod group_spans;
 mod kind_spans;
 mod laws;
@@ -26,7 +25,6 @@ mod next;
 mod next_turn;
 mod offer;
 mod own;
-mod phase;
 mod planner;
 mod planning;
 mod ready;
@@ -40,8 +38,11 @@ mod waiting;
 pub use dispatch::run_by_rule;
 pub use dispatcher::Dispatcher;
 pub use fault::{AcceptFault, RanFault, ReadyFault};
+pub use group_phase::GroupPhase;
 pub use laws::{
-    accepting_is_fair, beginning_is_fair, cancelling_is_fair, none_starves, running_is_fair,
+    accepting_is_fair, beginning_is_fair, cancelling_is_fair, channel_follows_dispatcher,
+    channel_follows_phase, channel_follows_request, none_starves, one_phase_is_next,
+    ready_by_states, rising_requests_are_accepted, running_is_fair,
 };
 pub use next::{NextPhase, next_phase, next_phase_of};
 pub use planner::RulePlanner;

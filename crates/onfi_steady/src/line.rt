@@ -45,7 +45,7 @@ impl Line {
 
     /// Whether no more may wait.
     pub fn is_full(&self) -> bool
-        ensures { result ≡ not (nat_lt self.now.count.of 64) }
+        ensures { result ≡ not (nat_lt (length (slots_in self.now)) 64) }
     {
         self.count.of >= 64
     }
@@ -62,7 +62,7 @@ impl Line {
 
     /// One more waits, after the others.
     pub fn push(&mut self, slot: Slot)
-        requires { self.old.count.of < 64 }
+        requires { length (slots_in self.old) < 64 }
         ensures { slots_in self.new ≡ slots_in self.old ++ slot ∷ [] }
     {
         self.slot[usize::from(self.count.of)] = slot;
@@ -73,7 +73,7 @@ impl Line {
 
     /// One more waits, before the others.
     pub fn push_first(&mut self, slot: Slot)
-        requires { self.old.count.of < 64 }
+        requires { length (slots_in self.old) < 64 }
         ensures { slots_in self.new ≡ slot ∷ slots_in self.old }
     {
         let mut list: ArrayVec<Slot, 64> = ArrayVec::new();

@@ -1,5 +1,5 @@
 //! What a LUN does, what waits for it, and what it would begin.
-ghost use Rattle.std.specs.Prelude.{◌≡◌, ℕ, ◌+◌, ◌<◌, ◌≤◌, ◌^◌, ◌∷◌, ◌++◌, [], List, length, true};
+ghost use Rattle.std.specs.Prelude.{◌≡◌, ℕ, ◌+◌, ◌*◌, ◌<◌, ◌≤◌, ◌^◌, ◌∷◌, ◌++◌, [], IfSome, IsSome, List, length, true};
 ghost use Rattle.std.specs.List.{list_any};
 ghost use Rattle.onfi_timing.specs.declared.kind.Kind.TheVariants.{Read};
 ghost use Rattle.onfi_timing.specs.declared.timing.Timing.{Timing as AnyTiming};
@@ -8,14 +8,15 @@ ghost use Rattle.onfi_problem.specs.declared.lun_state.LunState.TheVariants.{Fre
 ghost use Rattle.onfi_group.specs.declared.rules.Rules.{Rules as AnyRules};
 ghost use Rattle.onfi_steady.specs.declared.waiter.Waiter.{Waiter as AnyWaiter};
 ghost use Rattle.onfi_steady.specs.Offer.{firsts, is_kind};
-ghost use Rattle.onfi_steady.specs.Slots.{AreSpansOf, IsBegin, others_of, slots_in, waiters_in};
-ghost use Rattle.onfi_steady.specs.LunBooks.{HasBegun, HasGoneOn, IsLun, IsLunOffer, begin_of, state_in};
+ghost use Rattle.onfi_steady.specs.Slots.{AreSpansOf, IsBegin, others_of, slots_in, waiters_in, wants_in};
+ghost use Rattle.onfi_steady.specs.LunBooks.{HasBegun, HasGoneOn, HasPhaseLeft, IsGroupPhase, IsLun, IsLunOffer, begin_of, runs, state_in};
 ghost use Rattle.onfi_steady.specs.Selecting.{begun_on, can_run};
 ghost use Rattle.onfi_flight.specs.Flight.{ready_by};
 ghost use Rattle.onfi_steady.specs.Dispatcher.{head_refusal, in_array, lun_refusal};
 
 use crate::begin::Begin;
 use crate::fault::AcceptFault;
+use crate::group_phase::GroupPhase;
 use crate::kind_spans::KindSpans;
 use crate::line::Line;
 use crate::line_left::has_number;
@@ -26,6 +27,7 @@ use crate::slot::{Slot, list_wants};
 use crate::waiter::Waiter;
 use arrayvec::ArrayVec;
 use onfi_group::Rules;
+use onfi_problem::LunState;
 use onfi_request::Want;
 use onfi_timing::Kind;
 
@@ -117,6 +119,47 @@ impl LunBooks {
         }
     }
 
+    /// It does that, and nothing waits.
+    pub fn with_state(rules: &Rules, spans: &KindSpans, state: &LunState) -> LunBooks
+        requires { HasPhaseLeft state.now }
+        ensures state { state_in result.run ≡ state.now }
+        ensures line { slots_in result.line ≡ [] }
+        ensures lun { (timing : AnyTiming) → AreSpansOf timing spans.now → IsLun timing rules.now result }
+    {
+        LunBooks {
+            run: Run::with_state(spans, state),
+            line: Line::new(),
+            offer: LunOffer::of(rules, spans, &[]),
+        }
+    }
+
+    /// Whether its counts are in their ranges. They are, unless something else wrote its memory.
+    pub fn is_whole(&self) -> bool
+        ensures { result ≡ true }
+    {
+        self.run.members <= 4
+            && self.run.next <= 7
+            && self.line.count.of <= 64
+            && self.offer.group.members <= 4
+            && self.offer.erase.members <= 4
+    }
+
+    /// The member whose phase is next: of what it runs, or of what it offers.
+    pub fn phase(&self, erase: bool) -> Option<GroupPhase>
+        ensures goes { (timing : AnyTiming) (rules : AnyRules) → IsLun timing rules self.now → 1 ≤ self.now.run.members
+            → IfSome result (IsGroupPhase timing (wants_in (runs self.now.run)) self.now.run.next) }
+        ensures begins { (timing : AnyTiming) (group : List AnyWant) → self.now.run.members ≡ 0 → IsBegin timing group (begin_of self.now.offer erase)
+            → IfSome result (IsGroupPhase timing group 0) }
+        ensures some { (timing : AnyTiming) (rules : AnyRules) → IsLun timing rules self.now → can_run erase self.now ≡ true → IsSome result }
+        ensures within { IfSome result (λ p. (p.members ≤ 4) × (p.number < 2 * p.members) × (p.length < 2 ^ 50)) }
+    {
+        if self.run.members == 0 {
+            self.offer.begin(erase).phase()
+        } else {
+            self.run.phase()
+        }
+    }
+
     /// Why no request of that number may wait after the others, if so.
     pub fn refusal(&self, id: u64) -> Option<AcceptFault>
         ensures { result ≡ lun_refusal self.now id }
@@ -173,7 +216,7 @@ impl LunBooks {
 
     /// A request waits after the others.
     pub fn accept(&mut self, rules: &Rules, spans: &KindSpans, want: &Want)
-        requires { self.old.line.count.of < 64 }
+        requires { length (slots_in self.old.line) < 64 }
         ensures line { waiters_in (slots_in self.new.line) ≡ waiters_in (slots_in self.old.line) ++ record { want = want.now; passed = 0 } ∷ [] }
         ensures run { self.new.run ≡ self.old.run }
         ensures lun { (timing : AnyTiming) → AreSpansOf timing spans.now → IsLun timing rules.now self.old → IsLun timing rules.now self.new }
@@ -184,7 +227,7 @@ impl LunBooks {
 
     /// A request waits before the others.
     pub fn accept_again(&mut self, rules: &Rules, spans: &KindSpans, want: &Want)
-        requires { self.old.line.count.of < 64 }
+        requires { length (slots_in self.old.line) < 64 }
         ensures line { waiters_in (slots_in self.new.line) ≡ record { want = want.now; passed = 0 } ∷ waiters_in (slots_in self.old.line) }
         ensures run { self.new.run ≡ self.old.run }
         ensures lun { (timing : AnyTiming) → AreSpansOf timing spans.now → IsLun timing rules.now self.old → IsLun timing rules.now self.new }

@@ -6,8 +6,8 @@ ghost use Rattle.onfi_problem.specs.declared.lun_state.LunState.{LunState as Any
 ghost use Rattle.onfi_problem.specs.declared.lun_state.LunState.TheVariants.{Free, Running};
 ghost use Rattle.onfi_problem.specs.Moves.{Next, Start};
 ghost use Rattle.onfi_group.specs.Group.{group_operation, kind_of, lun_of};
-ghost use Rattle.onfi_steady.specs.Rule.{phase_numbers, post_rank};
-ghost use Rattle.onfi_steady.specs.Choosing.{numbers_of};
+ghost use Rattle.onfi_steady.specs.Ranks.{phase_numbers, post_rank};
+ghost use Rattle.onfi_steady.specs.Ranks.{numbers_of};
 ghost use Rattle.onfi_steady.specs.Waiting.{Books, channel};
 ghost use Rattle.onfi_steady.specs.Kept.{IsKeptFrom, is_kept};
 

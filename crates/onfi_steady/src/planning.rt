@@ -16,12 +16,9 @@ use std::alloc::{AllocError, Global};
 /// The schedule that the rule makes of a problem, in one pass and without a search, its groups by rising first start; and
 /// what no schedule ends before, in ns: the greatest of the bounds, of which the certificate is the one token.
 ///
-/// Again and again each LUN gives its next phase, or, where it runs nothing, the first phase of a group: that of its oldest
-/// read that may start, else of its oldest program, else of its oldest erase, with all mates that can join it, of two for one
-/// plane the older. Of these phases the one goes that may start soonest; of equals what goes on with its commands, then a
-/// status, a read's command, an erase's command, a data output, a program's data; then what begins the larger group, then
-/// the one with the older request. But a command of a group that is in its commands, and may start within the gap, keeps
-/// the bus: before it goes only what ends by then.
+/// Phase after phase goes that is next of a [`Dispatcher`](crate::Dispatcher) for which all of it waits, and no program is the newest:
+/// each LUN gives what it goes on with, or the group of its oldest read that may start, else of its oldest program, else of its
+/// oldest erase, with all mates that can join it; of these phases the one goes that may start soonest.
 ///
 /// # Errors
 /// Only where memory was refused.

@@ -1,12 +1,15 @@
 //! What a LUN runs, kept as numbers.
-ghost use Rattle.std.specs.Prelude.{◌≡◌, ◌+◌, ◌*◌, ◌<◌, ◌≤◌, ◌^◌, if◌then◌else◌, length, take};
-ghost use Rattle.onfi_steady.specs.Rule.{post_rank};
+ghost use Rattle.std.specs.Prelude.{◌≡◌, ◌+◌, ◌-◌, ◌*◌, ◌<◌, ◌≤◌, ◌^◌, if◌then◌else◌, IfSome, IsSome, length, nat_lt, take};
+ghost use Rattle.onfi_steady.specs.Ranks.{post_rank};
 
+use crate::group_phase::GroupPhase;
 use crate::group_spans::{phase_length, wait_before};
 use crate::kind_spans::KindSpans;
-use crate::own::operation_rank;
-use crate::slot::Slot;
+use crate::own::{oldest, operation_rank};
+use crate::slot::{Slot, slots_of};
 use crate::turn::post_rank;
+use onfi_problem::LunState;
+use onfi_request::Want;
 use onfi_timing::Operation;
 
 /// Nothing, where `members` is 0, and a group may begin from `since`; or a group of which phases 0 to `next - 1` are over, and
@@ -40,9 +43,9 @@ impl Run {
     ghost use Rattle.onfi_problem.specs.Moves.{lun_after};
     ghost use Rattle.onfi_problem.specs.declared.lun_state.LunState.TheVariants.{Free, Running};
     ghost use Rattle.onfi_flight.specs.Flight.{ready_by};
-    ghost use Rattle.onfi_steady.specs.Rule.{oldest as oldest_of};
+    ghost use Rattle.onfi_steady.specs.Ranks.{oldest as oldest_of};
     ghost use Rattle.onfi_steady.specs.Slots.{AreSpansOf, wants_in};
-    ghost use Rattle.onfi_steady.specs.LunBooks.{IsGoing, runs, state_in};
+    ghost use Rattle.onfi_steady.specs.LunBooks.{HasPhaseLeft, IsGoing, IsGroupPhase, runs, state_in};
 
     /// Nothing, from then on.
     pub fn free(since: u64) -> Run
@@ -98,6 +101,33 @@ impl Run {
         }
     }
 
+    /// What a LUN does as a channel begins.
+    pub fn with_state(spans: &KindSpans, state: &LunState) -> Run
+        requires { HasPhaseLeft state.now }
+        ensures state { state_in result ≡ state.now }
+        ensures going { (timing : AnyTiming) → AreSpansOf timing spans.now → 1 ≤ result.members → IsGoing timing result }
+    {
+        match state {
+            LunState::Free { since } => Run::free(*since),
+            LunState::Running { group, next, ready } => {
+                Run::with_group(spans, group.members(), *next, *ready)
+            }
+        }
+    }
+
+    // The group of these members, of which phases 0 to `next - 1` are over and the next may start from `since`, in ns.
+    fn with_group(spans: &KindSpans, members: &[Want], next: u8, since: u64) -> Run
+        requires some { 1 ≤ length members.now }
+        requires few { length members.now ≤ 4 }
+        requires within { next + 1 ≤ 2 * length members.now }
+        ensures state { state_in result ≡ Running members.now next since }
+        ensures going { (timing : AnyTiming) → AreSpansOf timing spans.now → IsGoing timing result }
+    {
+        let member = slots_of(members);
+        let least = oldest(members);
+        Run::standing(spans, &member, members.len() as u8, least, next, since)
+    }
+
     /// The group of these members, whose least number is said, once the phase before number `next` has ended.
     pub fn at(
         spans: &KindSpans,
@@ -119,10 +149,33 @@ impl Run {
             result.since ≡ ended + wait_before (group_spans timing (wants_in (take members member.now))) (length (wants_in (take members member.now))) next }
         ensures going { (timing : AnyTiming) → AreSpansOf timing spans.now → least ≡ oldest_of (wants_in (take members member.now)) → IsGoing timing result }
     {
+        let since = ended + wait_before(spans, &member[..usize::from(members)], next);
+        Run::standing(spans, member, members, least, next, since)
+    }
+
+    // The same, whose next phase may start from `since` on, in ns.
+    fn standing(
+        spans: &KindSpans,
+        member: &[Slot; 4],
+        members: u8,
+        least: u64,
+        next: u8,
+        since: u64,
+    ) -> Run
+        requires four { length member.now ≡ 4 }
+        requires some { 1 ≤ members }
+        requires few { members ≤ 4 }
+        requires within { next + 1 ≤ 2 * members }
+        ensures members { result.members ≡ members }
+        ensures runs { runs result ≡ take members member.now }
+        ensures next { result.next ≡ next }
+        ensures since { result.since ≡ since }
+        ensures going { (timing : AnyTiming) → AreSpansOf timing spans.now → least ≡ oldest_of (wants_in (take members member.now)) → IsGoing timing result }
+    {
         let running = &member[..usize::from(members)];
         let kind = running[0].kind();
         Run {
-            since: ended + wait_before(spans, running, next),
+            since,
             span: phase_length(spans, running, next),
             gap: spans.of_kind(kind).gap,
             oldest: least,
@@ -132,6 +185,36 @@ impl Run {
             rank: rank_of(kind.operation(), next < members),
             erases: operation_rank(kind.operation()) == operation_rank(Operation::Erase),
         }
+    }
+
+    /// The member whose phase is next, where a group runs.
+    pub fn phase(&self) -> Option<GroupPhase>
+        ensures phase { (timing : AnyTiming) → 1 ≤ self.now.members → IsGoing timing self.now → IfSome result (IsGroupPhase timing (wants_in (runs self.now)) self.now.next) }
+        ensures some { 1 ≤ self.now.members → self.now.next + 1 ≤ 2 * self.now.members → IsSome result }
+        ensures within { IfSome result (λ p. (p.members ≤ 4) × (p.number < 2 * p.members) × (p.length < 2 ^ 50)) }
+    {
+        let at = member_at(self.next, self.members);
+        let running = &self.member[..usize::from(self.members)];
+        match running.get(usize::from(at)) {
+            Some(member) => Some(GroupPhase {
+                want: member.want(),
+                length: self.span,
+                number: self.next,
+                members: self.members,
+            }),
+            None => None,
+        }
+    }
+}
+
+// The place of the member whose phase that is, in a group of so many.
+fn member_at(phase: u8, members: u8) -> u8
+    ensures { result ≡ (if nat_lt phase members then phase else phase - members) }
+{
+    if phase < members {
+        phase
+    } else {
+        phase - members
     }
 }
 

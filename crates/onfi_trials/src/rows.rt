@@ -15,10 +15,8 @@ pub(crate) enum Word {
     Longest,
     /// Pages have four sectors.
     Sectored,
-    /// By what a planning chooses.
-    ByLun,
-    ReadsFirst,
-    WholeGroups,
+    /// Phases run as the next phase says.
+    ByNext,
     /// Which planner plans.
     Remembering,
     Best,
@@ -71,9 +69,7 @@ impl Word {
             "apart" => Word::Apart,
             "longest" => Word::Longest,
             "sectored" => Word::Sectored,
-            "by-lun" => Word::ByLun,
-            "reads-first" => Word::ReadsFirst,
-            "whole-groups" => Word::WholeGroups,
+            "by-next" => Word::ByNext,
             "remembering" => Word::Remembering,
             "best" => Word::Best,
             "fault" => Word::Fault,

@@ -71,9 +71,7 @@ impl Stage {
                 self.geometry = divide_pages()?;
                 self.timing = time_sectors()?;
             }
-            Word::ByLun => self.choice = Choice::ByLun,
-            Word::ReadsFirst => self.choice = Choice::ReadsFirst,
-            Word::WholeGroups => self.choice = Choice::WholeGroups,
+            Word::ByNext => self.choice = Choice::NextPhase,
             Word::Remembering => self.planner = ChosenPlanner::Remembering,
             Word::Best => self.planner = ChosenPlanner::BestSoFar,
             _ => return Err(Ended::NoTrial),

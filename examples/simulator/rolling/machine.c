@@ -39,10 +39,6 @@ size_t place_of(const machine *m, uint64_t id)
 void accept_request(machine *m, onfi_want want, uint64_t arrived)
 {
     m->waiting[m->waiting_count++] = (request){.want = want, .arrived = arrived};
-    if (want.kind == ONFI_PROGRAM) {
-        m->has_newest = true;
-        m->newest = want.id;
-    }
     m->outstanding++;
     m->accepted++;
 }
@@ -89,11 +85,8 @@ void say(const machine *m, const size_t *place, size_t count, said *said)
     said->channel.bus_free = later_of(m->now, m->bus_free);
     for (unsigned at = 0; at < m->setup->luns; at++)
         said->lun[at] = lun_of(&m->lun[at]);
-    for (size_t at = 0; at < count; at++) {
-        const request *waits = &m->waiting[place ? place[at] : at];
-        said->want[at] = waits->want;
-        said->passed[at] = waits->passed;
-    }
+    for (size_t at = 0; at < count; at++)
+        said->want[at] = m->waiting[place ? place[at] : at].want;
 }
 
 /* Puts a request that begins into its LUN's group, planes rising. */
@@ -115,19 +108,6 @@ static request take(machine *m, size_t place)
     m->waiting_count--;
     memmove(m->waiting + place, m->waiting + place + 1, (m->waiting_count - place) * sizeof *m->waiting);
     return taken;
-}
-
-/* Notes that a group began on a LUN: it passed over what waits there and was accepted before one of its members. */
-static void note_passed(machine *m, unsigned lun, const step *step)
-{
-    uint64_t latest = 0;
-    for (size_t at = 0; at < step->members; at++)
-        latest = step->member[at] > latest ? step->member[at] : latest;
-    for (size_t at = 0; at < m->waiting_count; at++) {
-        request *waits = &m->waiting[at];
-        if (waits->want.lun == lun && waits->want.id < latest && waits->passed < UINT16_MAX)
-            waits->passed++;
-    }
 }
 
 static void begin_group(machine *m, lun_state *lun, const step *step)
@@ -179,10 +159,7 @@ static void pass_phase(const setup *setup, lun_state *lun, const phase *p)
 phase run_step(machine *m, const step *step, request *answered)
 {
     lun_state *lun = &m->lun[step->lun];
-    if (step->members) {
-        begin_group(m, lun, step);
-        note_passed(m, step->lun, step);
-    }
+    begin_group(m, lun, step);
     phase p = next_phase(m, step->lun, step->start);
     if (p.is_post) {
         *answered = lun->member[lun->next - lun->members];

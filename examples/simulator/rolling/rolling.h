@@ -8,7 +8,7 @@
  *   judge.c     whether a step is legal, by books of its own
  *   greedy.c    ways that take of what can start soonest what ranks first
  *   planned.c   ways that plan a batch, and follow the plan until there is something new
- *   library.c   the library's choices, planners, and phase by phase
+ *   library.c   the library's planners, and phase by phase
  *   ways.c      all ways by name, one of your own among them
  *   figures.c   what came of it
  *   simulate.c  the loop
@@ -99,7 +99,6 @@ void print_source(const setup *setup, FILE *out);
 typedef struct {
     onfi_want want; /* its id is its place in the order of acceptance */
     uint64_t arrived;
-    uint16_t passed; /* how many groups with a later request began on its LUN while it waited */
 } request;
 
 typedef struct {
@@ -118,8 +117,6 @@ typedef struct {
     size_t waiting_count;
     size_t outstanding; /* accepted and not answered */
     uint64_t accepted; /* how many so far */
-    bool has_newest;
-    uint64_t newest; /* the id of the newest accepted program, where there is one */
 } machine;
 
 /* What has the bus next: the next phase of a LUN's group, or the first one of a new group. */
@@ -162,7 +159,6 @@ typedef struct {
     onfi_channel channel;
     onfi_lun lun[ONFI_LUNS];
     onfi_want want[MOST_WAITING];
-    uint16_t passed[MOST_WAITING];
 } said;
 
 /* Those at so many places; all where there are no places. */
@@ -213,14 +209,11 @@ bool judge_step(judge *j, const step *step, fault *wrong);
 typedef struct {
     size_t count;
     size_t place[MOST_WAITING];
-    uint32_t refused; /* the status of the library's choice where it failed */
 } batch;
 
 typedef void choice(const machine *m, batch *chosen);
 
 choice everything, first_eight;
-/* By the library: of each LUN one kind; by onfi_choose; by onfi_choose_whole. */
-choice by_lun_one_kind, by_lun, by_lun_reads_first, whole_groups;
 
 extern const rule ROUND_ROBIN, COMMANDS_FIRST, MQSIM;
 
@@ -237,7 +230,7 @@ typedef struct {
 /* Plans by at most `limit` nodes; gives an onfi_status. */
 typedef uint32_t planner(const problem *problem, uint32_t limit, onfi_planned *plan);
 
-planner plan_known, plan_early, plan_early_by_age, plan_early_reads, plan_rule;
+planner plan_known, plan_early_by_age, plan_rule;
 
 typedef struct {
     step step[PLAN_STEPS]; /* in order of start */
@@ -252,20 +245,14 @@ typedef struct {
     double seconds, longest; /* processor time of all plans, and of the longest */
 } costs;
 
-/* What a firmware that goes phase by phase by the library keeps of its channel. */
-typedef struct {
-    onfi_channel channel;
-    onfi_lun lun[ONFI_LUNS];
-    onfi_queue queue;
-    uint64_t accepted; /* 1 more than the id of the last request that the queue took; 0: it took none */
-} kept;
-
 /* What a way keeps. */
 typedef struct {
     unsigned turn; /* the LUN after the one that had the bus last */
     bool told; /* a LUN has reported that it is ready since the last plan */
     bool has_begun, has_run; /* of phase by phase: whether it has begun, and whether the step that it gave last has run */
-    kept now, after; /* how the channel stands, and how after that step */
+    uint64_t start; /* of that step */
+    uint64_t accepted[ONFI_LUNS]; /* 1 more than the id of the last request of a LUN that the dispatcher took; 0: it took none */
+    onfi_dispatcher dispatcher;
     plan plan;
     costs planning;
     uint32_t refused; /* the status of a call that failed otherwise than by being over */

@@ -140,10 +140,8 @@ static void turn(run *r)
     r->way->choose(&r->machine, &batch);
     bool any = r->way->decide(r->way, &r->mind, &r->machine, &batch, &step);
     uint64_t event = next_event(r);
-    if (batch.refused)
-        note_wrong(r, "the library refuses to choose");
-    else if (r->mind.refused)
-        note_wrong(r, "the planner refuses a problem");
+    if (r->mind.refused)
+        note_wrong(r, "the library refuses a problem");
     else if (any && step.start <= event) {
         if (judge_step(&r->judge, &step, r->wrong))
             run_next(r, &step);

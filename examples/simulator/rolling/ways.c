@@ -13,20 +13,9 @@ static const way WAYS[] = {
     {"rfirst:all", everything, by_rule, &READS_FIRST, NULL, 0},
 #ifndef WITHOUT_LIBRARY
     {"steady", everything, phase_by_phase, NULL, NULL, 0},
-    {"rule-by-lun", by_lun, by_plan, NULL, plan_rule, 0},
-    {"rule-one-kind", by_lun_one_kind, by_plan, NULL, plan_rule, 0},
-    {"rule-whole-groups", whole_groups, by_plan, NULL, plan_rule, 0},
+    {"rule", first_eight, by_plan, NULL, plan_rule, 0},
     {"plan", first_eight, by_plan, &ROUND_ROBIN, plan_known, 0},
-    {"plan-by-lun", by_lun, by_plan, &ROUND_ROBIN, plan_known, 0},
-    {"plan-reads-first", by_lun_reads_first, by_plan, &ROUND_ROBIN, plan_known, 0},
     {"plan-early", first_eight, by_plan, &ROUND_ROBIN, plan_early_by_age, 0},
-    {"plan-early-by-lun", by_lun, by_plan, &ROUND_ROBIN, plan_early_by_age, 0},
-    {"plan-early-reads-first", by_lun_reads_first, by_plan, &ROUND_ROBIN, plan_early, 0},
-    {"plan-near-by-lun", by_lun, by_plan, &ROUND_ROBIN, plan_early_by_age, 20},
-    {"plan-near-reads-first", by_lun_reads_first, by_plan, &ROUND_ROBIN, plan_early, 20},
-    {"plan-near-heavy-reads", by_lun_reads_first, by_plan, &ROUND_ROBIN, plan_early_reads, 20},
-    {"plan-near-one-kind", by_lun_one_kind, by_plan, &ROUND_ROBIN, plan_early_reads, 20},
-    {"plan-near-whole-groups", whole_groups, by_plan, &ROUND_ROBIN, plan_early_reads, 20},
 #endif
 };
 

@@ -13,15 +13,10 @@ EXAMPLES = ROOT / "examples" / "c"
 REQUESTS = 400
 WAYS = {
     "greedy": "way greedy",
-    "plans in order": "way plans choice in-order weights age",
-    "plans by LUN": "way plans choice by-lun weights age",
-    "plans reads first": "way plans choice reads-first weights equal",
-    "plans of heavy reads": "way plans choice reads-first weights reads",
-    "plans of one kind": "way plans choice one-kind weights reads",
-    "plans within, of one kind": "way plans choice one-kind plan within",
-    "rule, by LUN": "way plans choice by-lun plan rule",
-    "rule, one kind": "way plans choice one-kind plan rule",
     "phase by phase": "way phases",
+    "plans by the rule": "way plans plan rule",
+    "plans within": "way plans plan within",
+    "plans early": "way plans plan early",
 }
 FUNCTION = re.compile(r"(c?)fn=(\(\d+\)) ?(.*)")
 COST = re.compile(r"(?:[+-]?\d+|\*) (\d+)$")

@@ -32,12 +32,13 @@ SHARE = 0.05
 LEAST = 0.002
 POOL = "-DPOOL_BYTES=67108864"
 # Structs by their names in the page.
-STRUCTS = {"a channel": "channel", "a LUN": "lun", "a want": "want", "a phase": "phase", "a queue of 64 requests": "queue", "a schedule": "schedule"}
+STRUCTS = {"a channel": "channel", "a LUN": "lun", "a want": "want", "a phase": "phase", "a dispatcher": "dispatcher", "a schedule": "schedule"}
+DISPATCHER = ("begin", "accept", "accept_again", "cancel", "next", "ran", "ready")
 # What is linked of the library, by calls: what they don't reach is left out.
 LINKED = {
     "linked for `onfi_plan` and `onfi_check` alone": ["plan", "check"],
-    ".. for `onfi_choose`, `onfi_plan_within`, `onfi_due`, `onfi_ran`": ["choose", "plan_within", "due", "ran"],
-    ".. for `onfi_queue_accept`, `onfi_next`, `onfi_queue_ran`, `onfi_output_of`": ["queue_accept", "next", "queue_ran", "output_of"],
+    ".. for `onfi_plan_within`, `onfi_due`, `onfi_ran`": ["plan_within", "due", "ran"],
+    ".. for the calls of a dispatcher, `onfi_output_of`": [*(f"dispatcher_{it}" for it in DISPATCHER), "output_of"],
 }
 # Where libraries of other processors stand, by the order of columns.
 FOLDERS = (".", "aarch64", "riscv64", "armv7", "thumbv7em", "riscv32")
@@ -46,7 +47,7 @@ LIMITS = (200, 2000)
 LOADS = ("", " workload erases")
 HERE = "x86-64"
 CELL = r"([\d,]+(?:\.\d+)?)"
-WAYS = ("greedy", "phase by phase", "rule, one kind", "plans within, of one kind", "plans in order")
+WAYS = ("greedy", "phase by phase", "plans by the rule", "plans within", "plans early")
 CALLS = {"plan": "plain", "plan --remember": "known", "plan --early --within": "early"}
 
 
@@ -102,15 +103,9 @@ class Measured:
         runs = [self.driven(words, pool=False) for words in ("way all", "way all byte 0.833 load 0.7 array 0.4-0.7")]
         return ["\n\n".join("\n".join(f"    {line}" for line in it.splitlines()) for it in runs)]
 
-    def latencies(self) -> List[str]:
-        """Within how many ms 99 of 100 programs are answered by plans and by the greedy way, and as many reads."""
-        way = {name: rows for name, rows in re.findall(r"^(\w+): .*\n((?:  .*\n)+)", self.driven("way all", pool=False), re.MULTILINE)}
-        found = [re.findall(rf"{kind}: .* within (\d+) us", way[name])[0] for kind in ("programs", "reads") for name in ("plans", "greedy")]
-        return [f"{int(it) / 1000:.1f}" for it in found]
-
     def suspended(self) -> List[str]:
         """Reads and programs with suspends and without: in the mean, and 99 of 100."""
-        sources = ["suspend.c", *(f"firmware{part}.c" for part in ("", "_plans", "_choice", "_board", "_host"))]
+        sources = ["suspend.c", *(f"firmware{part}.c" for part in ("", "_board", "_host"))]
         words = ["-std=c99", "-O2", f"-I{ROOT / 'include'}", *(EXAMPLES / name for name in sources), self.libraries / "libonfi.a", "-lm"]
         ran = subprocess.run([str(built("cc", words, self.room / "suspend"))], check=True, capture_output=True, text=True)
         rows = re.findall(r"(reads|programs): ([\d.]+) us in the mean, 99 % within ([\d.]+) us", ran.stdout)
@@ -153,15 +148,16 @@ class Measured:
     def turn(self, way: str) -> List[str]:
         """The cells of a way that aren't empty."""
         turns = self.turns(way)
-        columns = (("choose",), ("due", "next"), ("ran", "queue_ran"), ("plan",))
+        columns = (("dispatcher_accept",), ("due", "dispatcher_next"), ("ran", "dispatcher_ran"), ("plan",))
         calls = [sum(count for call, count in turns.calls.items() if call[5:].startswith(column)) for column in columns]
         own = turns.whole - sum(turns.calls.values())
         return [*map(thousands, (turns.whole, own, *filter(None, calls))), *([f"{turns.plans:.2f}"] if turns.plans else [])]
 
     def phase_by_phase(self) -> List[str]:
-        """Instructions of a request, and of two calls of a phase, of which a request has two."""
+        """Instructions of a request, of its acceptance, and of two calls of a phase, of which a request has two."""
         turns = self.turns("phase by phase")
-        return [thousands(round(it, -2)) for it in (turns.whole, turns.calls["onfi_next"] / 2, turns.calls["onfi_queue_ran"] / 2)]
+        calls = (turns.calls["onfi_dispatcher_accept"], turns.calls["onfi_dispatcher_next"] / 2, turns.calls["onfi_dispatcher_ran"] / 2)
+        return [thousands(round(it, -1)) for it in (turns.whole, *calls)]
 
     @functools.lru_cache(maxsize=None)
     def counted(self) -> Program:
@@ -247,10 +243,8 @@ def header_figures(of: Measured) -> Iterator[Figure]:
 
 def example_figures(of: Measured) -> Iterator[Figure]:
     page = "examples/c/README.md"
-    served = r"99 of 100 programs are answered within {0} ms in place of {0}, and as many reads within {0} ms in place of {0}\."
     stopped = r"Reads then take {0} µs in the mean, 99 % within {0}, for {0} and {0} without; programs {0} for {0}, 99 % within {0} for {0}\."
     yield Figure(page, r"### What it prints\n\n[^\n]*\n\n((?:    [^\n]*\n|\n(?=    ))*[^\n]*)\n\n", of.printed, 0)
-    yield Figure(page, served.format(CELL), of.latencies, 0)
     yield Figure(page, stopped.format(CELL), of.suspended, 0)
 
 
@@ -258,14 +252,15 @@ def embedded_figures(of: Measured) -> Iterator[Figure]:
     page, sizes = "docs/EMBEDDED.md", r"[^|]*" + 6 * rf"\|(?: {CELL})? " + r"\|"
     yield Figure(page, r"structs, " + ", ".join(rf"{name} {CELL}(?: bytes)?" for name in STRUCTS), of.structs, 0)
     yield Figure(page, rf"a turn goes {CELL} KB deep", of.phases_stack)
-    yield Figure(page, rf"a request takes {CELL} instructions in all, {CELL} for `onfi_next` and {CELL} for", of.phase_by_phase)
+    place = rf"a request takes {CELL} instructions in all: {CELL} to accept it, and of each of its two phases {CELL} to say that it is next and {CELL} after it ran"
+    yield Figure(page, place, of.phase_by_phase)
     for planner, limit in itertools.product(PLANNERS, LIMITS):
         place = rf"\| {planner} (?:\|[^\n]*\n\| )?\| {limit:,} \| {CELL} \| {CELL} \|[^|]*\|[^|]*\| {CELL} \|"
         yield Figure(page, place, functools.partial(of.planner, planner, limit))
     yield Figure(page, r"\| code and constants, all calls" + sizes, of.code)
     for label, calls in LINKED.items():
         yield Figure(page, rf"\| {re.escape(label)}{sizes}", functools.partial(of.code, calls))
-    yield Figure(page, r"\| stack of a turn[^|]*\| ([\d, ]+) \| ([\d, ]+) \|[^|]*\| ([\d, ]+) \|", of.turn_stacks)
+    yield Figure(page, r"\| stack of a turn[^|]*\| ([\d, ]+) \| ([\d, ]+) \|[^|]*\|(?: ([\d, ]+))? \|", of.turn_stacks)
 
 
 def speed_figures(of: Measured) -> Iterator[Figure]:
@@ -279,8 +274,7 @@ def speed_figures(of: Measured) -> Iterator[Figure]:
     yield Figure(page, nodes.format(CELL), of.nodes)
     for way in WAYS:
         yield Figure(page, rf"\| {re.escape(way)} " + 7 * rf"\| *(?:{CELL})? *" + r"\|", functools.partial(of.turn, way))
-    hard = r"On four hard scripts `plan` opens {0} nodes or more, `plan --remember` at most {0} "
-    yield Figure("docs/REMEMBER.md", hard.format(CELL), of.opened, 0)
+    yield Figure("docs/REMEMBER.md", rf"`plan` opens {CELL} nodes or more, `plan --remember` at most {CELL}\.", of.opened, 0)
     for (name, way), requests in itertools.product(CALLS.items(), (1, 8)):
         yield Figure(page, rf"\| `{name}` of {requests} " + 3 * rf"\| {CELL} " + r"\|", functools.partial(of.whole_call, way, requests))
 

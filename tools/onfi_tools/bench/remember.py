@@ -33,7 +33,7 @@ import os
 import random
 import re
 import sys
-from typing import Callable, Dict, List, NamedTuple, Optional, Sequence, Tuple
+from typing import Callable, Dict, Iterator, List, NamedTuple, Optional, Sequence, Tuple
 
 from onfi_tools import plans
 from onfi_tools.bench.runs import HARD, MOST, OVER, ROOT, add_words, answered, cells_at, greatest_over, planned, quantile, run, said, table
@@ -103,18 +103,27 @@ def set_rows(name: str, pairs: Sequence[Pair]) -> List[List[str]]:
     return [[name, f"`{word}`", said(plans.count(None)), *(quantiles(plans, field) for field in ("nodes", "ms", "bytes"))] for word, plans in both]
 
 
+def pairs_of_sets(program: str, seed: int, count: int, pool: concurrent.futures.Executor) -> Iterator[Tuple[str, List[Pair]]]:
+    """The plans of each set's scripts, as they are measured."""
+    rng = random.Random(seed)
+    for name, draw in SETS.items():
+        scripts = [draw(rng) for _ in range(count // len(SETS))]
+        yield name, list(pool.map(lambda script: measure(program, script), scripts))
+
+
+def agreed(pairs: Sequence[Pair]) -> Tuple[int, int]:
+    """How many plans that remember states are accepted, and how many finishes both searches found; measuring ends where one is wrong."""
+    return sum(pair.remembered is not None for pair in pairs), sum(None not in pair for pair in pairs)
+
+
 def measure_sets(asked: argparse.Namespace, pool: concurrent.futures.Executor) -> List[str]:
-    rng = random.Random(asked.seed)
     rows: List[List[str]] = []
     pairs: List[Pair] = []
-    for name, draw in SETS.items():
-        scripts = [draw(rng) for _ in range(asked.scripts // len(SETS))]
-        own = list(pool.map(lambda script: measure(asked.program, script), scripts))
+    for name, own in pairs_of_sets(asked.program, asked.seed, asked.scripts, pool):
         rows += set_rows(name, own)
         pairs += own
         print(f"measured: {name}", file=sys.stderr, flush=True)
-    both = sum(pair.plain is not None and pair.remembered is not None for pair in pairs)
-    accepted = sum(pair.remembered is not None for pair in pairs)
+    accepted, both = agreed(pairs)
     line = (f"seed {asked.seed}, {len(pairs):,} scripts; {both:,} finishes of both agree, {accepted:,} plans of "
             f"`plan --remember` accepted by `check --remember`, {len(pairs) - accepted:,} over")
     return [line, "", *table(["scripts", "by", "over", "nodes", "ms", "bytes of the certificate"], [*rows, *set_rows("all", pairs)], 2), ""]
@@ -167,12 +176,21 @@ def gaps_row(batches: Sequence[Batch], limit: int) -> List[str]:
     return cells + ([f"{quantile(gaps, share):.1f} %" for share in (0.5, 0.9, 1)] if gaps else ["", "", ""])
 
 
+def batches_of_chains(program: str, seed: int, count: int, pool: concurrent.futures.Executor) -> List[Batch]:
+    seeds = [f"chain {seed} {number}" for number in range(count)]
+    return [batch for chain in pool.map(lambda own: chain_of(program, own), seeds) for batch in chain]
+
+
+def times_over(batches: Sequence[Batch]) -> List[str]:
+    """How many are over, for each of the searches."""
+    return [said(sum(batch.over[search] for batch in batches)) for search in SEARCHES]
+
+
 def measure_chains(asked: argparse.Namespace, pool: concurrent.futures.Executor) -> List[str]:
-    seeds = [f"chain {asked.seed} {number}" for number in range(asked.chains)]
-    batches = [batch for chain in pool.map(lambda seed: chain_of(asked.program, seed), seeds) for batch in chain]
+    batches = batches_of_chains(asked.program, asked.seed, asked.chains, pool)
     if not batches:
         return []
-    over = [[f"`{words}`", f"{limit:,}", f"{sum(batch.over[words, limit] for batch in batches):,}"] for words, limit in SEARCHES]
+    over = [[f"`{words}`", f"{limit:,}", count] for (words, limit), count in zip(SEARCHES, times_over(batches))]
     columns = ["limit of `plan --within`", "proved optimal", "others too long by at most: median", "nine of ten", "greatest"]
     return [f"seed {asked.seed}, {asked.chains:,} chains of {BATCHES} rolling batches: {len(batches):,}", "",
             *table(["by", "limit", "over"], over), "", *table(columns, [gaps_row(batches, limit) for limit in LIMITS], 0), ""]

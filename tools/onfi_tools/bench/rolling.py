@@ -21,8 +21,8 @@ all figures of all runs in a file, each as it comes; a run that the file has isn
 
 --trace takes a load of your own, of bytes or of pages, on the device of SCRIPT in place of all that (docs/WORKLOADS.md has both forms,
 and what --unit to --fresh mean), by `fifo`, `rfirst:all`, with the library `steady`, and your own way, or by those of --ways. Requests come at their
-times, or --closed with answers, at most 64 or --depth of them outstanding. --run adds `run --clock simulated --rule` of onfi_sim, with
-batches by whole groups, of up to 10,000 operations: there one host sends all as they come. It prints operations and bytes a second, beside the bound,
+times, or --closed with answers, at most 64 or --depth of them outstanding. --run adds `run --clock simulated --rule` of onfi_sim, of up
+to 10,000 operations: there one host sends all as they come. It prints operations and bytes a second, beside the bound,
 and latencies of lines, from arrival to the end of all that a line asks for. --into puts into FOLDER `latencies.csv`, with each line by
 each way, `over-time.csv` and its picture `over-time.svg`, with operations and bytes a second, and the simulator `rolling` with its
 `device.onfi` and `load.csv`.
@@ -42,7 +42,7 @@ from onfi_tools.rates_svg import Panel, picture
 from onfi_tools.rolling_load import Load, Outcome, latency_rows, run_load, run_sequencer, tables_of, window_rows, windows_of, write_load
 from onfi_tools.rolling_tables import apart, gain_table, quick_tables, sector_table, whole_tables
 from onfi_tools.rolling_use import ALL, OF_SECTORS, TWELVE, WORKLOADS, Asked, Rows, all_of, build, measure, open_loops, readiness, six_of, ways_of
-from onfi_tools.rolling_ways import BASE, GREEDY, PLAIN, QUICK, WAYS, WAYS_OF_SECTORS, title_of
+from onfi_tools.rolling_ways import BASE, GREEDY, PLAIN, WAYS, WAYS_OF_SECTORS, title_of
 from onfi_tools.script import first_form, rows_of
 from onfi_tools.workload import DEVICE_ROWS, Mapping, add_trace_words, operations_of, positive, read_requests, shape_of
 
@@ -136,7 +136,7 @@ def configurations(asked: argparse.Namespace, room: Path) -> List[str]:
     """The configurations that are asked for, by the ways that are."""
     how = Asked(asked.requests or (1000 if asked.quick else 4000), asked.seed, asked.limit, asked.jobs)
     is_beside = asked.quick and asked.workload in OF_SECTORS
-    named = asked.ways or (WAYS_OF_SECTORS if is_beside else QUICK if asked.quick else list(WAYS))
+    named = asked.ways or (WAYS_OF_SECTORS if is_beside else list(WAYS))
     program, own = built(asked, room, named)
     ways, rows = [BASE, *own, *(name for name in named if name != BASE)], Rows(asked.rows)
     if is_beside:

@@ -7,31 +7,27 @@ ghost use Rattle.onfi_core.specs.View.{WantsItem};
 ghost use Rattle.onfi_core.specs.Kept.{is_of_place};
 
 use crate::half::Half;
-use crate::setup::Choice;
 
 impl Half {
-    /// Whether an item more is of use: in order while fewer accepted items than the batch are unplanned, else always.
+    /// Whether an item more is of use: while fewer accepted items than the batch are unplanned.
     pub fn wants_item(&self) -> bool
         ensures { IsTrue result ↔ WantsItem self.now.setup self.now.state }
     {
-        match self.setup.choice {
-            Choice::InOrder => self.accepted - self.planned < u64::from(self.batch),
-            Choice::ByLun | Choice::ReadsFirst | Choice::WholeGroups => true,
-        }
+        self.accepted - self.planned < u64::from(self.batch)
     }
 
-    /// Whether a phase of the plan is left, stopped or not.
+    /// Whether a phase is left, stopped or not.
     pub fn has_phase(&self) -> bool
         ensures { IsTrue result ↔ (none_left self.now.state ≡ false) }
     {
-        !self.flight.is_done()
+        !self.way.is_done()
     }
 
     /// From when on the bus is free, in ns of the channel's clock.
     pub fn bus_free(&self) -> u64
         ensures { result ≡ self.now.state.now.bus_free }
     {
-        self.flight.bus_free()
+        self.way.bus_free()
     }
 
     /// How many items were accepted.

@@ -1,14 +1,12 @@
 //! Time that passes.
 
 ghost use Rattle.std.specs.Prelude.{◌≡◌, ◌+◌, ◌<◌, ◌^◌, max, nat_lt, true, if◌then◌else◌, None, Some, IfOk, IfErr, MatchOption, OnErr};
-ghost use Rattle.onfi_problem.specs.Moves.{free_from};
-ghost use Rattle.onfi_core.specs.Steps.{is_current, is_in_array, readied, ready_of, ready_refusal, wait_refusal, waited};
+ghost use Rattle.onfi_core.specs.Steps.{is_current, outdated_by, readied, ready_of, ready_refusal, wait_refusal, waited};
 ghost use Rattle.onfi_core.specs.Refusals.{ready_outcome, wait_outcome};
 
 use crate::half::Half;
 use crate::outcome::Cause;
 use onfi_flight::TooLate;
-use onfi_problem::LunState;
 use std::alloc::Global;
 
 /// Why the bus doesn't wait, in the order in which it is reported.
@@ -52,8 +50,8 @@ impl Half {
         if let Some(cause) = self.stopped {
             return Err(WaitRefusal::Stopped(cause));
         }
-        let outdated = is_outdated(self.outdated, self.flight.bus_free(), moment);
-        match self.flight.wait(alloc, moment) {
+        let outdated = self.outdated_by(moment);
+        match self.way.wait(alloc, moment) {
             Ok(bus_free) => {
                 self.outdated = outdated;
                 Ok(bus_free)
@@ -66,14 +64,13 @@ impl Half {
     pub fn refuses_ready(&self, lun: u8) -> Option<ReadyRefusal>
         ensures { MatchOption result (ready_refusal lun self.now.state ≡ None) (λ refusal. ready_refusal lun self.now.state ≡ Some (ready_outcome refusal)) }
     {
-        let at = usize::from(lun);
-        if at >= self.flight.luns().len() {
+        if lun >= self.setup.geometry.lun_count {
             return Some(ReadyRefusal::NoSuchLun);
         }
         if let Some(cause) = self.stopped {
             return Some(ReadyRefusal::Stopped(cause));
         }
-        if is_in_array(&self.flight.luns()[at]) {
+        if self.way.is_in_array(lun) {
             None
         } else {
             Some(ReadyRefusal::NotInArray)
@@ -91,10 +88,10 @@ impl Half {
         ensures readied { self.new ≡ record self.old { state = readied lun self.old.state } }
         ensures ready { result ≡ ready_of lun self.old.state }
     {
-        let bus_free = self.flight.bus_free();
-        let before = free_from(&self.flight.luns()[usize::from(lun)]);
-        self.outdated = is_outdated(self.outdated, bus_free, before);
-        self.flight.ready(lun, bus_free)
+        let bus_free = self.way.bus_free();
+        let before = self.way.free_from(lun);
+        self.outdated = self.outdated_by(before);
+        self.way.ready(lun, bus_free)
     }
 
     /// Whether the plan is that of the bus and the LUNs as they stand, or nothing of it is left.
@@ -107,31 +104,15 @@ impl Half {
             true
         }
     }
-}
 
-// Whether the array of a LUN works: its group's next phase is the first post.
-fn is_in_array(lun: &LunState) -> bool
-    ensures { result ≡ is_in_array (Some lun.now) }
-{
-    match lun {
-        LunState::Running { group, next, .. } => usize::from(*next) == group.len(),
-        LunState::Free { .. } => false,
+    // Whether the plan was outdated, or is where the bus is free from that moment on at the soonest; where nothing is planned
+    // none is.
+    fn outdated_by(&self, moment: u64) -> bool
+        ensures { result ≡ outdated_by self.now.state.books self.now.state.outdated self.now.state.now.bus_free moment }
+    {
+        if !self.way.plans() {
+            return self.outdated;
+        }
+        self.outdated || self.way.bus_free() < moment
     }
-}
-
-// From when on a LUN is free, or its next phase may start.
-fn free_from(lun: &LunState) -> u64
-    ensures { result ≡ free_from (Some lun.now) }
-{
-    match lun {
-        LunState::Free { since } => *since,
-        LunState::Running { ready, .. } => *ready,
-    }
-}
-
-// Whether the plan was outdated, or is where the bus is free from that moment on at the soonest.
-fn is_outdated(outdated: bool, bus_free: u64, moment: u64) -> bool
-    ensures { result ≡ (if outdated then true else nat_lt bus_free moment) }
-{
-    outdated || bus_free < moment
 }

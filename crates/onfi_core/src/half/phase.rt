@@ -8,6 +8,7 @@ ghost use Rattle.onfi_core.specs.declared.slot.Slot.{Slot as ASlot};
 ghost use Rattle.onfi_core.specs.State.{item_at};
 ghost use Rattle.onfi_flight.specs.Flight.{member_of};
 ghost use Rattle.onfi_core.specs.Dues.{IsDue, IsRan, replies_of, after_due};
+ghost use Rattle.onfi_core.specs.Steps.{stopped_after};
 ghost use Rattle.onfi_core.specs.View.{HasSlot};
 
 use crate::finding::item_of;
@@ -15,10 +16,14 @@ use crate::half::Half;
 use crate::history::History;
 use crate::outcome::Cause;
 use crate::slot::Slot;
+use crate::way::Way;
 use onfi_flight::Due;
 use onfi_lun::PhaseResult;
 use onfi_request::{Basis, Item, Reply};
 use slab::Slab;
+
+/// All moments of a channel are before this one, in ns.
+const END: u64 = 1 << 62;
 
 impl Half {
     /// The item of the member that the due phase is of: what its command carries, or what its post answers.
@@ -42,7 +47,8 @@ impl Half {
         let reply = reply_of(&self.slots, &self.history, due, ran, chip);
         self.history = self.history.with_held(&reply);
         hold(&mut self.held, reply);
-        self.flight.done(due);
+        self.way.done(due);
+        self.stopped = stopped_after(&self.way, due.lun, self.stopped);
     }
 
     /// Stops the channel for that cause: from now on it accepts, plans and runs nothing.
@@ -53,6 +59,18 @@ impl Half {
     {
         self.stopped = Some(cause);
     }
+}
+
+// Why the channel is stopped after a phase on that LUN: where nothing is planned one stops it that leaves bus or LUN busy until
+// 2^62 ns.
+fn stopped_after(way: &Way, lun: u8, stopped: Option<Cause>) -> Option<Cause>
+    requires { lun < length way.now.now.luns }
+    ensures { result ≡ stopped_after way.now.books way.now.now lun stopped }
+{
+    if !way.plans() && way.bus_free().max(way.free_from(lun)) >= END {
+        return Some(Cause::Clock);
+    }
+    stopped
 }
 
 // The reply that a phase makes, if it is a post.

@@ -6,7 +6,7 @@ ghost use Rattle.onfi_seq.specs.Drained.{TurnPlans};
 ghost use Rattle.onfi_seq.specs.Driver.{StartsNext};
 ghost use Rattle.onfi_seq.specs.NoClock.{TurnedAtOnce, greatest, timed};
 ghost use Rattle.onfi_seq.specs.Sequencer.{IsRight, IsSameChannel, seen_in};
-ghost use Rattle.onfi_seq.specs.Turned.{Goes, KeepsPlan, IsGoing, PlansAnew, IsRest, LetsPass, MayRunPhase, NothingPosts, OfferedAll, OfferedTo, Plans, PlansLater, RestsAtOnce, Takes, TakesNothing, Turned, WhyNoItem, WhyNoPlan};
+ghost use Rattle.onfi_seq.specs.Turned.{Goes, IsGoing, IsRest, LetsPass, MayRunPhase, NothingPosts, OfferedAll, OfferedTo, Plans, PlansLater, RestsAtOnce, Takes, TakesNothing, Turned, WhyNoItem, WhyNoPlan};
 
 use crate::clockless::turn_of;
 use crate::gate::Gate;
@@ -15,17 +15,16 @@ use crate::ran::Ran;
 use crate::sequencer::Sequencer;
 use crate::turn::{Turn, TurnAt};
 use onfi_chip::Chip;
-use onfi_core::{PlanRefusal, Replanning};
+use onfi_core::PlanRefusal;
 use onfi_plan::Planner;
 use std::alloc::Global;
 use std::sync::Wait;
 
 impl<C: Chip, P: Planner> Sequencer<C, P> {
     /// Does the first of these that it can: post the oldest held reply of the lowest host whose queue isn't full; answer
-    /// Stopped; accept one item, while fewer than 64 are unanswered and, in order, fewer than the batch unplanned; plan,
-    /// unless a planning was refused as Over or Memory since the last phase and a phase is left; run the next phase. Else it
-    /// answers PostFull where a reply is held, and Idle where none is. Where the setup's plans are made anew lazily it plans
-    /// only where no phase is left, or a request that no plan has taken could start before the next.
+    /// Stopped; accept one item, while fewer than 64 are unanswered and fewer than the batch unplanned; plan, unless a
+    /// planning was refused as Over or Memory since the last phase and a phase is left; run the next phase. Else it answers
+    /// PostFull where a reply is held, and Idle where none is.
     ///
     /// The gate is called once, before all that, for this channel. Acceptance and post take no memory, a phase asks for its own
     /// before the chip is called, so a turn that answers Memory has lost no item and made no event.
@@ -205,7 +204,7 @@ impl<C: Chip, P: Planner> Sequencer<C, P> {
         true
     }
 
-    // Plans a stale plan anew, unless a planning was refused since the last phase and a phase is left, or that plan goes on.
+    // Plans a stale plan anew, unless a planning was refused since the last phase and a phase is left.
     fn plan_once(&mut self, alloc: Global, stale: bool) -> Option<TurnAt>
         requires before { TakesNothing (seen_in C.state self.old) }
         requires stale { stale ≡ false → taken_next self.old.0.setup self.old.0.half ≡ [] }
@@ -217,9 +216,6 @@ impl<C: Chip, P: Planner> Sequencer<C, P> {
             return None;
         }
         if self.refused && self.has_phase() {
-            return None;
-        }
-        if self.keeps_plan() {
             return None;
         }
         match self.driver.plan(alloc) {
@@ -235,22 +231,6 @@ impl<C: Chip, P: Planner> Sequencer<C, P> {
                 self.short = true;
                 Some(TurnAt::Memory)
             }
-        }
-    }
-
-    // Whether the plan that is left goes on: it is made anew lazily, a phase of it is left, and no request that no plan has
-    // taken could start before that.
-    fn keeps_plan(&self) -> bool
-        requires { self.now.0.half.stopped ≡ None }
-        ensures on { IsTrue result → KeepsPlan (seen_in C.state self.now) }
-        ensures renewed { result ≡ false → PlansAnew (seen_in C.state self.now) }
-    {
-        match self.driver.half().setup().replanning {
-            Replanning::AtOnce => false,
-            Replanning::Lazily => match self.driver.next_start() {
-                Some(start) => !self.driver.half().could_start_before(start),
-                None => false,
-            },
         }
     }
 

@@ -1,3 +1,4 @@
+use Rattle.std.proofs.Common.{refl}
 use Rattle.std.proofs.lemmas.Result.{err_from_is_err_and}
 use Rattle.onfi_lun.specs.declared.target.Target.{Target}
 use Rattle.onfi_batch.specs.Course.{state_of}
@@ -25,14 +26,14 @@ pub loop-due-smaller : goal.loop-due-smaller
 loop-due-smaller g c =
     let driven = c.loop-due.invariant.driven in
     fewer_left driven.setup (state_of c.loop-due.course) (state_of c.run.new.self) (g.C.Chip.state c.loop-due.chip)
-    (g.C.Chip.state c.run.new.chip) c.in-Some.due driven.half.sound c.in-Some.ensures.due c.in_ok-run.ensures.ran
+    (g.C.Chip.state c.run.new.chip) c.in-Some.due driven.half.sound refl c.in-Some.ensures.due c.in_ok-run.ensures.ran
 
 pub returns-in_err-run-clause-fault : goal.returns-in_err-run-clause-fault
 returns-in_err-run-clause-fault g c =
     let course = c.loop-due.invariant in
     let p = err_from_is_err_and c.from_residual.result c.from_residual.ensures.1 in
     rw (p.1, p.2)
-    (fault_since c.args.schedule.now course.driven.setup (state_of c.loop-due.course) course.driven.half.sound course.order
+    (fault_since c.args.schedule.now course.driven.setup (state_of c.loop-due.course) course.driven.half.sound refl course.order
     (g.C.Chip.state c.args.chip.now) (g.C.Chip.state c.loop-due.chip) (g.C.Chip.state c.run.new.chip) course.kept _ c.in_err-run.ensures.err)
 
 pub returns-in_err-run-clause-told : goal.returns-in_err-run-clause-told
@@ -40,7 +41,7 @@ returns-in_err-run-clause-told g c =
     let course = c.loop-due.invariant in
     let p = err_from_is_err_and c.from_residual.result c.from_residual.ensures.1 in
     rw (p.1, p.2)
-    (status_told c.args.schedule.now course.driven.setup (state_of c.loop-due.course) course.driven.half.sound course.order _ c.in_err-run.ensures.told)
+    (status_told c.args.schedule.now course.driven.setup (state_of c.loop-due.course) course.driven.half.sound refl course.order _ c.in_err-run.ensures.told)
 
 pub returns-clause-rightful : goal.returns-clause-rightful
 returns-clause-rightful g c =

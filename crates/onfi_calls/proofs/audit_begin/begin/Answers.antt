@@ -1,36 +1,15 @@
-use Rattle.std.proofs.Common.{◌≡◌, List, [], Option, false, length, take, refl, sym, subst}
+use Rattle.std.proofs.Common.{[], false, length, take, refl, sym, subst}
 use Rattle.onfi_audit.specs.Audit.{opening}
-use Rattle.onfi_timing.specs.declared.timing.Timing.{Timing}
-use Rattle.onfi_group.specs.declared.rules.Rules.{Rules}
-use Rattle.onfi_problem.specs.declared.lun_state.LunState.{LunState}
-use Rattle.onfi_problem.specs.declared.lun_state.LunState.TheVariants.{Free}
 use Rattle.onfi_problem.specs.Kept.{problem_of}
 use Rattle.onfi_problem.specs.Problem.{Problem}
-use Rattle.onfi_calls.specs.declared.channel.PlainChannel.{PlainChannel}
-use Rattle.onfi_calls.specs.declared.lengths.PlainLengths.{PlainLengths}
-use Rattle.onfi_calls.specs.declared.lun.PlainLun.{PlainLun}
 use Rattle.onfi_calls.specs.AuditBegun.{gives_audit, refuses_audit}
 use Rattle.onfi_calls.specs.AuditSaid.{IsAuditSaid}
 use Rattle.onfi_calls.specs.Flights.{is_no_problem}
-use Rattle.onfi_calls.specs.Refused.{IsBadProblem, IsMeasured}
-use Rattle.onfi_calls.specs.Said.{AreRules, IsSaid, states_of}
-use Rattle.onfi_calls.specs.Written.{filled}
-use Rattle.onfi_calls.proofs.AuditBegins.{begun_says}
-use Rattle.onfi_calls.proofs.NextTold.{states_said}
+use Rattle.onfi_calls.specs.Refused.{IsBadProblem}
+use Rattle.onfi_calls.proofs.AuditBegins.{begun_says, said_here}
 use Rattle.onfi_calls.proofs.Standing.{fault_told}
 use Rattle.onfi_calls.proofs.Stated.{said_lengths}
 use Rattle.onfi_calls.proofs.audit_begin.begin.Goals as goal
-
--- what is said of a channel of which nothing waits
-said_here : (by : Option PlainLengths) (channel : PlainChannel) (luns : List PlainLun) (timing : Timing) (rules : Rules) (whole : List LunState) → IsMeasured by channel luns [] timing →
-    AreRules channel.rules rules → whole ≡ filled 8 (Free 0) (states_of channel.rules.plane_bits luns) → IsSaid by channel luns [] (problem_of timing rules channel.bus_free (take (length luns) whole) [])
-said_here by channel luns timing rules whole measured are states = record {
-  timing = measured.spans;
-  rules = are;
-  bus_free = refl;
-  states = states_said channel.rules.plane_bits luns whole states;
-  requests = refl;
-}
 
 pub returns-in-Some : goal.returns-in-Some
 returns-in-Some c = λ by measured of.

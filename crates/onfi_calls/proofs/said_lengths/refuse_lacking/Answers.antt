@@ -3,7 +3,7 @@ use Rattle.onfi_problem.specs.Kept.{problem_of}
 use Rattle.onfi_problem.specs.Problem.{Problem}
 use Rattle.onfi_calls.specs.Refused.{IsBadProblem}
 use Rattle.onfi_calls.specs.Said.{IsSaid}
-use Rattle.onfi_calls.proofs.NextTold.{states_said}
+use Rattle.onfi_calls.proofs.FewStates.{states_said}
 use Rattle.onfi_calls.proofs.Standing.{too_many}
 use Rattle.onfi_calls.proofs.Stated.{lacking_told}
 use Rattle.onfi_calls.proofs.said_lengths.refuse_lacking.Goals as goal

@@ -12,7 +12,5 @@ returns-clause-named c =
     let alone = sym (run_search_rows c.args.used.now) ∙ (sym c.names_run_search-searches.ensures ∙ c.if-searches.false) in
     let limit = no_limit 1048576 (first_of (codes "limit") rows) (run_limit_not rows alone) in (
       refl,
-      clock,
-      inr (record { rule = c.requires; alone = alone; is_planner = c.rule_planner.ensures }),
-      subst (λ n. spec.IsLimit n (first_of (codes "limit") rows) 1048576) (sym (ap spec.usual_of c.rule_planner.ensures)) limit,
+      record { plans = c.requires.plans; is_clock = clock; is_planner = inr (record { rule = c.requires.rule; alone = alone; is_planner = c.rule_planner.ensures }); is_limit = subst (λ n. spec.IsLimit n (first_of (codes "limit") rows) 1048576) (sym (ap spec.usual_of c.rule_planner.ensures)) limit },
     )

@@ -47,4 +47,4 @@ returns-clause-concludes g c =
     }
 
 pub returns-clause-over : goal.returns-clause-over
-returns-clause-over g c within = c.conclude.ensures.over (g.C.Channel.queues c.args.lane.channel).limit c.drain-drained.ensures.over within
+returns-clause-over g c within = c.conclude.ensures.over (g.C.Channel.queues c.args.lane.channel).nodes c.drain-drained.ensures.over within

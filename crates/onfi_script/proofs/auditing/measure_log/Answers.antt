@@ -12,5 +12,5 @@ returns c =
     let answer = c.in_ok-written.written in
     let written = c.in_ok-written.ensures in
     subst (AnswersMeasured a.options a.audit a.requests a.log.now) (sym c.of.ensures)
-    (answered a.options a.audit a.requests a.log.now (log_answer_of gaps.answer) gaps.pieces.items (record { text = answer.text.items; status = answer.status })
-    said.answer said.each said.rising written.legal (λ n. let same = written.illegal n in cc) written.status)
+    (answered a.options a.audit a.requests a.log.now (log_answer_of gaps.answer) gaps.pieces.items gaps.bound (record { text = answer.text.items; status = answer.status })
+    said.answer said.measured said.rising said.bound written.legal (λ n. let same = written.illegal n in cc) written.status)

@@ -2,7 +2,7 @@ use Rattle.std.proofs.Common.{◌≡◌, subst}
 use Rattle.std.specs.Prelude.{IfSome}
 use Rattle.onfi_console.specs.declared.parsed.Named.TheVariants.{Run}
 use Rattle.onfi_script.specs.Text.{memory}
-use Rattle.onfi_sim.proofs.Told.{memory_told, run_plainly, run_plainly_begun, run_within, run_within_begun, told, told_part}
+use Rattle.onfi_sim.proofs.Told.{memory_told, run_plainly, run_plainly_begun, run_within, run_within_begun, told, told_part, way_plans}
 use Rattle.onfi_sim.proofs.carrying_out.carry_out_run.Goals as goal
 
 pub returns-in_default-clause-answer : goal.returns-in_default-clause-answer
@@ -25,10 +25,10 @@ returns-then-plain-clause-unwritten g c e =
 
 pub returns-clause-answer : goal.returns-clause-answer
 returns-clause-answer g c =
-    let same : c.unwrap-limit.result ≡ c.args.limit = subst (λ o. IfSome o (λ l. l ≡ c.args.limit)) c.unwrap-limit.ensures c.of.ensures.value in
-    run_within c.args.planner c.args.limit c.unwrap-limit.result c.args.clocked (g.I.Read.remaining c.args.reader.now) (g.W.Write.contents c.args.writer.now) (g.W.Write.contents c.run_script_by.new.writer) c.run_script_by.result same c.run_script_by.ensures.answer
+    let same = subst (λ o. IfSome o (λ l. l ≡ c.args.limit)) c.unwrap.ensures c.of.ensures.value in
+    run_within c.args.planner c.args.limit c.by_plans-way.result c.args.clocked (g.I.Read.remaining c.args.reader.now) (g.W.Write.contents c.args.writer.now) (g.W.Write.contents c.run_script_by.new.writer) c.run_script_by.result (way_plans c.args.planner c.args.limit c.unwrap.result c.by_plans-way.result same c.by_plans-way.ensures) c.run_script_by.ensures.answer
 
 pub returns-clause-unwritten : goal.returns-clause-unwritten
 returns-clause-unwritten g c e =
-    let same : c.unwrap-limit.result ≡ c.args.limit = subst (λ o. IfSome o (λ l. l ≡ c.args.limit)) c.unwrap-limit.ensures c.of.ensures.value in
-    run_within_begun c.args.planner c.args.limit c.unwrap-limit.result c.args.clocked (g.I.Read.remaining c.args.reader.now) (g.W.Write.contents c.args.writer.now) (g.W.Write.contents c.run_script_by.new.writer) same (c.run_script_by.ensures.unwritten e)
+    let same = subst (λ o. IfSome o (λ l. l ≡ c.args.limit)) c.unwrap.ensures c.of.ensures.value in
+    run_within_begun c.args.planner c.args.limit c.by_plans-way.result c.args.clocked (g.I.Read.remaining c.args.reader.now) (g.W.Write.contents c.args.writer.now) (g.W.Write.contents c.run_script_by.new.writer) (way_plans c.args.planner c.args.limit c.unwrap.result c.by_plans-way.result same c.by_plans-way.ensures) (c.run_script_by.ensures.unwritten e)

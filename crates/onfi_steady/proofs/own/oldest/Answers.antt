@@ -1,7 +1,7 @@
 use Rattle.std.proofs.Common.{sym}
 use Rattle.onfi_timing.specs.declared.kind.Kind.TheVariants.{Read}
 use Rattle.onfi_request.specs.declared.want.Want.{Want}
-use Rattle.onfi_steady.specs.Rule.{first_number}
+use Rattle.onfi_steady.specs.Ranks.{first_number}
 use Rattle.onfi_steady.proofs.Extremes.{least_more}
 use Rattle.onfi_steady.proofs.own.oldest.Goals as goal
 

@@ -5,12 +5,13 @@ use Rattle.onfi_core.specs.State.{item_at}
 use Rattle.onfi_core.specs.View.{HalfView}
 use Rattle.onfi_core.proofs.Becoming.{due_inside}
 use Rattle.onfi_core.proofs.Done.{item_in_slot, member_slot}
+use Rattle.onfi_core.proofs.Stepping.{due_of}
 use Rattle.onfi_core.proofs.half.Half.member.Goals as goal
 
 pub member-requires : goal.member-requires
 member-requires c =
     let is = due_inside _ _ c.args.due.now c.self.view_is c.requires in
-    is.within
+    (due_of c.self.inside.setup _ c.args.due.now c.self.invariant.sound is).within
 
 pub item_of-requires : goal.item_of-requires
 item_of-requires c =

@@ -4,5 +4,5 @@ use Rattle.onfi_core.proofs.half.Half.open.Goals as goal
 
 pub invariant_of-result : goal.invariant_of-result
 invariant_of-result c =
-    let n = c.new-3.ensures in
-    fields_opened _ _ _ _ _ _ _ c.in_ok-slots.ensures.empty c.in_ok-slots.ensures.capacity c.in_ok-held.ensures.capacity c.in_ok-held.ensures.items n.3 (rw (n.0, n.1, n.2, c.idle.ensures, c.new-2.ensures.items) refl) c.new.ensures
+    let n = c.new.ensures in
+    fields_opened _ _ _ _ _ _ c.in_ok-slots.ensures.empty c.in_ok-slots.ensures.capacity c.in_ok-held.ensures.capacity c.in_ok-held.ensures.items n.3 (rw (n.0, n.1, n.2, c.in_ok-way.ensures) refl)

@@ -1,12 +1,11 @@
-use Rattle.std.proofs.Common.{◌-◌, refl, subst}
-use Rattle.std.specs.Prelude.{nat_lt, IsTrue}
-use Rattle.onfi_core.specs.View.{HalfView, WantsItem}
+use Rattle.std.proofs.Common.{ap, ◌∙◌, length}
+use Rattle.onfi_core.specs.View.{HalfView}
 use Rattle.onfi_core.proofs.Counting.{wants_more}
 use Rattle.onfi_core.proofs.half.Half.wants_item.Goals as goal
 
-pub returns-in-InOrder : goal.returns-in-InOrder
-returns-in-InOrder c =
-    let i = c.self.invariant in
-    let b = nat_lt (c.self.inside.accepted - c.self.inside.planned) c.from.result in
-    let P : HalfView → Type 0 = λ v. (IsTrue b → WantsItem v.setup v.state) × (WantsItem v.setup v.state → IsTrue b) in
-    subst P c.self.view_is (wants_more c.self.inside.setup _ i.sound c.in-InOrder.is c.self.inside.accepted c.self.inside.planned c.from.result i.count refl c.from.ensures)
+pub returns : goal.returns
+returns c =
+    let v = c.args.self.now in
+    let is = c.self.view_is in
+    wants_more v.setup v.state c.self.inside.accepted c.self.inside.planned c.from.result (c.self.invariant.count ∙ ap (λ (x : HalfView). length x.state.accepted) is)
+    (ap (λ (x : HalfView). x.state.planned) is) (c.from.ensures ∙ ap (λ (x : HalfView). x.state.batch) is)

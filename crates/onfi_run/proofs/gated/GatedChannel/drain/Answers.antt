@@ -1,7 +1,7 @@
 use Rattle.onfi_chip.specs.SimChip.{chip_in}
 use Rattle.onfi_seq.specs.Sequencer.{seen_in}
 use Rattle.onfi_run.specs.Ending.{no_clock}
-use Rattle.onfi_run.proofs.Limits.{drained_over}
+use Rattle.onfi_run.proofs.Limits.{drained_over, right_is_sound}
 use Rattle.onfi_run.proofs.Same.{grown_queues, same_queues}
 use Rattle.onfi_run.proofs.gated.GatedChannel.drain.Goals as goal
 
@@ -14,4 +14,4 @@ returns-clause-inboxes g c = grown_queues c.args.inboxes.now c.drain-end.new.inb
 pub returns-clause-over : goal.returns-clause-over
 returns-clause-over g c =
     drained_over _ no_clock (seen_in chip_in c.args.self.now.sequencer) c.args.hosts.now c.args.inboxes.now c.drain-end.new.inboxes 1000000 c.drain-end.result (seen_in chip_in c.drain-end.new.self)
-    c.end_of.result c.drain-end.ensures.drains c.end_of.ensures
+    c.end_of.result c.drain-end.ensures.drains (right_is_sound _ (seen_in chip_in c.drain-end.new.self) c.drain-end.ensures.right) c.end_of.ensures

@@ -1,7 +1,7 @@
 use Rattle.onfi_chip.specs.SimChip.{chip_in}
 use Rattle.onfi_core.specs.Steps.{none_left}
 use Rattle.onfi_seq.specs.Sequencer.{seen_in}
-use Rattle.onfi_run.proofs.Limits.{over_kept}
+use Rattle.onfi_run.proofs.Limits.{over_kept, right_is_sound}
 use Rattle.onfi_run.proofs.Proceeding.{refused_kept}
 use Rattle.onfi_run.proofs.Same.{same_queues}
 use Rattle.onfi_run.proofs.gated.GatedChannel.turn.Goals as goal
@@ -21,4 +21,5 @@ returns-clause-short g c = c.turn_at-turn.ensures.short
 
 pub returns-clause-over : goal.returns-clause-over
 returns-clause-over g c =
-    over_kept c.args.now (seen_in chip_in c.args.self.now.sequencer) (seen_in chip_in c.turn_at-turn.new.self) (none_left c.turn_at-turn.new.self.0.half) c.turn_at-turn.result c.progress.result c.turn_at-turn.ensures.turned c.progress.ensures
+    over_kept c.args.now (seen_in chip_in c.args.self.now.sequencer) (seen_in chip_in c.turn_at-turn.new.self) (none_left c.turn_at-turn.new.self.0.half) c.turn_at-turn.result c.progress.result c.turn_at-turn.ensures.turned
+    (right_is_sound _ (seen_in chip_in c.turn_at-turn.new.self) c.turn_at-turn.ensures.right) c.progress.ensures

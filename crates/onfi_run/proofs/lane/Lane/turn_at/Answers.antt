@@ -32,11 +32,11 @@ returns-clause-turned g c turned =
 
 pub returns-clause-over : goal.returns-clause-over
 returns-clause-over g c was =
-    let limit = (g.C.Channel.queues c.args.self.now.channel).limit in
+    let limit = (g.C.Channel.queues c.args.self.now.channel).nodes in
     let told = c.end_after-end.ensures in
     let turn = c.turn-progress.ensures in
     let ends = subst (λ e. IfSome e (IsOverAt limit)) (sym told.end) (thread_over limit (is_spent c.args.self.now.refusals) false c.turn-progress.result turn.over) in
     let before = subst (IsOverAt limit) (sym told.ended) was in
     let over = ends_over limit c.end_after-end.result _ c.unwrap_or-self.result ends before c.unwrap_or-self.ensures in
     let same = ap (g.C.Channel.queues) told.channel ∙ turn.same in
-    subst (λ q. IsOverAt q.limit c.unwrap_or-self.result) (sym same) over
+    subst (λ q. IsOverAt q.nodes c.unwrap_or-self.result) (sym same) over

@@ -11,7 +11,7 @@ returns-clause-opened g c =
     let rows = c.args.rows.now in
     let setup = c.setup_of-setup.result in
     let gates : c.truncate.new.self.items ≡ take setup.channels c.args.gates.items = c.truncate.ensures.items ∙ ap (λ n. take n c.args.gates.items) c.from.ensures in
-    IfOk-weaker c.open_each.result (λ s. AreOpened setup rows 0 c.truncate.new.self.items s.lanes.items) (λ s. AreOpenedOn rows c.args.device.now.chips c.args.limit c.args.gates.items s.lanes.items)
+    IfOk-weaker c.open_each.result (λ s. AreOpened setup rows 0 c.truncate.new.self.items s.lanes.items) (λ s. AreOpenedOn rows c.args.device.now.chips c.args.way c.args.gates.items s.lanes.items)
     (λ s opened. (setup, c.setup_of-setup.ensures, subst (λ gs. AreOpened setup rows 0 gs s.lanes.items) gates opened))
     c.open_each.ensures.opened
 

@@ -22,7 +22,7 @@ returns-in-Ok-clause-some g c =
     let new : Seen = (record { setup = d.0.setup; half = d.0.half; intake = f.intake; posters = f.posters; refused = f.refused; short = f.short }, state d.1) in (
       c.in-Ok.field-0,
       record {
-        may = record { before = c.requires.before; again = search rules; renewed = c.keeps_plan.ensures.renewed c.if-keeps_plan.false };
+        may = record { before = c.requires.before; again = search rules };
         step = λ channel. seen_outside state (λ (q : Seen). Step q.0.setup (channel_of q) (event.Plan channel) (outcome.Planned c.in-Ok.field-0) (channel_of new)) _ _ c.self.view_is (c.in-Ok.ensures.step channel);
         after = seen_outside state (λ (q : Seen). new ≡ (record q.0 { half = new.0.half; refused = q.0.refused; short = q.0.short }, q.1)) _ _ c.self.view_is (planned_seen state f.intake f.posters f.refused f.short f.driver d c.plan.ensures.same);
       },
@@ -36,7 +36,7 @@ returns-in-Err-Stopped-clause-some g c =
     let new : Seen = (record { setup = d.0.setup; half = d.0.half; intake = f.intake; posters = f.posters; refused = f.refused; short = f.short }, state d.1) in
     let e = rw c.in-Err-Stopped.field-0-is at c.in-Err-Stopped.ensures in
     record {
-      may = record { before = c.requires.before; again = search rules; renewed = c.keeps_plan.ensures.renewed c.if-keeps_plan.false };
+      may = record { before = c.requires.before; again = search rules };
       step = λ channel. seen_outside state (λ (q : Seen). Step q.0.setup (channel_of q) (event.Plan channel) (outcome.Stopped c.in-Err-Stopped.cause) (channel_of new)) _ _ c.self.view_is (e.step channel);
       after = seen_outside state (λ (q : Seen). new ≡ (record q.0 { half = new.0.half; refused = q.0.refused; short = q.0.short }, q.1)) _ _ c.self.view_is (planned_seen state f.intake f.posters f.refused f.short f.driver d c.plan.ensures.same);
     }

@@ -1,0 +1,40 @@
+//! How the channels of a run go.
+ghost use Rattle.std.specs.Prelude.{◌≡◌};
+ghost use Rattle.onfi_core.specs.declared.setup.Choice.TheVariants.{InOrder, NextPhase};
+
+use onfi_core::Choice;
+use onfi_plan::{Limit, PlainPlanner};
+
+/// How each channel of a run goes: by plans of a copy of its planner, or phase by phase.
+#[derive(Clone, Copy)]
+pub struct Way<P> {
+    pub(crate) planner: P,
+    pub(crate) limit: Limit,
+    pub(crate) choice: Choice,
+}
+
+impl<P> Way<P> {
+    /// By plans of `planner`, of requests in order of acceptance, with at most `limit` nodes for one planning.
+    pub fn by_plans(planner: P, limit: Limit) -> Way<P>
+        ensures { result ≡ record { planner = planner; limit = limit; choice = InOrder } }
+    {
+        Way {
+            planner,
+            limit,
+            choice: Choice::InOrder,
+        }
+    }
+}
+
+impl Way<PlainPlanner> {
+    /// Phase by phase: of all that may come next on a bus the first, as a dispatcher gives it. Nothing is planned.
+    pub fn by_next_phase() -> Way<PlainPlanner>
+        ensures { result.choice ≡ NextPhase }
+    {
+        Way {
+            planner: PlainPlanner,
+            limit: Limit::of(1).unwrap(),
+            choice: Choice::NextPhase,
+        }
+    }
+}
