@@ -23,11 +23,11 @@ use Rattle.onfi_steady.specs.declared.first.Choice.{Choice}
 use Rattle.onfi_steady.specs.declared.lun_books.LunBooks.{LunBooks}
 use Rattle.onfi_steady.specs.declared.waiter.Waiter.{Waiter}
 use Rattle.onfi_steady.specs.Waiting.{Books, accepted, begins_with, begun, channel, greatest_number, is_on, left_waiting, newest_with, passed_by}
-use Rattle.onfi_steady.specs.Offer.{erase_group, firsts, on_lun, own_group, ready_on}
+use Rattle.onfi_steady.specs.Offer.{erase_group, firsts, is_open, on_lun, own_group, ready_on}
 use Rattle.onfi_steady.specs.Next.{IsIdle, given_move, move_by}
 use Rattle.onfi_steady.specs.Kept.{NoneBelow, held_group}
 use Rattle.onfi_steady.specs.Slots.{IsBegin, begins, slots_in, waiters_in, wants_in}
-use Rattle.onfi_steady.specs.LunBooks.{HasBegun, HasGoneOn, IsLun, IsLunOffer, begin_of, runs, state_in, states_in}
+use Rattle.onfi_steady.specs.LunBooks.{HasBegun, HasGoneOn, IsLun, IsLunOffer, begin_of, other_group, runs, state_in, states_in}
 use Rattle.onfi_steady.specs.Selecting.{AreLuns, IsFirstChoice, IsFirstMove, IsHeldChoice, IsNextChoice, begin_turn, begun_at, begun_by, can_run, can_run_by, held_in}
 use Rattle.onfi_steady.specs.Dispatcher.{HasRun, IsBut, IsOf, accept_refusal, begun_books, due_wants, has_due, line_refusal, luns_of, newest_of, states_of}
 use Rattle.onfi_steady.proofs.Leaving.{left_planes}
@@ -388,11 +388,17 @@ module _ (timing : Timing) (books : Books) (old new : Dispatcher) (l after : Lun
   begun_of [] begin some starts began = absurd (begins_some [] begin some refl)
   begun_of (m ∷ ms) begin some starts began = has_begun m ms (ap (begun_by old.due.erase) e ∙ (rw (eq-eqb l.run.members 0 none) begin.members)) begin (starts m ms refl) began
 
+  other_starts : (m : Want) (ms : List Want) → other_group books.rules (ready_on lun books.waiting) ≡ m ∷ ms → Starts books.rules books.waiting lun is.planes (m ∷ ms)
+  other_starts m ms q = elim (cases_Bool (is_open books.rules (ready_on lun books.waiting))) [
+    | inl o ↦ (let k : erase_group books.rules (ready_on lun books.waiting) ≡ m ∷ ms = rw o at q in erase_starts books.rules books.waiting lun is.planes m ms k)
+    | inr o ↦ (let k : [] ≡ m ∷ ms = rw o at q in absurd cc)
+  ]
+
   pub group_begun : 1 ≤ b.members → ((group : List Want) → IsBegin timing group b → HasBegun timing books.rules lun old.due.erase group l after started ended) → HasRun timing books old new started
   group_begun some began = elim (cases_Bool old.due.erase) [
     | inl k ↦ (
-        let begin : IsBegin timing (erase_group books.rules (ready_on lun books.waiting)) b = rw k offers.erase in
-        begun_of (erase_group books.rules (ready_on lun books.waiting)) begin some (λ m ms q. erase_starts books.rules books.waiting lun is.planes m ms q) (began _ begin))
+        let begin : IsBegin timing (other_group books.rules (ready_on lun books.waiting)) b = rw k offers.erase in
+        begun_of (other_group books.rules (ready_on lun books.waiting)) begin some other_starts (began _ begin))
     | inr k ↦ (
         let begin : IsBegin timing (own_group books.rules (ready_on lun books.waiting)) b = rw k offers.group in
         begun_of (own_group books.rules (ready_on lun books.waiting)) begin some (λ m ms q. own_starts books.rules books.waiting lun is.planes m ms q) (began _ begin))
