@@ -175,13 +175,10 @@ impl LunBooks {
     pub fn refusal(&self, id: u64) -> Option<AcceptFault>
         ensures { result ≡ lun_refusal self.now id }
     {
-        if self.line.is_full() {
-            return Some(AcceptFault::Full);
-        }
-        if !self.line.is_below(id) {
+        if !self.line.is_below(id) && !self.line.is_full() {
             return Some(AcceptFault::BadOrder);
         }
-        None
+        self.head_refusal(id)
     }
 
     /// Why no request of that number may wait before the others, if so.
