@@ -175,6 +175,7 @@ forgets_newest p old new is rules spans newest luns bus = record {
   rules = rules ∙ is.rules;
   newest = newest;
   planes = is.planes;
+  distinct = is.distinct;
   there = subst (λ (ls : List LunBooks). All (λ w. w.want.lun < length ls) (map unpassed p.wants)) (sym luns) is.there;
   luns = subst (AreLuns p.timing (batch_of p)) (sym luns) (record { each = is.luns.each; waiting = is.luns.waiting });
 }

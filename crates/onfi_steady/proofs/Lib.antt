@@ -20,6 +20,7 @@ pub mod Dispatching
 pub mod KindPlaces
 pub mod LunKept
 pub mod Changing
+pub mod Distinct
 pub mod Fair
 pub mod Beginning
 pub mod Following

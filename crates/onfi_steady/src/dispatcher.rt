@@ -81,7 +81,7 @@ impl Dispatcher {
     ghost use Rattle.onfi_problem.specs.declared.lun_state.LunState.TheVariants.{Free};
     ghost use Rattle.onfi_steady.specs.Waiting.{Books, accepted, channel};
     ghost use Rattle.onfi_steady.specs.Next.{IsIdle, IsNextPhase};
-    ghost use Rattle.onfi_steady.specs.Dispatcher.{HasRun, IsBut, IsCancelled, IsDue, IsOf, IsPhaseOn, StandsFirst, accept_refusal, accepted_again, again_refusal, has_due, luns_of, ran_refusal, ready_refusal, states_of};
+    ghost use Rattle.onfi_steady.specs.Dispatcher.{AreDistinct, HasRun, IsBut, IsCancelled, IsDue, IsOf, IsPhaseOn, StandsFirst, accept_refusal, accepted_again, again_refusal, has_due, luns_of, ran_refusal, ready_refusal, states_of};
     ghost use Rattle.onfi_steady.specs.Selecting.{IsChoice, IsHolder, IsNextChoice, IsPhaseOf};
     ghost use Rattle.onfi_flight.specs.Flight.{luns_ready_by};
 
@@ -171,10 +171,11 @@ impl Dispatcher {
     ///
     /// # Errors
     /// `BadLun` where the channel has no such LUN; else `Full` where 64 requests wait for it; else `BadOrder` where its number
-    /// isn't above that of the last of these. Nothing is changed then.
+    /// isn't above that of the last of these; else `Waits` where one of that number waits before it. Nothing is changed then.
     pub fn accept(&mut self, want: Want) -> Result<(), AcceptFault>
         requires plane { want.plane ≤ 3 }
         ensures accepted { (timing : AnyTiming) (books : Books) → IsOf timing books self.old → IfOk result (λ _. IsOf timing (accepted books want) self.new) }
+        ensures distinct { (timing : AnyTiming) (books : Books) → IsOf timing books self.old → IfOk result (λ _. AreDistinct (accepted books want)) }
         ensures over { IfOk result (λ _. has_due self.new ≡ false) }
         ensures refused { MatchResult result (λ _. accept_refusal self.old want ≡ None) (λ fault. accept_refusal self.old want ≡ Some fault) }
         ensures states { states_of self.new ≡ states_of self.old }
@@ -327,6 +328,7 @@ impl Dispatcher {
     pub fn accept_again(&mut self, want: Want) -> Result<(), AcceptFault>
         requires plane { want.plane ≤ 3 }
         ensures accepted { (timing : AnyTiming) (books : Books) → IsOf timing books self.old → IfOk result (λ _. IsOf timing (accepted_again books want) self.new) }
+        ensures distinct { (timing : AnyTiming) (books : Books) → IsOf timing books self.old → IfOk result (λ _. AreDistinct (accepted_again books want)) }
         ensures over { IfOk result (λ _. has_due self.new ≡ false) }
         ensures first { (books : Books) → StandsFirst (accepted_again books want) want }
         ensures refused { MatchResult result (λ _. again_refusal self.old want ≡ None) (λ fault. again_refusal self.old want ≡ Some fault) }
