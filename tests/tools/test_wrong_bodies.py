@@ -291,11 +291,13 @@ even_edit_5-odd_edit_5-requires t c = (odd (c.odd_edit_5.result) c.oddly Rattle.
     def test_the_others_are_taken_by_their_contracts(self) -> None:
         _, copy = self.write(crate_of(self, WHOLE), 1)
         self.assertIn("use Rattle.demo.proofs.half.Half.next.Statement as stated\n\npub next_spec : ", (copy / "proofs/half/Half/next/Proof.antt").read_text())
-        self.assertIn("use Rattle.demo.proofs.odd.+odd as stated\n\npub +odd_spec : ", (copy / "proofs/odd/+odd/Proof.antt").read_text())
+        # (one of a cycle of calls that does nothing is of none)
+        self.assertIn("use Rattle.demo.proofs.odd.odd.Statement as stated\n\npub odd_spec : ", (copy / "proofs/odd/odd/Proof.antt").read_text())
+        self.assertFalse((copy / "proofs/odd/+odd").exists())
         self.assertEqual([it.name for it in (copy / "proofs/half/Half/of").iterdir()], ["Proof.antt"])
-        # (what is asked for by nothing else does nothing; a cycle of calls stays one)
+        # (what is asked for by nothing else does nothing)
         self.assertIn("ensures { result ≡ n / 2 }\n{ loop {}\n    }\n", (copy / "src/half.rt").read_text())
-        self.assertIn("    odd(n - 1)\n", (copy / "src/odd.rt").read_text())
+        self.assertIn("\nfn even(n: u8) -> u8 { loop {}\n}\n\nfn odd(n: u8) -> u8 { loop {}\n}\n", (copy / "src/odd.rt").read_text())
         # (what is edited in place keeps its proofs)
         self.assertFalse((copy / "proofs/odd/Half/last").exists())
 

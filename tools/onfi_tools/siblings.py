@@ -292,29 +292,31 @@ class Sources:
         return answers_for(text, trial.clause, "|".join(changed), self.clauses_gone(function, trial))
 
     def can_be_stub(self, function: Function) -> bool:
-        """Whether nothing asks for a function's body: neither a constant that calls it, nor its type, nor a cycle of calls."""
-        text = self.text_of(function)
-        head = text[: self.body_in(function)]
-        return not re.search(r"\bconst fn\b|-> .*\bimpl\b", head) and not self.cycle_of(function)
+        """Whether nothing asks for a function's body: neither a constant that calls it, nor its type."""
+        return not re.search(r"\bconst fn\b|-> .*\bimpl\b", self.head_in(function))
 
     def stub_of(self, function: Function) -> str:
         """A function's text with a body that calls nothing and does nothing; its proof is a hole, so nothing is said of it."""
         end = self.lines[function.path][function.last].partition("}")[0] + "}"
-        return self.text_of(function)[: self.body_in(function)] + "{ loop {}\n" + end
+        return re.sub(rf" *{CYCLE.pattern}\n", "", self.head_in(function)) + "{ loop {}\n" + end
 
     def write_holes(self, proofs: Path, kept: FrozenSet[Key]) -> List[Function]:
         """Puts a hole in place of the proofs of functions but these, and gives those functions."""
         given: List[Function] = []
         for function in self.functions:
-            place, text = self.place_of(function), self.text_of(function)
-            if place is None or function.key in kept or not self.body_in(function) or "#[test]" in text:
+            place = self.place_of(function)
+            if place is None or function.key in kept or not self.body_in(function) or "#[test]" in self.text_of(function):
                 continue
             # (a method of a trait needs none where it has no proof of its own, and may have no body)
-            if (TRAIT.match(self.head_of(function)) or CYCLE.search(text)) and not (self.folder / "proofs" / place).is_dir():
+            if TRAIT.match(self.head_of(function)) and not (self.folder / "proofs" / place).is_dir():
                 continue
             shutil.rmtree(proofs / place, ignore_errors=True)
-            (proofs / place).mkdir(parents=True)
-            dotted = ".".join([self.crate, "proofs", *place.parts, *(["Statement"] if place.name == function.name else [])])
-            (proofs / place / "Proof.antt").write_text(HOLE.format(path=dotted, name=place.name), encoding="utf-8")
+            self.write_hole(proofs, place.with_name(function.name) if self.can_be_stub(function) else place, function)
             given.append(function)
         return given
+
+    def write_hole(self, proofs: Path, place: PurePosixPath, function: Function) -> None:
+        """Puts a hole in place of a function's proofs; of one of a cycle of calls that does nothing they stand where those of any other do."""
+        dotted = ".".join([self.crate, "proofs", *place.parts, *(["Statement"] if place.name == function.name else [])])
+        (proofs / place).mkdir(parents=True, exist_ok=True)
+        (proofs / place / "Proof.antt").write_text(HOLE.format(path=dotted, name=place.name), encoding="utf-8")
