@@ -2,8 +2,8 @@
 use Rattle.std.proofs.Common.{◌≡◌, ℕ, ◌||◌, Bool, List, codes, Some, None, true, false, sym, ap, ◌∙◌, subst, refl}
 use Rattle.std.specs.Prelude.{Option, IsSomeAnd}
 use Rattle.clap.specs.Words.{Row, first_of, subcommand_of}
-use Rattle.onfi_planners.specs.declared.chosen.By.{By}
-use Rattle.onfi_planners.specs.declared.chosen.By.TheVariants as way
+use Rattle.onfi_planners.specs.declared.by.By.{By}
+use Rattle.onfi_planners.specs.declared.by.By.TheVariants as way
 use Rattle.onfi_script.specs.declared.command.Command.TheVariants.{Plan, Check, PlanBy, CheckWithin, Legal}
 use Rattle.onfi_script.specs.declared.command.PlanOptions.{PlanOptions}
 use Rattle.onfi_console.specs.declared.parsed.Named.{Named}

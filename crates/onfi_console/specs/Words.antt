@@ -2,8 +2,8 @@
 use Rattle.std.specs.Prelude.{◌≡◌, ◌≢◌, ◌≤◌, ℕ, ◌||◌, ⊤, List, Bool, true, false, bytes_eq, Option, Some, None, IsErrAnd, IsSomeAnd, Ok, codes, option_map}
 use Rattle.clap.specs.Words.{App, Row as Used, Rule, first_of, new_app, new_rule, subcommand_of, with_rule, with_subcommand}
 use Rattle.clap.specs.declared.builder.ArgAction.TheVariants.{Set, SetTrue}
-use Rattle.onfi_planners.specs.declared.chosen.By.{By}
-use Rattle.onfi_planners.specs.declared.chosen.By.TheVariants as way
+use Rattle.onfi_planners.specs.declared.by.By.{By}
+use Rattle.onfi_planners.specs.declared.by.By.TheVariants as way
 use Rattle.onfi_script.specs.declared.auditing.AuditOptions.{AuditOptions}
 use Rattle.onfi_script.specs.declared.auditing.GapOptions.{GapOptions}
 use Rattle.onfi_script.specs.declared.command.Command.{Command}

@@ -24,11 +24,15 @@ enum ValueFault {
     NoCommand,
     /// An option wants another value: what it wants.
     Wants(&'static str, &'static str),
-    /// An option can't be used with another.
-    Beside(&'static str, &'static str),
+    /// An option can't be used with another, and why.
+    Beside(&'static str, &'static str, &'static str),
     /// .. or not without it.
-    Without(&'static str, &'static str),
+    Without(&'static str, &'static str, &'static str),
 }
+
+/// Why options of a search stand beside no such way, and of a plan.
+const SEARCHES_NOTHING: &str = "it searches nothing";
+const PLANS_NOTHING: &str = "it plans nothing";
 
 /// The usual limit of searches whose plans may be other than optimal, the plain one excepted; it bounds their time and memory.
 const USUAL: u32 = 65_536;
@@ -138,7 +142,8 @@ fn limit_by(used: &ArgMatches<'_>, by: By) -> Result<u32, ValueFault>
         By::Plain => limit_of(used, MOST),
         By::Within => limit_of(used, USUAL),
         By::Rule => {
-            leave_out(used, "limit", ValueFault::Beside("--limit", "--by rule"))?;
+            let fault = ValueFault::Beside("--limit", "--by rule", SEARCHES_NOTHING);
+            leave_out(used, "limit", fault)?;
             Ok(MOST)
         }
     }
@@ -149,12 +154,13 @@ fn workers_by(used: &ArgMatches<'_>, by: By) -> Result<usize, ValueFault>
     ensures range { IfOk result (λ n. (1 ≤ n) × (n ≤ 8)) }
     ensures value { IfOk result (λ n. spec.IsWorkersBy by (first_value (found_of used.now) (codes "workers")) n) }
 {
-    let way = match by {
+    let (way, reason) = match by {
         By::Plain => return workers_of(used),
-        By::Within => "--by within",
-        By::Rule => "--by rule",
+        By::Within => ("--by within", "that search has one worker"),
+        By::Rule => ("--by rule", SEARCHES_NOTHING),
     };
-    leave_out(used, "workers", ValueFault::Beside("--workers", way))?;
+    let fault = ValueFault::Beside("--workers", way, reason);
+    leave_out(used, "workers", fault)?;
     Ok(1)
 }
 
@@ -194,7 +200,8 @@ fn check_of(used: &ArgMatches<'_>) -> Result<Named, ValueFault>
 {
     let legal = is_given(used, "legal");
     let command = if legal {
-        leave_out(used, "by", ValueFault::Beside("--by", "--legal"))?;
+        let fault = ValueFault::Beside("--by", "--legal", "no certificate is looked at");
+        leave_out(used, "by", fault)?;
         Command::Legal
     } else {
         check_by(used)?
@@ -224,7 +231,8 @@ fn run_limit(used: &ArgMatches<'_>, by: RunBy) -> Result<u32, ValueFault>
     match by {
         RunBy::Plans(by) => limit_by(used, by),
         RunBy::Next => {
-            leave_out(used, "limit", ValueFault::Beside("--limit", "--by next"))?;
+            let fault = ValueFault::Beside("--limit", "--by next", PLANS_NOTHING);
+            leave_out(used, "limit", fault)?;
             Ok(MOST)
         }
     }
@@ -249,7 +257,7 @@ fn run_of(used: &ArgMatches<'_>) -> Result<Named, ValueFault>
     let by = run_by(used)?;
     let early = is_given(used, "early");
     if early && by == RunBy::Next {
-        return Err(ValueFault::Beside("--early", "--by next"));
+        return Err(ValueFault::Beside("--early", "--by next", PLANS_NOTHING));
     }
     let limit = run_limit(used, by)?;
     let clocked = clock_of(used)?;
@@ -275,7 +283,8 @@ fn audit_optimum_of(used: &ArgMatches<'_>) -> Result<Named, ValueFault>
 {
     let AuditOptions { all, by_status } = audit_options(used);
     if by_status {
-        return Err(ValueFault::Beside("--ready-by-status", "--optimum"));
+        let reason = "pieces are planned by the stated times";
+        return Err(ValueFault::Beside("--ready-by-status", "--optimum", reason));
     }
     let nodes = limit_of(used, USUAL)?;
     let limit = Limit::of(nodes).unwrap();
@@ -293,9 +302,11 @@ fn audit_of(used: &ArgMatches<'_>) -> Result<Named, ValueFault>
     if optimum {
         return audit_optimum_of(used);
     }
-    leave_out(used, "limit", ValueFault::Without("--limit", "--optimum"))?;
+    let reason = "nothing else of 'audit' searches";
+    leave_out(used, "limit", ValueFault::Without("--limit", "--optimum", reason))?;
     if is_given(used, "csv") {
-        return Err(ValueFault::Without("--csv", "--optimum"));
+        let reason = "nothing else of 'audit' is a table";
+        return Err(ValueFault::Without("--csv", "--optimum", reason));
     }
     let options = audit_options(used);
     Ok(Named::Audit { options })
@@ -388,11 +399,11 @@ fn describe_fault(alloc: Global, fault: ValueFault) -> Result<String, AllocError
             "a command was expected: 'plan', 'check', 'audit', 'run' or 'device'",
         ),
         ValueFault::Wants(option, what) => format!(in alloc; "'{option}' wants {what}"),
-        ValueFault::Beside(option, other) => {
-            format!(in alloc; "'{option}' can't be used with '{other}'")
+        ValueFault::Beside(option, other, reason) => {
+            format!(in alloc; "'{option}' can't be used with '{other}': {reason}")
         }
-        ValueFault::Without(option, other) => {
-            format!(in alloc; "'{option}' can't be used without '{other}'")
+        ValueFault::Without(option, other, reason) => {
+            format!(in alloc; "'{option}' can't be used without '{other}': {reason}")
         }
     }
 }
