@@ -1,5 +1,5 @@
 //! The command line.
-ghost use Rattle.std.specs.Prelude.{◌≡◌, ◌≤◌, None, Some, false, true, IfErr, IfOk, OnOk, codes, map, option_map, string_bytes};
+ghost use Rattle.std.specs.Prelude.{◌≡◌, ◌≢◌, ◌≤◌, None, Some, false, true, is_some, IfErr, IfOk, OnOk, codes, map, option_map, string_bytes};
 ghost use Rattle.std.specs.List.{list_any};
 ghost use Rattle.clap.specs.Words.{first_value, found_of, kind_of, rows_of, subcommand_of, subcommand_rows_of};
 ghost use Rattle.clap.specs.declared.error.kind.ErrorKind.{ErrorKind};
@@ -94,6 +94,13 @@ fn is_given(used: &ArgMatches<'_>, flag: &str) -> bool
         Some(text) => text == "true",
         None => false,
     }
+}
+
+/// Whether an option is given, with whichever value.
+fn has_value(used: &ArgMatches<'_>, option: &str) -> bool
+    ensures { result ≡ is_some (first_value (found_of used.now) option.now) }
+{
+    used.get_str(option).is_some()
 }
 
 /// Refuses an option with a value where another stands beside it.
@@ -193,19 +200,26 @@ fn check_by(used: &ArgMatches<'_>) -> Result<Command, ValueFault>
     }
 }
 
+/// The command to check that the words name.
+fn check_command(used: &ArgMatches<'_>) -> Result<Command, ValueFault>
+    ensures command { IfOk result (λ command. spec.IsProblem command 1 (codes "check") (rows_of (found_of used.now))) }
+    ensures limited { IfOk result IsLimited }
+{
+    let legal = is_given(used, "legal");
+    if !legal {
+        return check_by(used);
+    }
+    let fault = ValueFault::Beside("--by", "--legal", "no certificate is looked at");
+    leave_out(used, "by", fault)?;
+    Ok(Command::Legal)
+}
+
 /// What `check` with these arguments names.
 fn check_of(used: &ArgMatches<'_>) -> Result<Named, ValueFault>
     ensures range { IfOk result (λ named. spec.IsInRange named) }
     ensures named { IfOk result (λ named. spec.IsNamed named (codes "check") (rows_of (found_of used.now))) }
 {
-    let legal = is_given(used, "legal");
-    let command = if legal {
-        let fault = ValueFault::Beside("--by", "--legal", "no certificate is looked at");
-        leave_out(used, "by", fault)?;
-        Command::Legal
-    } else {
-        check_by(used)?
-    };
+    let command = check_command(used)?;
     let workers = 1;
     Ok(Named::Problem { command, workers })
 }
@@ -238,6 +252,18 @@ fn run_limit(used: &ArgMatches<'_>, by: RunBy) -> Result<u32, ValueFault>
     }
 }
 
+/// Whether its plans are made better.
+fn early_of(used: &ArgMatches<'_>, by: RunBy) -> Result<bool, ValueFault>
+    ensures value { IfOk result (λ early. early ≡ spec.is_given (first_value (found_of used.now) (codes "early"))) }
+    ensures plans { IfOk result (λ early. early ≡ true → by ≢ RunBy.Next) }
+{
+    match (by, is_given(used, "early")) {
+        (RunBy::Next, true) => Err(ValueFault::Beside("--early", "--by next", PLANS_NOTHING)),
+        (RunBy::Next, false) => Ok(false),
+        (RunBy::Plans(_), early) => Ok(early),
+    }
+}
+
 /// Whether a run has a clock.
 fn clock_of(used: &ArgMatches<'_>) -> Result<bool, ValueFault>
     ensures { IfOk result (λ clocked. spec.IsClock (first_value (found_of used.now) (codes "clock")) clocked) }
@@ -255,10 +281,7 @@ fn run_of(used: &ArgMatches<'_>) -> Result<Named, ValueFault>
     ensures named { IfOk result (λ named. spec.IsNamed named (codes "run") (rows_of (found_of used.now))) }
 {
     let by = run_by(used)?;
-    let early = is_given(used, "early");
-    if early && by == RunBy::Next {
-        return Err(ValueFault::Beside("--early", "--by next", PLANS_NOTHING));
-    }
+    let early = early_of(used, by)?;
     let limit = run_limit(used, by)?;
     let clocked = clock_of(used)?;
     let options = RunOptions { by, early, limit, clocked };
@@ -302,8 +325,10 @@ fn audit_of(used: &ArgMatches<'_>) -> Result<Named, ValueFault>
     if optimum {
         return audit_optimum_of(used);
     }
-    let reason = "nothing else of 'audit' searches";
-    leave_out(used, "limit", ValueFault::Without("--limit", "--optimum", reason))?;
+    if has_value(used, "limit") {
+        let reason = "nothing else of 'audit' searches";
+        return Err(ValueFault::Without("--limit", "--optimum", reason));
+    }
     if is_given(used, "csv") {
         let reason = "nothing else of 'audit' is a table";
         return Err(ValueFault::Without("--csv", "--optimum", reason));

@@ -38,7 +38,7 @@ split_plan limit x plan planned schedule ends below cert optimal is rising accep
   rising = subst (λ (s : Schedule). AreRising s.groups) (sym schedule) rising;
   shown = subst (λ c. ShowsBelow c x.all x.problem plan.below) (sym cert) (subst (AcceptsTokens planned.cert.items x.problem) (sym below) accepted);
   none_before = λ other legal. subst (λ e. e ≤ finish x.problem other) (is ∙ sym below) (optimal.least other legal);
-  is_by = (below ∙ sym ends, planned.cert, cert);
+  is_by = (below ∙ sym ends, (planned.cert, cert));
 }
 
 -- a plan as it was found
@@ -49,7 +49,7 @@ as_found options weights x plan late found = record {
   rising = found.rising;
   shown = found.shown;
   none_before = found.none_before;
-  optimal = λ e. let is = subst (λ b. IsBy b options.limit x plan) e found.is_by in (optimal_at x.problem plan.schedule plan.below plan.finish found.legal found.ends found.none_before is.0, is);
+  optimal = λ e. let is = subst (λ b. IsBy b options.limit x plan) e found.is_by in (optimal_at x.problem plan.schedule plan.below plan.finish found.legal found.ends found.none_before is.0, is.0, is.1);
   near = λ e. subst (λ b. IsBy b options.limit x plan) e found.is_by;
   first = plan;
   found = found;
