@@ -401,6 +401,13 @@ class Runs(unittest.TestCase):
         self.assertEqual([it.split(",")[0] for it in said], ["fourth: refused", "fourth", "at_0: refused"])
         self.assertEqual(asked, [["next_edit_3", "of_edit_1", "of_edit_2"]])
 
+    def test_what_its_clause_does_not_judge_the_whole_contract_does(self) -> None:
+        low, proved = "fn demo::pair::pair_edit_1: no proof: `search` did not prove `returns-clause-low`\n", "fn demo::pair::pair_edit_{}: no holes\n"
+        answers = [(1, low + proved.format(2) + "only=2 holes=0\n", 1.0), (1, low.replace("1", "2") + "only=1 holes=0\n", 1.0)]
+        said, asked = self.run_crate(answers, "".join(promised(clause, "pair", "(half(n), ", "(0, ") for clause in ("low", "high")))
+        self.assertEqual([it.split(",")[0] for it in said], ["pair_low: refused", "pair_high: refused"])
+        self.assertEqual(asked, [["pair_edit_1", "pair_edit_2"], ["pair_edit_2"]])
+
     def test_what_can_not_be_read_is_left_out(self) -> None:
         fault = "src/half.rt:17:9: error[unknown-name]: no `m` is in scope\n"
         said, asked = self.run_crate([(1, fault, 1.0), (1, self.PROVED, 1.0)], self.EDITS)
