@@ -104,7 +104,8 @@ pub const BY_RUN: &str =
 pub const EARLY_PLAN: &str =
     "Let requests end early by the weights of the script, and nothing later than the plan does";
 
-pub const EARLY_RUN: &str = "Let requests end early by their age, and nothing later than its plan does";
+pub const EARLY_RUN: &str =
+    "Let requests end early by their age, and nothing later than its plan does";
 
 pub const LIMIT: &str =
     "Open at most N nodes in the search for a plan, 1 to 1048576 [1048576, by 'within' 65536]";
