@@ -32,6 +32,7 @@ enum ValueFault {
 
 /// Why options of a search stand beside no such way, and of a plan.
 const SEARCHES_NOTHING: &str = "it searches nothing";
+
 const PLANS_NOTHING: &str = "it plans nothing";
 
 /// The usual limit of searches whose plans may be other than optimal, the plain one excepted; it bounds their time and memory.
@@ -181,7 +182,12 @@ fn plan_of(used: &ArgMatches<'_>) -> Result<Named, ValueFault>
     let limit = limit_by(used, by)?;
     let workers = workers_by(used, by)?;
     let output = output_of(used);
-    let options = PlanOptions { by, early, limit, output };
+    let options = PlanOptions {
+        by,
+        early,
+        limit,
+        output,
+    };
     let command = Command::PlanBy(options);
     Ok(Named::Problem { command, workers })
 }
@@ -284,7 +290,12 @@ fn run_of(used: &ArgMatches<'_>) -> Result<Named, ValueFault>
     let early = early_of(used, by)?;
     let limit = run_limit(used, by)?;
     let clocked = clock_of(used)?;
-    let options = RunOptions { by, early, limit, clocked };
+    let options = RunOptions {
+        by,
+        early,
+        limit,
+        clocked,
+    };
     Ok(Named::Run { options })
 }
 
