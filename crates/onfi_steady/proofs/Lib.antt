@@ -12,7 +12,6 @@ pub mod Extremes
 pub mod NextFound
 pub mod OneToken
 pub mod EachLun
-pub mod Works
 pub mod Showing
 pub mod Slots
 pub mod Selecting

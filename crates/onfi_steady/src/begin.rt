@@ -3,9 +3,7 @@ ghost use Rattle.std.specs.Prelude.{◌≡◌, ◌*◌, ◌<◌, ◌≤◌, ◌^
 
 use crate::group_phase::GroupPhase;
 use crate::kind_spans::KindSpans;
-use crate::left::greatest_number;
-use crate::next_turn::kind_of;
-use crate::own::oldest;
+use crate::own::{greatest_number, kind_of, oldest};
 use crate::slot::{Slot, slots_of};
 use crate::turn::start_rank;
 use onfi_request::Want;

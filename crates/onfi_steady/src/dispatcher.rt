@@ -214,8 +214,18 @@ impl Dispatcher {
         self.lun[usize::from(want.lun)].accept(&self.rules, &self.spans, want);
     }
 
-    /// The phase that is next where it is `now`, in ns: what goes first of that which LUNs give, as [`next_phase`](crate::next_phase)
-    /// says it. None only where nothing runs and nothing waits. Nothing is due for it: [`Dispatcher::next`] is for what is to run.
+    /// The phase that is next where it is `now`, in ns: of what LUNs give the one that goes first. None only where nothing runs and
+    /// nothing waits. Nothing is due for it: [`Dispatcher::next`] is for what is to run.
+    ///
+    /// A LUN that runs a group goes on with it. Another one begins the oldest of its requests that is due, else its oldest read,
+    /// else its oldest program, else its oldest erase, each the first on its block, with the mates that may join it. A request is
+    /// due once 128 groups with a later one began on its LUN, an erase once 512 did. A group of programs that lacks its last plane
+    /// waits for mates while it holds the newest accepted program and a LUN has work; its LUN begins its oldest erase meanwhile.
+    ///
+    /// Of these phases the one goes that may start soonest; of equals what goes on with its commands, then a status, a read's
+    /// command, an erase's command, a data output, a program's data; then what begins the larger group, then the one with the
+    /// older request. But a command of a group that is in its commands, and may start within the gap, keeps the bus: before it
+    /// goes only what ends by then. Where nothing runs and each group waits for mates, that of the lowest LUN begins.
     pub fn look(&self, now: u64) -> Option<NextPhase>
         ensures next { (timing : AnyTiming) (books : Books) → IsOf timing books self.now
             → MatchOption result (IsIdle (channel timing (max self.now.bus_free now) (states_of self.now) books)) (IsNextPhase books (channel timing (max self.now.bus_free now) (states_of self.now) books)) }

@@ -2,7 +2,7 @@ use Rattle.std.proofs.Common.{sym}
 use Rattle.onfi_timing.specs.declared.kind.Kind.TheVariants.{Read}
 use Rattle.onfi_request.specs.declared.want.Want.{Want}
 use Rattle.onfi_steady.proofs.Extremes.{greatest_more}
-use Rattle.onfi_steady.proofs.left.greatest_number.Goals as goal
+use Rattle.onfi_steady.proofs.own.greatest_number.Goals as goal
 
 abbrev blank : Want
 blank = record { id = 0; kind = Read; lun = 0; plane = 0; block = 0; page = 0 }
