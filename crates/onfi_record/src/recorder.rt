@@ -5,8 +5,9 @@ ghost use Rattle.onfi_record.specs.Carried.{IsNewLog};
 ghost use Rattle.onfi_record.specs.Recording.{IsRecorded, chip_in};
 
 use crate::bus_log::BusLog;
+use onfi_addr::Geometry;
 use onfi_chip::{Chip, ChipFault, Closer, decode_status};
-use onfi_timing::Kind;
+use onfi_timing::{Kind, Timing};
 use std::alloc::Global;
 use std::marker::Model;
 
@@ -31,12 +32,19 @@ impl<C: Chip> Model for Recorder<C> {
 }
 
 impl<C: Chip> Recorder<C> {
-    /// A chip as it opens, and a log that keeps nothing yet.
-    pub fn new(chip: C, log: BusLog) -> Recorder<C>
-        requires opened { IsAsOpened log.geometry log.timing (C.state chip) }
-        requires new { IsNewLog log.geometry log.timing log.is_whole log }
-        ensures { result ≡ (log, chip) }
+    /// A chip of this geometry and timing as it opens; what its bus carries is kept where `is_kept`.
+    pub fn new(
+        alloc: Global,
+        chip: C,
+        geometry: Geometry,
+        timing: Timing,
+        is_kept: bool,
+    ) -> Recorder<C>
+        requires { IsAsOpened geometry timing (C.state chip) }
+        ensures chip { result.1 ≡ chip }
+        ensures log { IsNewLog geometry timing is_kept result.0 }
     {
+        let log = BusLog::new(alloc, geometry, timing, is_kept);
         Recorder { log, chip }
     }
 
