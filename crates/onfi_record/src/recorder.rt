@@ -1,12 +1,15 @@
 //! A chip that keeps what its bus carries.
-ghost use Rattle.std.specs.Prelude.{◌≡◌, IsBitSet, true, false};
+ghost use Rattle.std.specs.Prelude.{◌≡◌, IfSome, IsBitSet, true, false};
+ghost use Rattle.std.specs.List.{flat_map};
+ghost use Rattle.onfi_schedule.specs.Trace.{line_text};
 ghost use Rattle.onfi_chip.specs.Chip.{IsAsOpened};
 ghost use Rattle.onfi_record.specs.Carried.{IsNewLog};
-ghost use Rattle.onfi_record.specs.Recording.{IsRecorded, chip_in};
+ghost use Rattle.onfi_record.specs.Recording.{IsRecorded, IsTraceText, chip_in};
 
 use crate::bus_log::BusLog;
 use onfi_addr::Geometry;
 use onfi_chip::{Chip, ChipFault, Closer, decode_status};
+use onfi_schedule::{TraceLine, trace_text};
 use onfi_timing::{Kind, Timing};
 use std::alloc::Global;
 use std::marker::Model;
@@ -61,6 +64,28 @@ impl<C: Chip> Recorder<C> {
         ensures recorded { IsRecorded self.now.0 (chip_in C.state self.now) }
     {
         &self.log
+    }
+
+    /// The trace of all phases that its bus carried since it opened, as `plan --requests` prints one; requests are numbered in the
+    /// order in which they begin. None where nothing is kept, or memory for a line was refused.
+    pub fn trace(&self, alloc: Global) -> Option<Vec<u8>>
+        ensures { IfSome result (λ text. IsTraceText text.items) }
+    {
+        let log = self.log();
+        if !log.is_whole {
+            return None;
+        }
+        text_of(alloc, log.lines.as_slice())
+    }
+}
+
+/// The text of a trace of these lines; none where memory was refused to it.
+fn text_of(alloc: Global, lines: &[TraceLine]) -> Option<Vec<u8>>
+    ensures { IfSome result (λ text. text.items ≡ flat_map (line_text true) lines.now) }
+{
+    match trace_text(alloc, lines, true) {
+        Ok(text) => Some(text),
+        Err(_) => None,
     }
 }
 
