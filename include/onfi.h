@@ -484,7 +484,7 @@ uint32_t onfi_plan_rule(const onfi_channel *channel, const onfi_lun *luns, size_
  * It answers what onfi_plan_within does.
  */
 uint32_t onfi_plan_early(const onfi_channel *channel, const onfi_lun *luns, size_t lun_count, const onfi_want *wants, size_t want_count,
-                         uint32_t limit, const onfi_weights *weights, uint16_t slack,
+                         uint32_t limit, const onfi_weights *weights,
                          onfi_within *plan, uint8_t *certificate, size_t certificate_room, size_t *certificate_bytes);
 
 /*
@@ -704,7 +704,7 @@ uint32_t onfi_plan_within_by(const onfi_lengths *lengths, const onfi_channel *ch
 
 /* As onfi_plan_early. */
 uint32_t onfi_plan_early_by(const onfi_lengths *lengths, const onfi_channel *channel, const onfi_lun *luns, size_t lun_count, const onfi_want *wants,
-                            size_t want_count, uint32_t limit, const onfi_weights *weights, uint16_t slack,
+                            size_t want_count, uint32_t limit, const onfi_weights *weights,
                             onfi_within *plan, uint8_t *certificate, size_t certificate_room, size_t *certificate_bytes);
 
 /* As onfi_plan_rule. */

@@ -9,7 +9,7 @@ use crate::lun::{PlainLun, PlainWant};
 use crate::planning::{give_found, pose_problem, pose_problem_by};
 use crate::schedule::PlainWithin;
 use crate::within::find_plan;
-use onfi_early::Weights;
+use onfi_planners::Weights;
 use std::alloc::Global;
 
 /// How much each request counts: the wants by their places, and for each LUN the members of its running group.
@@ -42,7 +42,6 @@ pub fn onfi_plan_early(
     wants: &[PlainWant],
     limit: u32,
     weights: &PlainWeights,
-    slack: u16,
     plan: &mut PlainWithin,
     certificate: &mut [u8],
     bytes: &mut usize,
@@ -51,7 +50,7 @@ pub fn onfi_plan_early(
 {
     match pose_problem(alloc, channel, luns, wants, limit) {
         Ok(problem) => give_found(
-            find_plan(alloc, &problem, &weights.weights(), Some(slack), limit),
+            find_plan(alloc, &problem, &weights.weights(), true, limit),
             plan,
             certificate,
             bytes,
@@ -72,7 +71,6 @@ pub fn onfi_plan_early_by(
     wants: &[PlainWant],
     limit: u32,
     weights: &PlainWeights,
-    slack: u16,
     plan: &mut PlainWithin,
     certificate: &mut [u8],
     bytes: &mut usize,
@@ -81,7 +79,7 @@ pub fn onfi_plan_early_by(
 {
     match pose_problem_by(alloc, lengths, channel, luns, wants, limit) {
         Ok(posed) => give_found(
-            find_plan(alloc, &posed, &weights.weights(), Some(slack), limit),
+            find_plan(alloc, &posed, &weights.weights(), true, limit),
             plan,
             certificate,
             bytes,

@@ -17,7 +17,7 @@ use crate::status::Status;
 use crate::told::Told;
 use crate::written;
 use onfi_known_check::check_known_text;
-use onfi_known_plan::plan_known;
+use onfi_known_plan::plan_within;
 use onfi_plan::{Limit, Plan, certificate_text};
 use onfi_problem::Problem;
 use std::alloc::Global;
@@ -30,25 +30,27 @@ pub fn find_plan(alloc: Global, problem: &Problem, limit: u32) -> Result<Told<Pl
     ensures plan { IfOk result (λ t. IsRecalled problem.now.problem limit t.plan t.text.items) }
     ensures none { IfErr result (λ status. IsUnplanned problem.now.problem limit status) }
 {
-    let plan = match plan_known(alloc, problem, Limit::of(limit).unwrap()) {
-        Ok(plan) => plan,
-        Err(fault) => return Err(Status::of_plan(fault)),
+    let Ok(plan) = plan_within(alloc, problem, Limit::of(limit).unwrap()) else {
+        return Err(Status::Memory);
     };
+    if plan.below < plan.finish {
+        return Err(Status::Over);
+    }
     let Plan {
-        planned,
-        text,
+        schedule,
+        finish,
+        certificate,
         opened,
         ..
     } = plan;
-    let strict = problem.rules().strict;
-    let Ok(text) = certificate_text(alloc, strict, planned.cert.as_slice(), text) else {
+    let Ok(text) = certificate_text(alloc, problem.rules().strict, certificate) else {
         return Err(Status::Memory);
     };
-    let schedule = written::legal_schedule(problem, &planned.schedule);
+    let schedule = written::legal_schedule(problem, &schedule);
     Ok(Told {
         plan: PlainPlan {
             schedule,
-            finish: planned.finish,
+            finish,
             opened,
         },
         text,

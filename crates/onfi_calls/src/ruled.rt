@@ -15,7 +15,7 @@ use crate::told::Told;
 use crate::written;
 use onfi_plan::{Plan, certificate_text};
 use onfi_problem::Problem;
-use onfi_steady::plan_by_rule_with_text;
+use onfi_steady::plan_by_rule;
 use std::alloc::Global;
 
 /// The plan by the rule, as it is given.
@@ -26,24 +26,24 @@ fn find_plan(alloc: Global, problem: &Problem) -> Result<Told<PlainWithin>, Stat
     ensures plan { IfOk result (λ t. IsPlanByRule problem.now.problem t.plan t.text.items) }
     ensures none { IfErr result (λ status. status ≡ Memory) }
 {
-    let Ok(plan) = plan_by_rule_with_text(alloc, problem) else {
+    let Ok(plan) = plan_by_rule(alloc, problem) else {
         return Err(Status::Memory);
     };
     let Plan {
-        planned,
+        schedule,
+        finish,
         below,
-        text,
+        certificate,
         ..
     } = plan;
-    let strict = problem.rules().strict;
-    let Ok(text) = certificate_text(alloc, strict, planned.cert.as_slice(), text) else {
+    let Ok(text) = certificate_text(alloc, problem.rules().strict, certificate) else {
         return Err(Status::Memory);
     };
-    let schedule = written::legal_schedule(problem, &planned.schedule);
+    let schedule = written::legal_schedule(problem, &schedule);
     Ok(Told {
         plan: PlainWithin {
             schedule,
-            finish: planned.finish,
+            finish,
             below,
         },
         text,

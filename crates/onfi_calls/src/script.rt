@@ -10,7 +10,7 @@ ghost use Rattle.onfi_calls.specs.Script.{GivesAnswer, GivesPlanText, output_of,
 use crate::answered::Answered;
 use crate::room::give;
 use onfi_plan::Limit;
-use onfi_planners::ChosenPlanner;
+use onfi_planners::By;
 use onfi_script::{Command, Output, PlanOptions, engine};
 use std::alloc::Global;
 
@@ -91,9 +91,9 @@ fn requests_of(limit: u32, remember: bool) -> Command
     ensures limited { 1 ≤ limit → limit ≤ 1048576 → IsLimited result }
 {
     let planner = if remember {
-        ChosenPlanner::Remembering
+        By::Within
     } else {
-        ChosenPlanner::Plain
+        By::Plain
     };
     let output = Output::Trace { requests: true };
     Command::PlanBy(PlanOptions::new(planner, limit, output))
@@ -132,7 +132,7 @@ pub fn onfi_text_plan_known(
 ) -> u32
     ensures { GivesPlanText limit (PlanBy (options_of Remembering limit (output_of trace))) script.now answer.old answer.new bytes.new result }
 {
-    let options = PlanOptions::new(ChosenPlanner::Remembering, limit, output(trace));
+    let options = PlanOptions::new(By::Within, limit, output(trace));
     let command = Command::PlanBy(options);
     give_plan(alloc, script, limit, command, answer, bytes)
 }
@@ -180,7 +180,7 @@ pub fn onfi_text_check_known(
 {
     give_answer(
         alloc,
-        Command::CheckBy(ChosenPlanner::Remembering),
+        Command::CheckBy(By::Within),
         script,
         answer,
         bytes,

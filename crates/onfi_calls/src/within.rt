@@ -19,10 +19,9 @@ use crate::stand::{Stand, read_stand, read_stand_by};
 use crate::status::Status;
 use crate::told::Told;
 use crate::written;
-use onfi_early::Weights;
 use onfi_known_check::check_known_within;
 use onfi_plan::{Plan, certificate_text};
-use onfi_planners::ChosenPlanner;
+use onfi_planners::{By, Weights};
 use onfi_problem::Problem;
 use onfi_script::{Output, PlanOptions, plan_by};
 use std::alloc::Global;
@@ -38,7 +37,7 @@ pub fn find_plan(
     alloc: Global,
     problem: &Problem,
     weights: &Weights,
-    slack: Option<u16>,
+    early: bool,
     limit: u32,
 ) -> Result<Told<PlainWithin>, Status>
     requires some { 1 ≤ limit }
@@ -48,8 +47,8 @@ pub fn find_plan(
     ensures none { IfErr result (λ status. IsNoMemory problem.now.problem limit status) }
 {
     let options = PlanOptions {
-        planner: ChosenPlanner::BestSoFar,
-        better: slack,
+        by: By::Within,
+        early,
         limit,
         output: Output::Plan,
     };
@@ -57,20 +56,20 @@ pub fn find_plan(
         return Err(Status::Memory);
     };
     let Plan {
-        planned,
+        schedule,
+        finish,
         below,
-        text,
+        certificate,
         ..
     } = plan;
-    let strict = problem.rules().strict;
-    let Ok(text) = certificate_text(alloc, strict, planned.cert.as_slice(), text) else {
+    let Ok(text) = certificate_text(alloc, problem.rules().strict, certificate) else {
         return Err(Status::Memory);
     };
-    let schedule = written::legal_schedule(problem, &planned.schedule);
+    let schedule = written::legal_schedule(problem, &schedule);
     Ok(Told {
         plan: PlainWithin {
             schedule,
-            finish: planned.finish,
+            finish,
             below,
         },
         text,
@@ -96,7 +95,7 @@ pub fn onfi_plan_within(
 {
     match pose_problem(alloc, channel, luns, wants, limit) {
         Ok(problem) => give_found(
-            find_plan(alloc, &problem, &EQUAL, None, limit),
+            find_plan(alloc, &problem, &EQUAL, false, limit),
             plan,
             certificate,
             bytes,
@@ -125,7 +124,7 @@ pub fn onfi_plan_within_by(
 {
     match pose_problem_by(alloc, lengths, channel, luns, wants, limit) {
         Ok(posed) => give_found(
-            find_plan(alloc, &posed, &EQUAL, None, limit),
+            find_plan(alloc, &posed, &EQUAL, false, limit),
             plan,
             certificate,
             bytes,
