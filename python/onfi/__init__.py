@@ -89,6 +89,7 @@ from onfi.model import (
 from onfi.refused import (
     # from here on written by tools/make-statuses
     REFUSALS,
+    BadBy,
     BadDispatcher,
     BadGeometry,
     BadHeader,
@@ -102,6 +103,7 @@ from onfi.refused import (
     BadSchedule,
     BadSectors,
     BadToken,
+    BadWords,
     BoundLow,
     Clock,
     ColumnTooWide,
