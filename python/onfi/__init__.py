@@ -92,6 +92,7 @@ from onfi.pictures import gantt, waveform
 from onfi.refused import (
     # from here on written by tools/make-statuses
     REFUSALS,
+    BadBy,
     BadDispatcher,
     BadGeometry,
     BadHeader,
@@ -105,6 +106,7 @@ from onfi.refused import (
     BadSchedule,
     BadSectors,
     BadToken,
+    BadWords,
     BoundLow,
     Clock,
     ColumnTooWide,
