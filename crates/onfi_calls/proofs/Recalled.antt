@@ -15,7 +15,7 @@ use Rattle.onfi_known_check.specs.Proves.{ProvesTokens}
 use Rattle.onfi_calls.specs.declared.schedule.PlainSchedule.{PlainSchedule}
 use Rattle.onfi_calls.specs.Planned.{IsRecalled}
 use Rattle.onfi_calls.specs.Within.{IsPlanNear}
-use Rattle.onfi_calls.specs.Written.{written_schedule}
+use Rattle.onfi_calls.specs.PlainSchedule.{written_schedule}
 
 -- tokens that prove of all that a problem began with prove of its wants
 certifies : (x : Position) (below : ℕ) (text : List ℕ) → x.all ≡ x.problem.wants → ShowsBelow (Remembers text) x.all x.problem below → Certifies Remembering x.problem below text

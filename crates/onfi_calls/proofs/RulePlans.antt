@@ -10,9 +10,9 @@ use Rattle.onfi_plan.specs.Certificate.{IsRemembering, IsSpelled, Remembering, S
 use Rattle.onfi_plan.specs.declared.plan.Plan.{Plan}
 use Rattle.onfi_steady.specs.Rule.{IsByRule}
 use Rattle.onfi_calls.specs.declared.channel.PlainChannel.{PlainChannel}
-use Rattle.onfi_calls.specs.declared.lengths.PlainLengths.{PlainLengths}
-use Rattle.onfi_calls.specs.declared.lun.PlainWant.{PlainWant}
-use Rattle.onfi_calls.specs.declared.lun.PlainLun.{PlainLun}
+use Rattle.onfi_calls.specs.declared.channel.PlainLengths.{PlainLengths}
+use Rattle.onfi_calls.specs.declared.channel.PlainWant.{PlainWant}
+use Rattle.onfi_calls.specs.declared.channel.PlainLun.{PlainLun}
 use Rattle.onfi_calls.specs.declared.schedule.PlainSchedule.{PlainSchedule}
 use Rattle.onfi_calls.specs.declared.schedule.PlainWithin.{PlainWithin}
 use Rattle.onfi_calls.specs.declared.status.Status.{Status}
@@ -20,8 +20,8 @@ use Rattle.onfi_calls.specs.declared.status.Status.TheVariants.{Memory}
 use Rattle.onfi_calls.specs.declared.told.Told.{Told}
 use Rattle.onfi_calls.specs.Planned.{GivesAsked, IsUngiven}
 use Rattle.onfi_calls.specs.Ruled.{GivesByRule, IsPlanByRule, gives_by_rule, lacks_memory}
-use Rattle.onfi_calls.specs.Said.{IsSaid, have_lacking}
-use Rattle.onfi_calls.specs.Written.{written_schedule}
+use Rattle.onfi_calls.specs.Problem.{IsSaid, have_lacking}
+use Rattle.onfi_calls.specs.PlainSchedule.{written_schedule}
 use Rattle.onfi_calls.proofs.Recalled.{remembers}
 
 pub planned_by_rule : (x : Position) (own : Plan) (plan : PlainSchedule) (text : List ℕ) → x.all ≡ x.problem.wants → Legal x.problem own.planned.schedule
@@ -43,12 +43,12 @@ planned_by_rule x own plan text begun legal is rule rising least greatest shown 
       written = rw (written, is) refl;
     }
 
-pub by_rule_given : {by : Option PlainLengths} {channel : PlainChannel} {luns : List PlainLun} {wants : List PlainWant} {old new : PlainWithin} {room_old room_new : List ℕ} {bytes result : ℕ}
-    (p : Problem) (told : Result (Told PlainWithin) Status) → IsSaid by channel luns wants p → have_lacking by luns wants ≡ false
+pub by_rule_given : {channel : PlainChannel} {wants : List PlainWant} {old new : PlainWithin} {room_old room_new : List ℕ} {bytes result : ℕ}
+    (p : Problem) (told : Result (Told PlainWithin) Status) → IsSaid channel wants p → have_lacking channel wants ≡ false
     → IfOk told (λ t. IsPlanByRule p t.plan t.text.items) → IfErr told (λ status. status ≡ Memory)
     → IfOk told (λ t. (new ≡ t.plan) × GivesAsked t.text.items room_old room_new bytes result)
     → IfErr told (λ status. IsUngiven old new room_old room_new bytes result status)
-    → GivesByRule by channel luns wants old new room_old room_new bytes result
+    → GivesByRule channel wants old new room_old room_new bytes result
 by_rule_given p (Ok told) said lengths plan none given ungiven =
     gives_by_rule p told.text.items said lengths (subst (λ x. IsPlanByRule p x told.text.items) (sym given.0) plan) given.1
 by_rule_given {old = old} {new = new} {room_old = room_old} {room_new = room_new} {bytes = bytes} {result = result} p (Err status) said lengths plan none given ungiven =

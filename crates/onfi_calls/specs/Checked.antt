@@ -10,15 +10,15 @@ use Rattle.onfi_known_check.specs.Faults.{IsTextFault as IsKnownTextFault}
 use Rattle.onfi_known_check.specs.declared.fault.KnownFault.{KnownFault}
 use Rattle.onfi_known_check.specs.declared.fault.KnownTextFault.{KnownTextFault}
 use Rattle.onfi_calls.specs.declared.channel.PlainChannel.{PlainChannel}
-use Rattle.onfi_calls.specs.declared.lengths.PlainLengths.{PlainLengths}
-use Rattle.onfi_calls.specs.declared.lun.PlainWant.{PlainWant}
-use Rattle.onfi_calls.specs.declared.lun.PlainLun.{PlainLun}
+use Rattle.onfi_calls.specs.declared.channel.PlainLengths.{PlainLengths}
+use Rattle.onfi_calls.specs.declared.channel.PlainWant.{PlainWant}
+use Rattle.onfi_calls.specs.declared.channel.PlainLun.{PlainLun}
 use Rattle.onfi_calls.specs.declared.schedule.PlainSchedule.{PlainSchedule}
 use Rattle.onfi_calls.specs.declared.schedule.PlainVerdict.{PlainVerdict}
 use Rattle.onfi_calls.specs.declared.status.Status.{Status}
 use Rattle.onfi_calls.specs.declared.refusal.Refusal.{Refusal}
 use Rattle.onfi_calls.specs.Refusal.{whole, text_refusal, known_text_refusal}
-use Rattle.onfi_calls.specs.SaidLegal.{IsNoSchedule, IsScheduleSaid}
+use Rattle.onfi_calls.specs.Stand.{IsNoSchedule, IsScheduleSaid}
 use Rattle.onfi_calls.specs.Status.{number_of}
 
 -- a fault of the schedule or its certificate is reported: a plain one, one of a time before which nothing ends, and one that
@@ -42,11 +42,11 @@ pub record IsRefusedBy (refusal : Refusal) (verdict : PlainVerdict) (result : �
 -- a caller is given when the schedule ends that he says, where its certificate shows this of it; or by a number and a place why
 -- it is refused: what is said then of the two, or why there is no such schedule
 pub data GivesVerdict (Shows : Problem → Schedule → List ℕ → Type 0) (Tells : Problem → Schedule → List ℕ → Refusal → Type 0)
-    (by : Option PlainLengths) (channel : PlainChannel) (luns : List PlainLun) (wants : List PlainWant) (schedule : PlainSchedule) (certificate : List ℕ) (verdict : PlainVerdict)
+    (channel : PlainChannel) (wants : List PlainWant) (schedule : PlainSchedule) (certificate : List ℕ) (verdict : PlainVerdict)
     (result : ℕ) : Type 0 where
-  accepts : (p : Problem) (s : Schedule) → IsScheduleSaid by channel luns wants schedule p s → Shows p s certificate → finish p s ≡ verdict.finish
-      → verdict.place ≡ 0 → result ≡ 0 → GivesVerdict Shows Tells by channel luns wants schedule certificate verdict result
-  refuses : (p : Problem) (s : Schedule) → IsScheduleSaid by channel luns wants schedule p s → (refusal : Refusal) → Tells p s certificate refusal
-      → IsRefusedBy refusal verdict result → GivesVerdict Shows Tells by channel luns wants schedule certificate verdict result
-  is_unsaid : (status : Status) → IsNoSchedule by channel luns wants schedule status → IsRefusedBy (whole status) verdict result
-      → GivesVerdict Shows Tells by channel luns wants schedule certificate verdict result
+  accepts : (p : Problem) (s : Schedule) → IsScheduleSaid channel wants schedule p s → Shows p s certificate → finish p s ≡ verdict.finish
+      → verdict.place ≡ 0 → result ≡ 0 → GivesVerdict Shows Tells channel wants schedule certificate verdict result
+  refuses : (p : Problem) (s : Schedule) → IsScheduleSaid channel wants schedule p s → (refusal : Refusal) → Tells p s certificate refusal
+      → IsRefusedBy refusal verdict result → GivesVerdict Shows Tells channel wants schedule certificate verdict result
+  is_unsaid : (status : Status) → IsNoSchedule channel wants schedule status → IsRefusedBy (whole status) verdict result
+      → GivesVerdict Shows Tells channel wants schedule certificate verdict result

@@ -13,18 +13,18 @@ use Rattle.onfi_plan.specs.Certificate.{Remembering as Remembers}
 use Rattle.onfi_planners.specs.declared.chosen.ChosenPlanner.TheVariants.{Remembering}
 use Rattle.onfi_script.specs.Answer.{IsProved}
 use Rattle.onfi_calls.specs.declared.channel.PlainChannel.{PlainChannel}
-use Rattle.onfi_calls.specs.declared.lengths.PlainLengths.{PlainLengths}
-use Rattle.onfi_calls.specs.declared.lun.PlainWant.{PlainWant}
-use Rattle.onfi_calls.specs.declared.lun.PlainLun.{PlainLun}
+use Rattle.onfi_calls.specs.declared.channel.PlainLengths.{PlainLengths}
+use Rattle.onfi_calls.specs.declared.channel.PlainWant.{PlainWant}
+use Rattle.onfi_calls.specs.declared.channel.PlainLun.{PlainLun}
 use Rattle.onfi_calls.specs.declared.schedule.PlainPlan.{PlainPlan}
 use Rattle.onfi_calls.specs.declared.status.Status.{Status}
 use Rattle.onfi_calls.specs.declared.status.Status.TheVariants.{BadLimit, Memory, Over}
 use Rattle.onfi_calls.specs.Refused.{IsRefused}
 use Rattle.onfi_calls.specs.Room.{Gives}
-use Rattle.onfi_calls.specs.Said.{IsSaid, have_lacking}
+use Rattle.onfi_calls.specs.Problem.{IsSaid, have_lacking}
 use Rattle.onfi_calls.specs.Script.{IsBadLimit}
 use Rattle.onfi_calls.specs.Status.{number_of}
-use Rattle.onfi_calls.specs.Written.{written_plan}
+use Rattle.onfi_calls.specs.PlainSchedule.{written_plan}
 
 -- an optimal schedule with its groups by rising first start, and the text of a certificate that shows it
 pub record IsPlan (p : Problem) (limit : ℕ) (plan : PlainPlan) (text : List ℕ) : Type 0 where
@@ -60,16 +60,16 @@ IsUnplanned p limit Memory = Unit {0}
 IsUnplanned p limit _ = ⊥
 
 -- the problem that a caller says, with lengths of all that is put out, which a search of so many nodes is to plan
-pub record IsPosed (by : Option PlainLengths) (channel : PlainChannel) (luns : List PlainLun) (wants : List PlainWant) (limit : ℕ) (p : Problem) : Type 0 where
+pub record IsPosed (channel : PlainChannel) (wants : List PlainWant) (limit : ℕ) (p : Problem) : Type 0 where
   pub some : 1 ≤ limit
   pub few : limit ≤ 1048576
-  pub said : IsSaid by channel luns wants p
-  pub lengths : have_lacking by luns wants ≡ false
+  pub said : IsSaid channel wants p
+  pub lengths : have_lacking channel wants ≡ false
 
 -- why there is none: the first of these
-pub data IsUnposed (by : Option PlainLengths) (channel : PlainChannel) (luns : List PlainLun) (wants : List PlainWant) (limit : ℕ) (status : Status) : Type 0 where
-  is_limit : IsBadLimit limit → status ≡ BadLimit → IsUnposed by channel luns wants limit status
-  is_refused : 1 ≤ limit → limit ≤ 1048576 → IsRefused by channel luns wants status → IsUnposed by channel luns wants limit status
+pub data IsUnposed (channel : PlainChannel) (wants : List PlainWant) (limit : ℕ) (status : Status) : Type 0 where
+  is_limit : IsBadLimit limit → status ≡ BadLimit → IsUnposed channel wants limit status
+  is_refused : 1 ≤ limit → limit ≤ 1048576 → IsRefused channel wants status → IsUnposed channel wants limit status
 
 -- a text is given where there is room for any
 pub data GivesAsked (text old new : List ℕ) (bytes result : ℕ) : Type 0 where
@@ -86,11 +86,11 @@ pub record IsUngiven {Plan : Type 0} (old new : Plan) (room_old room_new : List 
 -- a caller is given a plan of what he says, of which this is promised, and its certificate; or a number that says why there is
 -- none, of the problem or before, and nothing else
 pub data GivesPlan {Plan : Type 0} (Promises : Problem → ℕ → Plan → List ℕ → Type 0) (Tells : Problem → ℕ → Status → Type 0)
-    (by : Option PlainLengths) (channel : PlainChannel) (luns : List PlainLun) (wants : List PlainWant) (limit : ℕ) (old new : Plan) (room_old room_new : List ℕ)
+    (channel : PlainChannel) (wants : List PlainWant) (limit : ℕ) (old new : Plan) (room_old room_new : List ℕ)
     (bytes result : ℕ) : Type 0 where
-  gives : (p : Problem) (text : List ℕ) → IsPosed by channel luns wants limit p → Promises p limit new text → GivesAsked text room_old room_new bytes result
-      → GivesPlan Promises Tells by channel luns wants limit old new room_old room_new bytes result
-  refuses : (p : Problem) (status : Status) → IsPosed by channel luns wants limit p → Tells p limit status
-      → IsUngiven old new room_old room_new bytes result status → GivesPlan Promises Tells by channel luns wants limit old new room_old room_new bytes result
-  is_unposed : (status : Status) → IsUnposed by channel luns wants limit status → IsUngiven old new room_old room_new bytes result status
-      → GivesPlan Promises Tells by channel luns wants limit old new room_old room_new bytes result
+  gives : (p : Problem) (text : List ℕ) → IsPosed channel wants limit p → Promises p limit new text → GivesAsked text room_old room_new bytes result
+      → GivesPlan Promises Tells channel wants limit old new room_old room_new bytes result
+  refuses : (p : Problem) (status : Status) → IsPosed channel wants limit p → Tells p limit status
+      → IsUngiven old new room_old room_new bytes result status → GivesPlan Promises Tells channel wants limit old new room_old room_new bytes result
+  is_unposed : (status : Status) → IsUnposed channel wants limit status → IsUngiven old new room_old room_new bytes result status
+      → GivesPlan Promises Tells channel wants limit old new room_old room_new bytes result

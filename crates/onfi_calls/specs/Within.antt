@@ -9,7 +9,7 @@ use Rattle.onfi_script.specs.Answer.{IsPlan}
 use Rattle.onfi_calls.specs.declared.schedule.PlainWithin.{PlainWithin}
 use Rattle.onfi_calls.specs.declared.status.Status.{Status}
 use Rattle.onfi_calls.specs.declared.status.Status.TheVariants.{Memory}
-use Rattle.onfi_calls.specs.Written.{written_within}
+use Rattle.onfi_calls.specs.PlainSchedule.{written_within}
 
 -- the best plan so far, made better within so many thousandths: the time is its finish where these are none, and else it ends at
 -- most so much later, unless the tree of the problem has more nodes than the limit
