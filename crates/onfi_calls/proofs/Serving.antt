@@ -13,7 +13,7 @@ use Rattle.onfi_group.proofs.Lists.{All-append, All-has, first_has}
 use Rattle.onfi_problem.specs.declared.lun_state.LunState.{LunState}
 use Rattle.onfi_problem.specs.declared.lun_state.LunState.TheVariants.{Free, Running}
 use Rattle.onfi_problem.specs.Moves.{IsMove, lun_after, next_ran, placed}
-use Rattle.onfi_problem.specs.Problem.{luns_of, Problem}
+use Rattle.onfi_problem.specs.Problem.{Problem}
 use Rattle.onfi_steady.specs.declared.waiter.Waiter.{Waiter}
 use Rattle.onfi_steady.specs.Waiting.{Books, channel, passed_by, wants_of}
 use Rattle.onfi_steady.specs.Next.{move_by}
@@ -27,7 +27,7 @@ use Rattle.onfi_calls.specs.declared.status.Status.TheVariants.{BadKind, BadPlac
 use Rattle.onfi_calls.specs.Device.{written_geometry}
 use Rattle.onfi_calls.specs.Dispatching.{IsPhaseOutside, has_outside, is_idle, is_late, is_on, is_outside, want_refusal}
 use Rattle.onfi_calls.specs.Due.{IsOutside, page_of}
-use Rattle.onfi_calls.specs.Problem.{has_bad_kind, members_of, states_of as states_said, want_of, wants_of as wants_said}
+use Rattle.onfi_calls.specs.Problem.{has_bad_kind, luns_of, members_of, states_of as states_said, want_of, wants_of as wants_said}
 use Rattle.onfi_calls.specs.Serving.{BeginningServes, IsHad, IsLunHad, IsServed, NextServes, RunningServes, TakingServes}
 use Rattle.onfi_calls.proofs.InOrders.{both_false}
 
