@@ -4,9 +4,8 @@ use crate::opened::{new_chip, setup_of};
 use onfi_addr::Place;
 use onfi_cert::Token;
 use onfi_chip::SimChip;
-use onfi_core::Setup;
-use onfi_plan::{Limit, PlainPlanner, Plan, PlanFault, Planner};
-use onfi_planner::Planned;
+use onfi_core::{LastPlan, Setup};
+use onfi_plan::{Certificate, Limit, PlainPlanner, Plan, PlanFault, Planner};
 use onfi_problem::Problem;
 use onfi_queue::Host;
 use onfi_reply::Inbox;
@@ -38,27 +37,18 @@ impl Planner for Modest {
 
     fn plan(&self, alloc: Global, problem: &Problem, limit: Limit) -> Result<Plan, PlanFault> {
         let Plan {
-            planned,
-            opened,
-            reopened,
-            ..
-        } = PlainPlanner.plan(alloc, problem, limit)?;
-        let Planned {
             schedule,
             finish,
+            opened,
             ..
-        } = planned;
+        } = PlainPlanner.plan(alloc, problem, limit)?;
         let tokens = Vec::from_slice(alloc, &[Token::Bus])?;
         Ok(Plan {
-            planned: Planned {
-                schedule,
-                finish,
-                cert: tokens,
-            },
+            schedule,
+            finish,
             below: 0,
-            text: None,
+            certificate: Certificate::Tokens(tokens),
             opened,
-            reopened,
         })
     }
 }
@@ -131,8 +121,11 @@ fn serve<R: Wait>(
         thread::yield_now();
     }
     let (_, plan) = sequencer.last_plan()?;
-    let own = plan.tokens()? == [Token::Bus].as_slice();
-    Some((plan.planned.finish, plan.below, own))
+    let LastPlan::Tokens { planned, below } = plan else {
+        return None;
+    };
+    let own = planned.cert.as_slice() == [Token::Bus].as_slice();
+    Some((planned.finish, *below, own))
 }
 
 // The ends that hosts have on a channel.

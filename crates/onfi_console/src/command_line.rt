@@ -14,7 +14,7 @@ use crate::parsed::{MOST, Named, Parsed};
 use clap::error::ErrorKind;
 use clap::{ArgMatches, Error};
 use onfi_plan::Limit;
-use onfi_planners::{ChosenPlanner, Nodes, SlackPlanner, Weighing};
+use onfi_planners::{By, ChosenPlanner, Early};
 use onfi_script::{AuditOptions, Command, GapOptions, Output, PlanOptions, number};
 use std::alloc::{AllocError, Global};
 
@@ -28,8 +28,6 @@ enum ValueFault {
     WithinBesideRemember,
     RememberBesideLegal,
     WithinBesideLegal,
-    Slack,
-    SlackWithoutEarly,
     WorkersBesideEarly,
     Clock,
     SearchBesideRule,
@@ -61,23 +59,19 @@ impl ValueFault {
             ValueFault::WithinBesideLegal => {
                 "'--within' can't be used with '--legal': no certificate is looked at"
             }
-            ValueFault::Slack => "'--slack' wants a number from 0 to 1000, digits alone",
-            ValueFault::SlackWithoutEarly => {
-                "'--slack' can't be used without '--early': no other plan may end later"
-            }
             ValueFault::WorkersBesideEarly => {
                 "'--workers' can't be used with '--early': one worker makes a plan better"
             }
             ValueFault::Clock => "'--clock' wants 'simulated'",
             ValueFault::SearchBesideRule => {
-                "'--rule' can't be used with '--limit', '--workers', '--remember', '--within', '--early' or '--slack': it searches nothing"
+                "'--rule' can't be used with '--limit', '--workers', '--remember', '--within' or '--early': it searches nothing"
             }
             ValueFault::RunSearchBesideRule => {
-                "'--rule' can't be used with '--limit', '--remember', '--within' or '--slack': it searches nothing"
+                "'--rule' can't be used with '--limit', '--remember' or '--within': it searches nothing"
             }
             ValueFault::By => "'--by' wants 'next'",
             ValueFault::PlannerBesideNext => {
-                "'--by next' can't be used with '--limit', '--remember', '--within', '--slack' or '--rule': it plans nothing"
+                "'--by next' can't be used with '--limit', '--remember', '--within' or '--rule': it plans nothing"
             }
             ValueFault::LimitWithoutOptimum => {
                 "'--limit' can't be used without '--optimum': nothing else of 'audit' searches"
@@ -99,7 +93,6 @@ const USUAL: u32 = 65_536;
 const MOST_WORKERS: u64 = 8;
 
 /// As many thousandths as a plan may end later.
-const MOST_SLACK: u64 = 1_000;
 
 /// The limit that is named, in its range.
 fn read_limit(matches: &ArgMatches<'_>) -> Result<Option<u32>, ValueFault>
@@ -155,20 +148,6 @@ fn is_given(matches: &ArgMatches<'_>, flag: &str) -> bool
     }
 }
 
-/// The slack that is named, in thousandths, in its range.
-fn read_slack(matches: &ArgMatches<'_>) -> Result<Option<u16>, ValueFault>
-    ensures value { IfOk result (λ slack. spec.IsSlack (first_value (found_of matches.now) (codes "slack")) slack) }
-    ensures refused { IfErr result (λ fault. spec.IsOutside 0 1000 (first_value (found_of matches.now) (codes "slack"))) }
-{
-    let Some(text) = matches.get_str("slack") else {
-        return Ok(None);
-    };
-    match number(text.as_bytes(), 0, MOST_SLACK) {
-        Ok(slack) => Ok(Some(slack as u16)),
-        Err(_) => Err(ValueFault::Slack),
-    }
-}
-
 /// Whether an option is given, with whichever value.
 fn has_value(matches: &ArgMatches<'_>, option: &str) -> bool
     ensures { result ≡ is_some (first_value (found_of matches.now) option.now) }
@@ -191,75 +170,53 @@ fn output_of(matches: &ArgMatches<'_>) -> Output
 }
 
 /// The planner that the flags `remember` and `within` name.
-fn planner_of(remember: bool, within: bool) -> Result<ChosenPlanner, ValueFault>
+fn planner_of(remember: bool, within: bool) -> Result<By, ValueFault>
     ensures { IfOk result (λ planner. spec.planner_of remember within ≡ Some planner) }
 {
     match (within, remember) {
-        (false, false) => Ok(ChosenPlanner::Plain),
-        (false, true) => Ok(ChosenPlanner::Remembering),
-        (true, false) => Ok(ChosenPlanner::BestSoFar),
+        (false, false) => Ok(By::Plain),
+        (false, true) => Ok(By::Within),
+        (true, false) => Ok(By::Within),
         (true, true) => Err(ValueFault::WithinBesideRemember),
     }
 }
 
 /// The limit of a planner where none is named.
-fn usual_for(planner: ChosenPlanner) -> u32
+fn usual_for(planner: By) -> u32
     ensures value { result ≡ spec.usual_for planner }
     ensures some { 1 ≤ result }
     ensures few { result ≤ 1048576 }
 {
     match planner {
-        ChosenPlanner::Plain | ChosenPlanner::Remembering | ChosenPlanner::ByRule => MOST,
-        ChosenPlanner::BestSoFar => USUAL,
+        By::Plain | By::Rule => MOST,
+        By::Within => USUAL,
     }
-}
-
-/// Within how many thousandths a plan is to be made better; none where it isn't.
-fn better_of(used: &ArgMatches<'_>, early: bool) -> Result<Option<u16>, ValueFault>
-    requires late { early ≡ false → is_some (first_value (found_of used.now) (codes "slack")) ≡ false }
-    ensures { IfOk result (λ better. spec.IsBetter early (first_value (found_of used.now) (codes "slack")) better) }
-{
-    if !early {
-        return Ok(None);
-    }
-    let slack = read_slack(used)?;
-    Ok(Some(slack.unwrap_or(0)))
 }
 
 /// Whether one worker alone plans so.
-fn is_alone(planner: ChosenPlanner, better: Option<u16>) -> bool
-    ensures { result ≡ spec.is_alone planner better }
+fn is_alone(by: By, early: bool) -> bool
+    ensures { result ≡ spec.is_alone by early }
 {
-    !matches!((planner, better), (ChosenPlanner::Plain, None))
-}
-
-/// The planner whose plans may end later by so many thousandths: one that remembers states, where they may.
-fn planner_within(planner: ChosenPlanner, slack: u16) -> ChosenPlanner
-    ensures { result ≡ spec.planner_within planner slack }
-{
-    match planner {
-        ChosenPlanner::Plain if slack > 0 => ChosenPlanner::Remembering,
-        _ => planner,
-    }
+    early || by != By::Plain
 }
 
 /// The command to plan so.
-fn plan_command(planner: ChosenPlanner, better: Option<u16>, limit: u32, output: Output) -> Command
-    ensures command { result ≡ spec.plan_command planner better limit output }
+fn plan_command(by: By, early: bool, limit: u32, output: Output) -> Command
+    ensures command { result ≡ spec.plan_command by early limit output }
     ensures limited { 1 ≤ limit → limit ≤ 1048576 → IsLimited result }
 {
-    match (planner, better, output) {
-        (ChosenPlanner::Plain, None, Output::Plan) => Command::Plan {
+    match (by, early, output) {
+        (By::Plain, false, Output::Plan) => Command::Plan {
             limit,
             trace: false,
         },
-        (ChosenPlanner::Plain, None, Output::Trace { requests: false }) => Command::Plan {
+        (By::Plain, false, Output::Trace { requests: false }) => Command::Plan {
             limit,
             trace: true,
         },
         _ => Command::PlanBy(PlanOptions {
-            planner: planner_within(planner, better.unwrap_or(0)),
-            better,
+            by,
+            early,
             limit,
             output,
         }),
@@ -275,7 +232,6 @@ fn names_search(used: &ArgMatches<'_>) -> bool
         || is_given(used, "remember")
         || is_given(used, "within")
         || is_given(used, "early")
-        || has_value(used, "slack")
 }
 
 /// What `plan --rule` with these arguments names.
@@ -289,7 +245,7 @@ fn plan_by_rule_of(used: &ArgMatches<'_>) -> Result<Named, ValueFault>
         return Err(ValueFault::SearchBesideRule);
     }
     let output = output_of(used);
-    let command = plan_command(ChosenPlanner::ByRule, None, MOST, output);
+    let command = plan_command(By::Rule, false, MOST, output);
     let workers = 1;
     Ok(Named::Problem { command, workers })
 }
@@ -307,17 +263,13 @@ fn plan_of(used: &ArgMatches<'_>) -> Result<Named, ValueFault>
     if early && has_value(used, "workers") {
         return Err(ValueFault::WorkersBesideEarly);
     }
-    if !early && has_value(used, "slack") {
-        return Err(ValueFault::SlackWithoutEarly);
-    }
     let remember = is_given(used, "remember");
     let within = is_given(used, "within");
     let planner = planner_of(remember, within)?;
-    let better = better_of(used, early)?;
     let limit = limit_of(used, usual_for(planner))?;
-    let workers = workers_of(used, is_alone(planner, better))?;
+    let workers = workers_of(used, is_alone(planner, early))?;
     let output = output_of(used);
-    let command = plan_command(planner, better, limit, output);
+    let command = plan_command(planner, early, limit, output);
     Ok(Named::Problem { command, workers })
 }
 
@@ -331,8 +283,8 @@ fn check_command(legal: bool, within: bool, remember: bool) -> Result<Command, V
         (true, true, false) => Err(ValueFault::WithinBesideLegal),
         (true, false, false) => Ok(Command::Legal),
         (false, true, true) => Err(ValueFault::WithinBesideRemember),
-        (false, true, false) => Ok(Command::CheckBy(ChosenPlanner::BestSoFar)),
-        (false, false, true) => Ok(Command::CheckBy(ChosenPlanner::Remembering)),
+        (false, true, false) => Ok(Command::CheckBy(By::Within)),
+        (false, false, true) => Ok(Command::CheckBy(By::Within)),
         (false, false, false) => Ok(Command::Check),
     }
 }
@@ -352,36 +304,23 @@ fn check_of(used: &ArgMatches<'_>) -> Result<Named, ValueFault>
     })
 }
 
-/// The planner of a run by this search, whose plans may end later by so many thousandths.
-fn run_planner(search: ChosenPlanner, slack: u16) -> SlackPlanner<ChosenPlanner>
-    ensures { result ≡ spec.run_planner search slack }
+/// The planner of a run by this search, whose plans are made better.
+fn run_planner(search: By) -> ChosenPlanner
+    ensures { result ≡ spec.run_planner search }
 {
-    SlackPlanner::of(search, Weighing::ByAge, slack)
-}
-
-/// The planner of a run by the rule, whose plans stay as the rule makes them.
-fn rule_planner() -> SlackPlanner<ChosenPlanner>
-    ensures { result ≡ spec.rule_planner }
-{
-    SlackPlanner {
-        planner: ChosenPlanner::ByRule,
-        weighing: Weighing::ByAge,
-        per_mille: 0,
-        nodes: Nodes::of(0).unwrap(),
+    ChosenPlanner {
+        by: search,
+        early: Some(Early::default()),
     }
 }
 
-/// The limit of a run by this search where none is named: the usual one where states are remembered, and plans may end later.
-fn usual_of(search: ChosenPlanner, slack: u16) -> u32
-    ensures value { result ≡ spec.usual_by search slack }
-    ensures some { 1 ≤ result }
-    ensures few { result ≤ 1048576 }
+/// The planner of a run by the rule, whose plans stay as the rule makes them.
+fn rule_planner() -> ChosenPlanner
+    ensures { result ≡ spec.rule_planner }
 {
-    match search {
-        ChosenPlanner::Plain => MOST,
-        ChosenPlanner::ByRule => MOST,
-        ChosenPlanner::Remembering if slack == 0 => MOST,
-        ChosenPlanner::Remembering | ChosenPlanner::BestSoFar => USUAL,
+    ChosenPlanner {
+        by: By::Rule,
+        early: None,
     }
 }
 
@@ -415,7 +354,6 @@ fn names_run_search(used: &ArgMatches<'_>) -> bool
     is_given(used, "remember")
         || is_given(used, "within")
         || has_value(used, "limit")
-        || has_value(used, "slack")
 }
 
 /// What `run --rule` with these arguments names.
@@ -451,13 +389,10 @@ fn planned_run_of(used: &ArgMatches<'_>) -> Result<Named, ValueFault>
     let within = is_given(used, "within");
     let search = planner_of(remembers, within)?;
     let limit = read_limit(used)?;
-    let slack = read_slack(used)?;
     let clocked = clock_of(used)?;
-    let slack = slack.unwrap_or(0);
-    let search = planner_within(search, slack);
-    let limit = limit.unwrap_or(usual_of(search, slack));
+    let limit = limit.unwrap_or(usual_for(search));
     Ok(Named::Run {
-        planner: run_planner(search, slack),
+        planner: run_planner(search),
         limit,
         clocked,
     })
@@ -514,7 +449,7 @@ fn audit_optimum_of(used: &ArgMatches<'_>) -> Result<Named, ValueFault>
     if by_status {
         return Err(ValueFault::StatusBesideOptimum);
     }
-    let nodes = limit_of(used, usual_for(ChosenPlanner::BestSoFar))?;
+    let nodes = limit_of(used, usual_for(By::Within))?;
     let limit = Limit::of(nodes).unwrap();
     let csv = is_given(used, "csv");
     let options = GapOptions { all, limit, csv };

@@ -96,14 +96,13 @@ fn plan_search<'a>(alloc: Global) -> Result<Command<'a>, AllocError>
     with(plan, flag(alloc, "rule", help::RULE_PLAN))
 }
 
-/// .. with `[--early] [--slack N]`
+/// .. with `[--early]`
 fn plan_early<'a>(alloc: Global) -> Result<Command<'a>, AllocError>
     ensures app { IfOk result (λ a. app_of a ≡ spec.plan_early) }
     ensures local { IfOk result (λ a. (fields_of a).has_globals ≡ false) }
 {
     let plan = plan_search(alloc)?;
-    let plan = with(plan, flag(alloc, "early", help::EARLY))?;
-    with(plan, number(alloc, "slack", help::SLACK))
+    with(plan, flag(alloc, "early", help::EARLY))
 }
 
 /// .. with `[--quiet] [FILE]`
@@ -136,7 +135,7 @@ fn check<'a>(alloc: Global) -> Result<Command<'a>, AllocError>
     with(check, file(alloc, "PLAN", help::PLAN_FILE))
 }
 
-/// `run [--limit N] [--remember] [--within] [--slack N]`
+/// `run [--limit N] [--remember] [--within]`
 fn run_search<'a>(alloc: Global) -> Result<Command<'a>, AllocError>
     ensures app { IfOk result (λ a. app_of a ≡ spec.run_search) }
     ensures local { IfOk result (λ a. (fields_of a).has_globals ≡ false) }
@@ -144,8 +143,7 @@ fn run_search<'a>(alloc: Global) -> Result<Command<'a>, AllocError>
     let run = command(alloc, "run", help::RUN, help::RUN_MORE);
     let run = with(run, number(alloc, "limit", help::LIMIT_RUN))?;
     let run = with(run, flag(alloc, "remember", help::REMEMBER_RUN))?;
-    let run = with(run, flag(alloc, "within", help::WITHIN_RUN))?;
-    with(run, number(alloc, "slack", help::SLACK_RUN))
+    with(run, flag(alloc, "within", help::WITHIN_RUN))
 }
 
 /// .. with `[--rule] [--by WAY]`

@@ -42,7 +42,7 @@ within the limit; 7 a read or write failed.
 Example:
   onfi_sim plan examples/batch.onfi
   onfi_sim plan --remember --requests examples/batch.onfi
-  onfi_sim plan --early --slack 20 examples/batch.onfi
+  onfi_sim plan --early examples/batch.onfi
   onfi_sim plan --rule examples/batch.onfi";
 
 pub const CHECK: &str =
@@ -76,7 +76,6 @@ Example:
   onfi_sim run examples/two-hosts.onfi
   onfi_sim run --remember examples/two-hosts.onfi
   onfi_sim run --within --limit 200 examples/two-hosts.onfi
-  onfi_sim run --slack 20 examples/two-hosts.onfi
   onfi_sim run --rule examples/two-hosts.onfi
   onfi_sim run --by next examples/two-hosts.onfi
   onfi_sim run --clock simulated examples/two-hosts.onfi";
@@ -125,7 +124,7 @@ pub const LIMIT: &str =
     "Open at most N nodes in a search, 1 to 1048576; the greatest where none is named";
 
 pub const LIMIT_RUN: &str =
-    "Open at most N nodes a plan, 1 to 1048576; else the most, 65536 with --within or a slack";
+    "Open at most N nodes a plan, 1 to 1048576; else the most, 65536 with --within";
 
 pub const REMEMBER_RUN: &str =
     "Plan by remembered states; answers in practice where the plain search isn't over";
@@ -155,12 +154,6 @@ pub const BY_RUN: &str =
 
 pub const EARLY: &str =
     "Let requests end early by the weights of the script, and nothing later than the plan does";
-
-pub const SLACK: &str =
-    "With --early: let the plan end N thousandths of its time later, 0 to 1000; the text is that of --within";
-
-pub const SLACK_RUN: &str =
-    "Let plans end N thousandths of their time later, 0 to 1000, so that requests end early; 0 where not named";
 
 pub const CLOCK_RUN: &str =
     "Run by a clock, 'simulated': tells when each reply came, how busy buses were and how long operations took";

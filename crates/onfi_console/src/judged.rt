@@ -6,14 +6,14 @@ use crate::lines::{last_of_text, line_fault, token_at, token_text_fault};
 use onfi_cert::CertTextFault;
 use onfi_check::{CertFault, TextFault};
 use onfi_known_check::{KnownFault, KnownTextFault};
-use onfi_planners::ChosenPlanner;
+use onfi_planners::By;
 use onfi_script::{Command, Why, after_end, script_len};
 use std::alloc::{AllocError, Global};
 
 /// What a certificate has to prove for a command.
 fn proof_of(command: Command) -> &'static str {
     match command {
-        Command::CheckBy(ChosenPlanner::BestSoFar) =>
+        Command::CheckBy(By::Within) =>
             "that nothing ends before the time that is told",
         _ => "it optimal",
     }

@@ -3,7 +3,7 @@ ghost use Rattle.std.specs.Prelude.{◌≡◌, ◌≤◌};
 ghost use Rattle.onfi_console.specs.Readers as spec;
 ghost use Rattle.onfi_console.specs.Words.{IsInRange};
 
-use onfi_planners::{ChosenPlanner, SlackPlanner};
+use onfi_planners::ChosenPlanner;
 use onfi_script::{AuditOptions, Command, GapOptions, Output};
 
 /// A command of the program.
@@ -48,7 +48,7 @@ pub enum Named {
     /// The operations of a script are run, by a simulated clock or in threads; that planner plans each batch, with at most
     /// `limit` nodes, 1 to 1,048,576.
     Run {
-        planner: SlackPlanner<ChosenPlanner>,
+        planner: ChosenPlanner,
         limit: u32,
         clocked: bool,
     },

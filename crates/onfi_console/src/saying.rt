@@ -7,7 +7,7 @@ use crate::judged::describe_refusal;
 use crate::parsed::{MOST, Named, Parsed};
 use crate::ran::run_message;
 use crate::script::{purpose_of, script_message};
-use onfi_planners::ChosenPlanner;
+use onfi_planners::By;
 use onfi_script::{Command, Why};
 use std::alloc::{AllocError, Global};
 
@@ -70,7 +70,7 @@ fn about(
 /// Whether a command plans by the search that remembers states.
 fn remembers(command: Command) -> bool {
     match command {
-        Command::PlanBy(options) => options.planner == ChosenPlanner::Remembering,
+        Command::PlanBy(options) => options.by == By::Within,
         _ => false,
     }
 }

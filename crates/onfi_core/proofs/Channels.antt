@@ -4,7 +4,7 @@ use Rattle.std.specs.Prelude.{slice_set}
 use Rattle.std.specs.List.{AllByRecursion as All}
 use Rattle.onfi_problem.proofs.Perm.{All-weaker}
 use Rattle.std.specs.Prelude.{Bool}
-use Rattle.onfi_plan.specs.Certificate.{Certificate}
+use Rattle.onfi_plan.specs.declared.plan.Certificate.{Certificate}
 use Rattle.onfi_core.specs.Core.{Headline, RunKeeps, CoreRun, CoreStep, Doing, Did, DidAll, IsOpened, IsReachedWith, with_batch, channel_of}
 use Rattle.onfi_core.specs.Core.Doing.{Happens, SetsBatch}
 use Rattle.onfi_core.specs.Kept.{IsSound, IsReached, KeepsPromise}

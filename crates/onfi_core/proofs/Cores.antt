@@ -15,7 +15,7 @@ use Rattle.onfi_core.specs.Core.Doing.{SetsBatch}
 use Rattle.onfi_chip.specs.Chip.{Chip}
 use Rattle.onfi_core.specs.Queues.{ChannelView, AreChannels, AreOpened, opened_with, state_in}
 use Rattle.onfi_core.specs.State.{ChannelState, Planning}
-use Rattle.onfi_plan.specs.Certificate.{Certificate}
+use Rattle.onfi_plan.specs.declared.plan.Certificate.{Certificate}
 use Rattle.onfi_core.specs.Kept.{IsReached}
 use Rattle.onfi_core.specs.Steps.{IsBest, IsPromised, PlansSuch, Step}
 use Rattle.onfi_core.proofs.Channels.{All-set}

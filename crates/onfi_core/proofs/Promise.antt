@@ -11,7 +11,7 @@ use Rattle.onfi_request.specs.declared.request.Item.{Item}
 use Rattle.onfi_group.specs.Words.{number}
 use Rattle.onfi_problem.specs.Problem.{has_id}
 use Rattle.onfi_core.specs.Kept.{IsReached, KeepsPromise, is_of_place}
-use Rattle.onfi_plan.specs.Certificate.{Certificate}
+use Rattle.onfi_plan.specs.declared.plan.Certificate.{Certificate}
 use Rattle.onfi_die.specs.Rightful.{AreRightful}
 use Rattle.onfi_core.specs.State.{ChannelState, device_for, wants_from}
 use Rattle.onfi_core.specs.Steps.{IsPromised}

@@ -3,7 +3,8 @@ use Rattle.std.proofs.Common.{◌≡◌, ℕ, ◌≤◌, inl, inr, Bool, Some, N
 use Rattle.std.specs.Prelude.{Option, Result, Ok, Err, IfOk, IfErr, IfNone, IfSome, IsTrue, MatchOption}
 use Rattle.onfi_schedule.specs.Schedule.{finish}
 use Rattle.onfi_check.specs.Tree.{AcceptsTokens}
-use Rattle.onfi_plan.specs.Certificate.{Certificate, ShowsBelow}
+use Rattle.onfi_plan.specs.Certificate.{ShowsBelow}
+use Rattle.onfi_plan.specs.declared.plan.Certificate.{Certificate}
 use Rattle.onfi_core.specs.declared.event.Event.{Event}
 use Rattle.onfi_core.specs.declared.event.Event.TheVariants.{Submit, Accept, Plan, Bus, Wait, Ready, Post, Collect}
 use Rattle.onfi_core.specs.declared.half.PlanRefusal.{PlanRefusal}
@@ -36,13 +37,13 @@ pub plain_is_plain : PlainIsPlain
 plain_is_plain plan planned promised =
     let tokens = promised.kind.0 in
     let cert = promised.kind.1 in
-    let shown : AcceptsTokens tokens plan.problem plan.below = subst (λ c. ShowsBelow c plan.problem.wants plan.problem plan.below) cert planned.shown in
+    let shown : AcceptsTokens tokens.items plan.problem plan.below = subst (λ c. ShowsBelow c plan.problem.wants plan.problem plan.below) cert planned.shown in
     record {
       optimal = (promised.best refl).optimal;
       finish = planned.finish;
       tokens = tokens;
       cert = cert;
-      accepted = subst (AcceptsTokens tokens plan.problem) (promised.exactly refl) shown;
+      accepted = subst (AcceptsTokens tokens.items plan.problem) (promised.exactly refl) shown;
     }
 
 -- what is shown of the last plan, where it is plain

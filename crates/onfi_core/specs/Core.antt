@@ -9,7 +9,7 @@ use Rattle.onfi_core.specs.declared.event.Event.TheVariants.{Submit, Accept, Pla
 use Rattle.onfi_core.specs.declared.outcome.Outcome.{Outcome}
 use Rattle.onfi_core.specs.declared.outcome.Outcome.TheVariants.{NoSuch}
 use Rattle.onfi_die.specs.Order.{AreInOrder}
-use Rattle.onfi_plan.specs.Certificate.{Certificate}
+use Rattle.onfi_plan.specs.declared.plan.Certificate.{Certificate}
 use Rattle.onfi_core.specs.State.{ChannelState, Planning, posted_to}
 use Rattle.onfi_core.specs.Steps.{IsPromised, PlansSuch, Step}
 use Rattle.onfi_chip.specs.Chip.{Failures}

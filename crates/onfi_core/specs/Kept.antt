@@ -28,7 +28,7 @@ use Rattle.onfi_core.specs.declared.setup.Choice.{Choice}
 use Rattle.onfi_core.specs.declared.setup.Choice.TheVariants.{InOrder, NextPhase}
 use Rattle.onfi_core.specs.declared.setup.Setup.{Setup}
 use Rattle.onfi_core.specs.State.{HalfState, ChannelState, Way, want_of, wants_from, item_at, request_of, device_for, is_to, sent_by, posted_to, collected_by}
-use Rattle.onfi_plan.specs.Certificate.{Certificate}
+use Rattle.onfi_plan.specs.declared.plan.Certificate.{Certificate}
 use Rattle.onfi_core.specs.Steps.{unplanned, IsPlanned, IsPromised}
 
 abbrev pub is_want_on : ℕ → ℕ → Want → Bool

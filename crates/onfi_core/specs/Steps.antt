@@ -1,5 +1,6 @@
 -- What an event does to a channel.
-use Rattle.std.specs.Prelude.{◌≡◌, ◌≢◌, ℕ, ◌+◌, ◌-◌, ◌^◌, ◌<◌, ◌≤◌, ◌⊎◌, ◌==◌, max, not, nat_le, nat_lt, if◌then◌else◌, Bool, true, false, IsTrue, List, [], ◌∷◌, ◌++◌, length, take, drop, Option, Some, None, IfSome, slice_get}
+use Rattle.std.specs.Prelude.{◌≡◌, ◌≢◌, ℕ, ◌+◌, ◌-◌, ◌^◌, ◌<◌, ◌≤◌, ◌⊎◌, ◌==◌, max, not, nat_le, nat_lt, if◌then◌else◌, Bool, true, false, IsTrue, List, [], ◌∷◌, ◌++◌, length, take, drop, Option, Some, None, IfSome, Vec, slice_get}
+use Rattle.std.specs.Global.{Global}
 use Rattle.std.specs.List.{filter}
 use Rattle.onfi_timing.specs.declared.operation.Operation.TheVariants.{Read}
 use Rattle.onfi_timing.specs.Kinds.{operation_of, sectors_of}
@@ -24,7 +25,9 @@ use Rattle.onfi_cert.specs.declared.token.Token.{Token}
 use Rattle.onfi_check.specs.Tree.{AcceptsTokens}
 use Rattle.onfi_check.specs.Nodes.{HasMoreNodes}
 use Rattle.onfi_known_check.specs.Laws.{NoneBefore}
-use Rattle.onfi_plan.specs.Certificate.{Certificate, Plain, IsPlain, ShowsBelow}
+use Rattle.onfi_plan.specs.Certificate.{IsPlain, ShowsBelow}
+use Rattle.onfi_plan.specs.declared.plan.Certificate.{Certificate}
+use Rattle.onfi_plan.specs.declared.plan.Certificate.TheVariants.{Tokens}
 use Rattle.onfi_steady.specs.declared.next.NextPhase.{NextPhase}
 use Rattle.onfi_steady.specs.Dispatcher.{begun_books}
 use Rattle.onfi_steady.specs.Next.{IsNextPhase, move_of_phase}
@@ -115,9 +118,9 @@ IsPlainPlan plan = IsPromised true IsPlain plan
 pub record IsPlainlyPlanned (plan : Planning) : Type 0 where
   pub optimal : Optimal plan.problem plan.schedule
   pub finish : plan.finish ≡ finish plan.problem plan.schedule
-  pub tokens : List Token
-  pub cert : plan.cert ≡ Plain tokens
-  pub accepted : AcceptsTokens tokens plan.problem plan.finish
+  pub tokens : Vec Token Global
+  pub cert : plan.cert ≡ Tokens tokens
+  pub accepted : AcceptsTokens tokens.items plan.problem plan.finish
 
 -- a plan before whose finish nothing ends is the best
 abbrev pub FinishIsBest : Type 0

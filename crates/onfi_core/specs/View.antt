@@ -9,7 +9,7 @@ use Rattle.onfi_problem.specs.Problem.{Problem}
 use Rattle.onfi_problem.specs.Left.{horizon}
 use Rattle.onfi_check.specs.Nodes.{HasMoreNodes}
 use Rattle.onfi_planner.specs.declared.planned.Planned.{Planned}
-use Rattle.onfi_plan.specs.Certificate.{Plain, certificate_in}
+use Rattle.onfi_plan.specs.declared.plan.Certificate.TheVariants as certificate
 use Rattle.onfi_plan.specs.declared.plan.Plan.{Plan}
 use Rattle.onfi_planner.specs.declared.fault.PlanFault.{PlanFault}
 use Rattle.onfi_planner.specs.declared.fault.PlanFault.TheVariants as planner
@@ -18,6 +18,8 @@ use Rattle.onfi_core.specs.declared.setup.Setup.{Setup}
 use Rattle.onfi_core.specs.declared.slot.Slot.{Slot}
 use Rattle.onfi_core.specs.declared.lent.Lent.{Lent}
 use Rattle.onfi_core.specs.declared.batch.Batch.{Batch}
+use Rattle.onfi_core.specs.declared.batch.LastPlan.{LastPlan}
+use Rattle.onfi_core.specs.declared.batch.LastPlan.TheVariants.{Tokens, Text}
 use Rattle.onfi_core.specs.declared.planning.PlanStop.{PlanStop}
 use Rattle.onfi_core.specs.declared.planning.PlanStop.TheVariants.{Clock, Over, Memory}
 use Rattle.onfi_core.specs.declared.half.PlanRefusal.{PlanRefusal}
@@ -44,14 +46,19 @@ pub record IsKeptByPhase (old new : HalfView) : Type 0 where
 
 -- a problem and its plan, as the planning that they are of
 abbrev pub planning_with : Problem → Plan → Planning
-planning_with problem plan = record { problem = problem; schedule = plan.planned.schedule; finish = plan.planned.finish; below = plan.below; cert = certificate_in plan }
+planning_with problem plan = record { problem = problem; schedule = plan.schedule; finish = plan.finish; below = plan.below; cert = plan.certificate }
+
+-- .. and its plan as it is kept
+abbrev pub planning_by : Problem → LastPlan → Planning
+planning_by problem (Tokens planned below) = record { problem = problem; schedule = planned.schedule; finish = planned.finish; below = below; cert = certificate.Tokens planned.cert }
+planning_by problem (Text schedule finish below text) = record { problem = problem; schedule = schedule; finish = finish; below = below; cert = certificate.Text text }
 
 abbrev pub planning_of : Batch → Planning
-planning_of batch = planning_with batch.problem.problem batch.plan
+planning_of batch = planning_by batch.problem.problem batch.plan
 
 -- .. where the plan is plain: nothing ends before its finish, and its tokens show it
 abbrev pub plainly_with : Problem → Planned → Planning
-plainly_with problem planned = record { problem = problem; schedule = planned.schedule; finish = planned.finish; below = planned.finish; cert = Plain planned.cert.items }
+plainly_with problem planned = record { problem = problem; schedule = planned.schedule; finish = planned.finish; below = planned.finish; cert = certificate.Tokens planned.cert }
 
 -- an item as the intake gives it: in range, of a host that is there, with that host's next serial
 pub record IsNext (s : Setup) (h : HalfState) (x : Item) : Type 0 where

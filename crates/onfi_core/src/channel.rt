@@ -10,8 +10,9 @@ ghost use Rattle.onfi_core.specs.Steps.{IsPlainPlan, IsPromised, Step, bus_refus
 ghost use Rattle.onfi_core.specs.Core.{with_batch};
 ghost use Rattle.onfi_core.specs.Refusals.{planned_outcome, ready_outcome, waited_outcome};
 ghost use Rattle.onfi_core.specs.Queues.{IsFresh, opened_with, state_in};
-ghost use Rattle.onfi_core.specs.View.{plainly_with, planning_with};
+ghost use Rattle.onfi_core.specs.View.{plainly_with, planning_by};
 
+use crate::batch::LastPlan;
 use crate::drive::{phase_outcome, run_due};
 use crate::event::Event;
 use crate::half::passing::{ReadyRefusal, WaitRefusal};
@@ -24,7 +25,7 @@ use onfi_addr::Geometry;
 use onfi_chip::Chip;
 use onfi_flight::Due;
 use onfi_lun::Lanes;
-use onfi_plan::{Plan, Planner};
+use onfi_plan::Planner;
 use onfi_planner::Planned;
 use onfi_problem::Problem;
 use onfi_request::{Item, Request, RequestFault, check};
@@ -235,8 +236,8 @@ impl<C: Chip> Channel<C> {
     }
 
     /// The problem and the plan of the last accepting planning; none before one.
-    pub fn last_plan(&self) -> Option<(&Problem, &Plan)>
-        ensures { MatchOption result (self.now.0.half.last ≡ None) (λ r. self.now.0.half.last ≡ Some (planning_with r.0.now.problem r.1.now)) }
+    pub fn last_plan(&self) -> Option<(&Problem, &LastPlan)>
+        ensures { MatchOption result (self.now.0.half.last ≡ None) (λ r. self.now.0.half.last ≡ Some (planning_by r.0.now.problem r.1.now)) }
     {
         self.half.last_plan()
     }

@@ -7,9 +7,9 @@ ghost use Rattle.onfi_core.specs.State.{Planning};
 ghost use Rattle.onfi_core.specs.Steps.{GoesOut, accepting, IsPlainPlan, IsPlainlyPlanned, IsPromised, accept_refusal, bus_refusal, held_for, taken_next, planned_by, planned_with, Plans};
 ghost use Rattle.onfi_core.specs.Dues.{IsDue, due_outcome};
 ghost use Rattle.onfi_core.specs.Refusals.{fault_outcome};
-ghost use Rattle.onfi_core.specs.View.{IsNext, IsOldest, plainly_with, planning_of, planning_with, PlannedAs, RefusedAs, refusal_of};
+ghost use Rattle.onfi_core.specs.View.{IsNext, IsOldest, plainly_with, planning_by, planning_of, PlannedAs, RefusedAs, refusal_of};
 
-use crate::batch::Batch;
+use crate::batch::{Batch, LastPlan};
 use crate::finding::find;
 use crate::history::History;
 use crate::lent::Lent;
@@ -22,7 +22,7 @@ use crate::wants::want_of;
 use crate::way::Way;
 use arrayvec::ArrayVec;
 use onfi_flight::Due;
-use onfi_plan::{PlainPlanner, Plan, Planner};
+use onfi_plan::{PlainPlanner, Planner};
 use onfi_planner::Planned;
 use onfi_problem::Problem;
 use onfi_request::{Item, Reply, Want};
@@ -269,11 +269,11 @@ impl Half {
         requires in_order { self.old.state.books ≡ None }
         requires wants { wants.items ≡ self.old.state.now.wants ++ taken_next self.old.setup self.old.state }
         requires plans { Plans self.old.setup self.old.state (planning_of next.batch) }
-        requires left { next.left ≡ next.batch.plan.planned.schedule }
+        requires left { next.left ≡ (planning_of next.batch).schedule }
         ensures planned { self.new ≡ record self.old { state = planned_by self.old.setup self.old.state (planning_of next.batch) } }
-        ensures finish { result ≡ next.batch.plan.planned.finish }
+        ensures finish { result ≡ (planning_of next.batch).finish }
     {
-        let finish = next.batch.plan.planned.finish;
+        let finish = next.batch.plan.finish();
         self.planned += (wants.len() - self.way.flight().wants().len()) as u64;
         self.way.replan(wants, next.left);
         self.outdated = false;
@@ -377,8 +377,8 @@ impl Half {
     }
 
     /// The problem and the plan of the last accepting planning, by whichever planner; none before one.
-    pub fn last_plan(&self) -> Option<(&Problem, &Plan)>
-        ensures { MatchOption result (self.now.state.last ≡ None) (λ r. self.now.state.last ≡ Some (planning_with r.0.now.problem r.1.now)) }
+    pub fn last_plan(&self) -> Option<(&Problem, &LastPlan)>
+        ensures { MatchOption result (self.now.state.last ≡ None) (λ r. self.now.state.last ≡ Some (planning_by r.0.now.problem r.1.now)) }
     {
         self.last
             .as_ref()

@@ -22,6 +22,7 @@ mod slot;
 mod wants;
 mod way;
 
+pub use batch::LastPlan;
 pub use drive::{PhaseStop, cause_of, run_due};
 pub use event::Event;
 pub use half::passing::{ReadyRefusal, WaitRefusal};

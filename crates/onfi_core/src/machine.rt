@@ -11,14 +11,15 @@ ghost use Rattle.onfi_core.specs.Steps.{IsBest, IsPromised};
 ghost use Rattle.onfi_core.specs.Kept.{IsReached, KeepsPromise};
 ghost use Rattle.onfi_core.specs.Reaching.{Reaches};
 ghost use Rattle.onfi_core.specs.Queues.{IsFresh, AreOpened, opened_with, state_in, states_in};
-ghost use Rattle.onfi_core.specs.View.{plainly_with, planning_with};
+ghost use Rattle.onfi_core.specs.View.{plainly_with, planning_by};
 
+use crate::batch::LastPlan;
 use crate::channel::Channel;
 use crate::event::Event;
 use crate::outcome::Outcome;
 use crate::setup::Setup;
 use onfi_chip::Chip;
-use onfi_plan::{PlainPlanner, Plan, Planner};
+use onfi_plan::{PlainPlanner, Planner};
 use onfi_planner::Planned;
 use onfi_problem::Problem;
 use std::alloc::{AllocError, Global};
@@ -176,10 +177,10 @@ impl<C: Chip, P: Planner> Core<C, P> {
     }
 
     /// The problem and the plan of the channel's last accepting planning, by whichever planner; none before one.
-    pub fn last_plan(&self, channel: u8) -> Option<(&Problem, &Plan)>
+    pub fn last_plan(&self, channel: u8) -> Option<(&Problem, &LastPlan)>
         requires { channel < self.now.0.channels }
         ensures { (c : ChannelState) → slice_get (states_in C.state self.now) channel ≡ Some c
-            → MatchOption result (c.half.last ≡ None) (λ r. c.half.last ≡ Some (planning_with r.0.now.problem r.1.now)) }
+            → MatchOption result (c.half.last ≡ None) (λ r. c.half.last ≡ Some (planning_by r.0.now.problem r.1.now)) }
     {
         self.channels[usize::from(channel)].last_plan()
     }

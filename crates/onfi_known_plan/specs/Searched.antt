@@ -6,8 +6,8 @@ use Rattle.onfi_bound.specs.Loads.{AreLoads}
 use Rattle.onfi_check.specs.First.{EndsFirstRun}
 use Rattle.onfi_check.specs.Nodes.{HasMoreNodes}
 use Rattle.onfi_known_plan.specs.ByRule.{EndsByRule}
-use Rattle.onfi_known_plan.specs.Text.{last_opened, nodes_in}
-use Rattle.onfi_known_plan.specs.Walks.{EndsSooner, HasSoMany, IsProved, IsRunOf}
+use Rattle.onfi_known_plan.specs.Text.{nodes_in}
+use Rattle.onfi_known_plan.specs.Walks.{HasSoMany, IsProved, IsRunOf}
 use Rattle.onfi_known_plan.specs.declared.planning.Searched.{Searched}
 
 -- the best is a run; where no walk was cut the tokens show that nothing ends sooner, else the tree has more nodes than the limit
@@ -21,10 +21,8 @@ pub record IsSearched (x : Position) (limit : ℕ) (searched : Searched) : Type 
   pub sooner : searched.best.finish ≤ first
   pub by_rule : EndsByRule x.problem searched.best.finish
   pub proved : searched.cut ≡ false → IsProved x searched.tokens.items searched.best.finish
-  pub counted : searched.cut ≡ false → nodes_in searched.tokens.items ≡ last_opened searched.opened searched.reopened
-  pub some : searched.cut ≡ false → 1 ≤ searched.opened
+  pub counted : searched.cut ≡ false → nodes_in searched.tokens.items ≡ searched.opened
+  pub full : searched.cut ≡ true → searched.opened ≡ limit
   pub opened : searched.opened ≤ limit
-  pub reopened : searched.reopened ≤ limit
-  pub again : 1 ≤ searched.reopened → EndsSooner x.problem searched.best.finish
-  pub nodes : HasSoMany x.problem searched.opened × HasSoMany x.problem searched.reopened
+  pub nodes : HasSoMany x.problem searched.opened
   pub over : searched.cut ≡ true → HasMoreNodes x.problem limit

@@ -1,10 +1,11 @@
 -- What the text of a certificate shows.
-use Rattle.std.specs.Prelude.{◌≡◌, ℕ, zero, suc, ◌+◌, List, [], ◌∷◌}
+use Rattle.std.specs.Prelude.{◌≡◌, ℕ, ◌+◌, List, [], ◌∷◌}
 use Rattle.onfi_problem.specs.Problem.{Problem}
 use Rattle.onfi_known_check.specs.declared.token.Token.{Token}
 use Rattle.onfi_known_check.specs.declared.token.Token.TheVariants.{Yield}
 use Rattle.onfi_known_check.specs.Text.{IsCertificate}
-use Rattle.onfi_plan.specs.Certificate.{Certificate, Plain, Remembering}
+use Rattle.onfi_plan.specs.declared.plan.Certificate.{Certificate}
+use Rattle.onfi_plan.specs.declared.plan.Certificate.TheVariants.{Tokens, Text}
 
 -- each token is a node, but that of a move that yields
 abbrev pub nodes_at : Token → ℕ
@@ -18,10 +19,5 @@ nodes_in (token ∷ tokens) = nodes_at token + nodes_in tokens
 
 -- a certificate that remembers states is the text of tokens with so many nodes, under the problem's option
 abbrev pub HasNodesIn : Problem → Certificate → ℕ → Type 0
-HasNodesIn p (Plain tokens) n = ⊥
-HasNodesIn p (Remembering text) n = (tokens : List Token) × IsCertificate text p.rules.strict tokens × (nodes_in tokens ≡ n)
-
--- how many nodes the walk opened that wrote the text: the first one, unless it was walked again
-abbrev pub last_opened : ℕ → ℕ → ℕ
-last_opened opened zero = opened
-last_opened opened (suc more) = suc more
+HasNodesIn p (Tokens tokens) n = ⊥
+HasNodesIn p (Text text) n = (tokens : List Token) × IsCertificate text.items p.rules.strict tokens × (nodes_in tokens ≡ n)

@@ -50,10 +50,6 @@ HasSoMany p n = (f : ℕ) × EndsFirstRun p f × HasNodes f p n
 abbrev pub IsRunOf : Position → Best → Type 0
 IsRunOf x best = Run x.problem (run_of x.groups best.steps.items) best.finish
 
--- it ends before the first schedule
-abbrev pub EndsSooner : Problem → ℕ → Type 0
-EndsSooner p finish = (first : ℕ) × EndsFirstRun p first × (finish < first)
-
 -- the best is no later, and still a run; where it is sooner, it is one
 pub record IsBetter (x : Position) (old new : Best) : Type 0 where
   pub sooner : new.finish ≤ old.finish

@@ -7,9 +7,10 @@ use Rattle.onfi_schedule.specs.Schedule.{Legal, Optimal, finish}
 use Rattle.onfi_check.specs.First.{EndsFirstRun}
 use Rattle.onfi_check.specs.Nodes.{HasMoreNodes, IsOpen}
 use Rattle.onfi_planner.specs.Planning.{AreRising}
-use Rattle.onfi_plan.specs.Certificate.{IsRemembering, ShowsBelow, certificate_in}
+use Rattle.onfi_plan.specs.Certificate.{IsRemembering, ShowsBelow}
 use Rattle.onfi_plan.specs.declared.plan.Plan.{Plan}
 use Rattle.onfi_known_plan.specs.ByRule.{EndsByRule}
+use Rattle.onfi_known_plan.specs.Text.{nodes_in}
 use Rattle.onfi_known_plan.specs.Walks.{ClosesBy, HasSoMany, IsProved, IsRunOf}
 use Rattle.onfi_known_plan.specs.declared.gap.Gap.{Gap}
 use Rattle.onfi_known_plan.specs.declared.sought.Sought.{Sought}
@@ -38,18 +39,19 @@ pub record IsGap (x : Position) (limit : ℕ) (gap : Gap) : Type 0 where
   pub ends : EndsFirstRun x.problem first
   pub sooner : gap.best.finish ≤ first
   pub by_rule : EndsByRule x.problem gap.best.finish
-  pub reopened : gap.reopened ≤ limit
-  pub nodes : HasSoMany x.problem gap.reopened
+  pub opened : gap.opened ≤ limit
+  pub counted : gap.opened < limit → nodes_in gap.shown.tokens.items ≡ gap.opened
+  pub nodes : HasSoMany x.problem gap.opened
   pub over : gap.shown.below < gap.best.finish → HasMoreNodes x.problem limit
 
 -- a legal schedule is given with its finish, and with what no other ends before: all that the root's bounds reach, and the
 -- finish only where the schedule is optimal
 pub record IsWithin (x : Position) (plan : Plan) : Type 0 where
-  pub legal : Legal x.problem plan.planned.schedule
-  pub ends : finish x.problem plan.planned.schedule ≡ plan.planned.finish
-  pub rising : AreRising plan.planned.schedule.groups
-  pub below : plan.below ≤ plan.planned.finish
-  pub cert : ShowsBelow (certificate_in plan) x.all x.problem plan.below
-  pub kind : IsRemembering (certificate_in plan)
-  pub greatest : plan.below < plan.planned.finish → IsOpen (plan.below + 1) x.problem
-  pub optimal : plan.below ≡ plan.planned.finish → Optimal x.problem plan.planned.schedule
+  pub legal : Legal x.problem plan.schedule
+  pub ends : finish x.problem plan.schedule ≡ plan.finish
+  pub rising : AreRising plan.schedule.groups
+  pub below : plan.below ≤ plan.finish
+  pub cert : ShowsBelow plan.certificate x.all x.problem plan.below
+  pub kind : IsRemembering plan.certificate
+  pub greatest : plan.below < plan.finish → IsOpen (plan.below + 1) x.problem
+  pub optimal : plan.below ≡ plan.finish → Optimal x.problem plan.schedule

@@ -16,8 +16,10 @@ use std::alloc::{AllocError, Global};
 pub struct Gap {
     pub best: Best,
     pub shown: ShownBefore,
-    /// How many nodes the last walk opened, or 0 where that was the first one.
-    pub reopened: u32,
+    /// How many nodes the last walk opened.
+    pub opened: u32,
+    /// Whether that wasn't the first one.
+    pub again: bool,
 }
 
 impl Gap {
@@ -25,7 +27,7 @@ impl Gap {
     fn is_done(&self) -> bool
         ensures { result ≡ false → self.now.shown.below < self.now.best.finish }
     {
-        self.reopened > 0 || self.shown.below >= self.best.finish
+        self.again || self.shown.below >= self.best.finish
     }
 
     // The middle, in ns.
@@ -73,7 +75,8 @@ pub fn narrow_gap(
     Ok(Gap {
         best,
         shown,
-        reopened: opened,
+        opened,
+        again: true,
     })
 }
 

@@ -1,5 +1,5 @@
-//! Plans batches by a search that remembers states: the schedule that no legal schedule beats, with a certificate of
-//! the kind that `onfi_known_check` checks.
+//! Plans batches by a search that remembers states: within its limit the schedule that no legal schedule beats, else the best
+//! that it has found, with a certificate of the kind that `onfi_known_check` checks.
 //!
 //! A node that was searched is remembered with what it asks of any other with the same left, and closes each such node.
 //! So batches are answered that a plain search gives up, with certificates of some kilobytes.
@@ -20,5 +20,4 @@ mod standing;
 mod within;
 mod yields;
 
-pub use planning::plan_known;
 pub use within::plan_within;

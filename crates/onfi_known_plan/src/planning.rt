@@ -1,61 +1,18 @@
-//! The plan of a batch.
+//! Walks over the tree of a problem.
 
-ghost use Rattle.std.specs.Prelude.{◌≡◌, ◌+◌, ℕ, ◌≤◌, ◌<◌, true, false, IfOk, IfErr, OnOk};
-ghost use Rattle.onfi_schedule.specs.Schedule.{Optimal, finish};
-ghost use Rattle.onfi_check.specs.Nodes.{HasMoreNodes};
-ghost use Rattle.onfi_planner.specs.Planning.{AreRising};
-ghost use Rattle.onfi_plan.specs.Certificate.{IsRemembering, ShowsBelow, certificate_in};
-ghost use Rattle.onfi_known_plan.specs.Text.{HasNodesIn, last_opened, nodes_in};
-ghost use Rattle.onfi_known_plan.specs.Walks.{AreMore, EndsSooner, HasSoMany, IsBegun, IsBetter, IsProved, IsTree};
+ghost use Rattle.std.specs.Prelude.{◌≡◌, ◌+◌, ◌≤◌, ◌<◌, true, false, IfOk, OnOk};
+ghost use Rattle.onfi_known_plan.specs.Text.{nodes_in};
+ghost use Rattle.onfi_known_plan.specs.Walks.{AreMore, IsBegun, IsBetter, IsProved, IsTree};
 ghost use Rattle.onfi_known_plan.specs.Searched.{IsSearched};
 
 use crate::choosing::best_of_rules;
 use crate::notes::Notes;
 use crate::search::search;
-use crate::within::{ShownBefore, best_plan};
 use onfi_bound::Loads;
 use onfi_known_check::Token;
-use onfi_plan::{Limit, Plan, PlanFault};
-use onfi_planner::{Best, Root, root_of};
+use onfi_planner::{Best, Limit, Root, root_of};
 use onfi_problem::Problem;
 use std::alloc::{AllocError, Global};
-
-/// The legal schedule of a problem that ends first, its groups by rising first start, with the certificate that shows
-/// it; the search that finds it and the one that writes the certificate open at most `limit` nodes each, all of the plain
-/// search's tree. The one that writes has a token for each node that it opens.
-///
-/// # Errors
-/// `Over` where a search opened `limit` nodes and the tree of the problem has more: its nodes are the paths of moves on
-/// which no bound reaches the finish of the first schedule. `Memory` where memory was refused.
-pub fn plan_known(alloc: Global, problem: &Problem, limit: Limit) -> Result<Plan, PlanFault>
-    ensures optimal { IfOk result (λ plan. Optimal problem.now.problem plan.planned.schedule) }
-    ensures finish { IfOk result (λ plan. finish problem.now.problem plan.planned.schedule ≡ plan.planned.finish) }
-    ensures rising { IfOk result (λ plan. AreRising plan.planned.schedule.groups) }
-    ensures below { IfOk result (λ plan. plan.below ≡ plan.planned.finish) }
-    ensures cert { IfOk result (λ plan. ShowsBelow (certificate_in plan) problem.now.all problem.now.problem plan.below) }
-    ensures kind { IfOk result (λ plan. IsRemembering (certificate_in plan)) }
-    ensures some_opened { IfOk result (λ plan. 1 ≤ plan.opened) }
-    ensures opened { IfOk result (λ plan. plan.opened ≤ limit) }
-    ensures reopened { IfOk result (λ plan. plan.reopened ≤ limit) }
-    ensures counted { IfOk result (λ plan. HasNodesIn problem.now.problem (certificate_in plan) (last_opened plan.opened plan.reopened)) }
-    ensures again { IfOk result (λ plan. 1 ≤ plan.reopened → EndsSooner problem.now.problem plan.planned.finish) }
-    ensures nodes { IfOk result (λ plan. HasSoMany problem.now.problem plan.opened × HasSoMany problem.now.problem plan.reopened) }
-    ensures over { IfErr result (λ fault. (opened : ℕ) → fault ≡ PlanFault.Over opened → (opened ≡ limit) × HasMoreNodes problem.now.problem limit) }
-{
-    let searched = search_tree(alloc, problem, limit)?;
-    if searched.cut {
-        let opened = limit.get();
-        return Err(PlanFault::Over { opened });
-    }
-    let (opened, reopened) = (searched.opened, searched.reopened);
-    let Searched { best, tokens, .. } = searched;
-    let shown = ShownBefore {
-        below: best.finish,
-        tokens,
-    };
-    let plan = best_plan(alloc, problem, &best, &shown, opened, reopened)?;
-    Ok(plan)
-}
 
 /// What the walks over a problem's tree have found.
 #[derive(Drop)]
@@ -68,10 +25,10 @@ pub struct Searched {
     pub tokens: Vec<Token>,
     /// Whether a walk was cut, since it met more nodes than it may open.
     pub cut: bool,
-    /// How many nodes the first walk opened.
+    /// How many nodes the last walk opened.
     pub opened: u32,
-    /// How many nodes the last walk opened, or 0 where that was the first one.
-    pub reopened: u32,
+    /// Whether that wasn't the first one.
+    pub again: bool,
 }
 
 /// Walks over the tree of a problem until a walk finds nothing sooner or is cut; each opens at most `limit` nodes.
@@ -88,15 +45,14 @@ pub fn search_tree(alloc: Global, problem: &Problem, limit: Limit) -> Result<Sea
         mut best,
     } = root;
     let found = walk(alloc, &mut at, &loads, &mut best, limit)?;
-    let opened = found.opened;
     if !found.is_outdone() {
         return Ok(Searched {
             loads,
             best,
             tokens: found.tokens,
             cut: found.cut,
-            opened,
-            reopened: 0,
+            opened: found.opened,
+            again: false,
         });
     }
     let written = walk_on(alloc, &mut at, &loads, &mut best, limit)?;
@@ -105,8 +61,8 @@ pub fn search_tree(alloc: Global, problem: &Problem, limit: Limit) -> Result<Sea
         best,
         tokens: written.tokens,
         cut: written.cut,
-        opened,
-        reopened: written.opened,
+        opened: written.opened,
+        again: true,
     })
 }
 
@@ -166,6 +122,7 @@ fn walk(
     ensures some { IfOk result (λ walked. walked.cut ≡ false → 1 ≤ walked.opened) }
     ensures counted { IfOk result (λ walked. walked.cut ≡ false → walked.improved ≡ false → nodes_in walked.tokens.items ≡ walked.opened) }
     ensures opened { IfOk result (λ walked. walked.opened ≤ limit) }
+    ensures full { IfOk result (λ walked. walked.cut ≡ true → walked.opened ≡ limit) }
     ensures nodes { IfOk result (λ walked. AreMore at.old.problem best.old.finish walked.opened) }
     ensures over { IfOk result (λ walked. walked.cut ≡ true → AreMore at.old.problem best.old.finish (limit + 1)) }
 {
@@ -198,6 +155,7 @@ pub fn walk_on(
     ensures counted { IfOk result (λ walked. walked.cut ≡ false → nodes_in walked.tokens.items ≡ walked.opened) }
     ensures some { IfOk result (λ walked. walked.cut ≡ false → 1 ≤ walked.opened) }
     ensures opened { IfOk result (λ walked. walked.opened ≤ limit) }
+    ensures full { IfOk result (λ walked. walked.cut ≡ true → walked.opened ≡ limit) }
     ensures nodes { IfOk result (λ walked. AreMore at.old.problem best.old.finish walked.opened) }
     ensures over { IfOk result (λ walked. walked.cut ≡ true → AreMore at.old.problem best.old.finish (limit + 1)) }
 {

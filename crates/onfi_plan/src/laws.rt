@@ -2,7 +2,8 @@
 
 ghost use Rattle.std.specs.Prelude.{ℕ};
 ghost use Rattle.onfi_known_check.specs.Laws.{NoneBefore};
-ghost use Rattle.onfi_plan.specs.Certificate.{Certificate as Shown, ShowsBelow};
+ghost use Rattle.onfi_plan.specs.Certificate.{ShowsBelow};
+ghost use Rattle.onfi_plan.specs.declared.plan.Certificate.{Certificate as Shown};
 
 use onfi_problem::Problem;
 

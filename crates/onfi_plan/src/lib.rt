@@ -11,6 +11,6 @@ mod spelling;
 pub use laws::none_ends_before;
 pub use onfi_planner::{Limit, PlanFault};
 pub use plain::PlainPlanner;
-pub use plan::Plan;
+pub use plan::{Certificate, Plan};
 pub use planner::Planner;
 pub use spelling::certificate_text;

@@ -13,13 +13,13 @@ pub struct PlainPlanner;
 
 impl Planner for PlainPlanner {
     ghost use Rattle.std.specs.Prelude.{⊤, true};
-    ghost use Rattle.onfi_plan.specs.Certificate.{IsPlain};
+    ghost use Rattle.onfi_plan.specs.Certificate.{IsPlain, IsCounted};
 
     ghost exact = { true };
 
     ghost certifies = { IsPlain };
 
-    ghost promises = { λ _ _ _ _. ⊤ };
+    ghost promises = { λ _. IsCounted };
 
     ghost stops = { λ _. ⊤ };
 

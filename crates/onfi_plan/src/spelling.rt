@@ -1,27 +1,28 @@
 //! Certificates as texts.
 
 ghost use Rattle.std.specs.Prelude.{IfOk};
-ghost use Rattle.onfi_plan.specs.Certificate.{IsSpelled, certificate_of};
+ghost use Rattle.onfi_plan.specs.Certificate.{IsSpelled};
 
-use onfi_cert::{Token, write};
+use crate::plan::Certificate;
+use onfi_cert::write;
 use std::alloc::{AllocError, Global};
 
-/// The text of a plan's certificate: the one that remembers states, where there is one, else that of the tokens.
+/// The text of a certificate, under the strict option or not.
 ///
 /// # Errors
 /// Only where memory was refused.
 pub fn certificate_text(
     alloc: Global,
     strict: bool,
-    tokens: &[Token],
-    text: Option<Vec<u8>>,
+    certificate: Certificate,
 ) -> Result<Vec<u8>, AllocError>
-    ensures { IfOk result (λ own. IsSpelled strict (certificate_of tokens.now text) own.items) }
+    ensures { IfOk result (λ own. IsSpelled strict certificate own.items) }
 {
-    if let Some(text) = text {
-        return Ok(text);
-    }
-    match write(alloc, strict, tokens) {
+    let tokens = match certificate {
+        Certificate::Text(text) => return Ok(text),
+        Certificate::Tokens(tokens) => tokens,
+    };
+    match write(alloc, strict, tokens.as_slice()) {
         Ok(text) => Ok(text),
         Err(_) => Err(AllocError),
     }

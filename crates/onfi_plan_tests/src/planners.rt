@@ -1,7 +1,8 @@
-use onfi_early::{Weights, cost_of, slack_of};
 use onfi_group::{Group, Rules};
 use onfi_plan::{Limit, PlanFault, Planner};
-use onfi_planners::{EarlyPlanner, Nodes, PlainPlanner, Weighing, make_better_within};
+use onfi_planners::{
+    By, ChosenPlanner, Early, Nodes, PlainPlanner, Weighing, Weights, cost_of, make_better,
+};
 use onfi_problem::{LunState, Problem};
 use onfi_request::Want;
 use onfi_timing::{Kind, Spans, Timing};
@@ -69,17 +70,16 @@ fn told(
         wants: [1; 8],
         running: [[1; 4]; 8],
     };
-    let cost = cost_of(problem, &plan.planned.schedule, &equal);
-    Ok((cost, plan.planned.finish, plan.below))
+    let cost = cost_of(problem, &plan.schedule, &equal);
+    Ok((cost, plan.finish, plan.below))
 }
 
-#[test]
-fn a_slack_is_of_the_time_between(rt: HostRuntime) {
-    assert_eq!(rt; slack_of(4, 0, 908), 3);
-    assert_eq!(rt; slack_of(20, 1_000, 101_000), 2_000);
-    assert_eq!(rt; slack_of(1_000, 7, 9), 2);
-    assert_eq!(rt; slack_of(60_000, 7, 9), 2);
-    assert_eq!(rt; slack_of(20, 9, 7), 0);
+// The plain planner, whose plans are made better by so many nodes.
+fn early_by(weighing: Weighing, nodes: Nodes) -> ChosenPlanner {
+    ChosenPlanner {
+        by: By::Plain,
+        early: Some(Early { weighing, nodes }),
+    }
 }
 
 // With no node for a better plan it is that of the other planner; with the root and one step below it nothing is found yet.
@@ -87,19 +87,13 @@ fn a_slack_is_of_the_time_between(rt: HostRuntime) {
 fn the_nodes_of_a_better_plan_are_named(rt: HostRuntime) -> Result<(), Fail> {
     let alloc = rt.alloc();
     let problem = with_status_due(alloc)?;
-    let (planner, weighing) = (PlainPlanner, Weighing::Equal);
     for number in [0, 2] {
-        let nodes = Nodes::of(number).unwrap();
-        let early = EarlyPlanner {
-            planner,
-            weighing,
-            nodes,
-        };
-        assert!(rt; told(alloc, &early, &problem) == told(alloc, &planner, &problem));
+        let early = early_by(Weighing::Equal, Nodes::of(number).unwrap());
+        assert!(rt; told(alloc, &early, &problem) == told(alloc, &PlainPlanner, &problem));
     }
-    let usual = EarlyPlanner::of(planner, weighing);
-    assert_eq!(rt; usual.nodes.get(), 1_500);
+    let usual = early_by(Weighing::Equal, Nodes::usual());
     assert!(rt; told(alloc, &usual, &problem) == Ok((1377, 908, 908)));
+    assert_eq!(rt; Early::default().nodes.get(), 1_500);
     Ok(())
 }
 
@@ -113,8 +107,8 @@ fn a_plan_is_made_better_by_so_many_nodes(rt: HostRuntime) -> Result<(), Fail> {
     };
     let plan = PlainPlanner.plan(alloc, &problem, Limit::of(1000).unwrap())?;
     let nodes = Nodes::of(100).unwrap();
-    let better = make_better_within(alloc, &problem, plan, &equal, 0, nodes)?;
-    assert_eq!(rt; cost_of(&problem, &better.planned.schedule, &equal), 1377);
+    let better = make_better(alloc, &problem, plan, &equal, nodes)?;
+    assert_eq!(rt; cost_of(&problem, &better.schedule, &equal), 1377);
     Ok(())
 }
 
@@ -155,13 +149,13 @@ fn with_an_older_read(alloc: Global) -> Result<Problem, Fail> {
 fn the_older_of_two_reads_ends_first(rt: HostRuntime) -> Result<(), Fail> {
     let alloc = rt.alloc();
     let problem = with_an_older_read(alloc)?;
-    let by_age = EarlyPlanner::of(PlainPlanner, Weighing::default());
+    let by_age = early_by(Weighing::default(), Nodes::usual());
     let plan = by_age.plan(alloc, &problem, Limit::of(1000).unwrap())?;
     let first = Weights {
         wants: [1, 0, 0, 0, 0, 0, 0, 0],
         running: [[1; 4]; 8],
     };
-    assert_eq!(rt; plan.planned.finish, 150);
-    assert_eq!(rt; cost_of(&problem, &plan.planned.schedule, &first), 130);
+    assert_eq!(rt; plan.finish, 150);
+    assert_eq!(rt; cost_of(&problem, &plan.schedule, &first), 130);
     Ok(())
 }

@@ -3,8 +3,8 @@ ghost use Rattle.std.specs.Prelude.{◌≡◌, ◌≤◌};
 use onfi_addr::Place;
 use onfi_group::{Group, Rules};
 use onfi_known_check::{check_known_text, check_known_within};
-use onfi_known_plan::{plan_known, plan_within};
-use onfi_plan::Limit;
+use onfi_known_plan::plan_within;
+use onfi_plan::{Certificate, Limit, Plan};
 use onfi_planner::plan_counted;
 use onfi_problem::{LunState, Problem, ProblemFault};
 use onfi_request::Want;
@@ -22,6 +22,14 @@ fn want(id: u64, kind: Kind, lun: u8, block: u16) -> Want
 {
     let page = 0;
     want_of(id, kind, Place { lun, block, page })
+}
+
+// The text of a plan's certificate, where it remembers states.
+fn text_of(plan: &Plan) -> Option<&[u8]> {
+    match &plan.certificate {
+        Certificate::Text(text) => Some(text.as_slice()),
+        Certificate::Tokens(_) => None,
+    }
 }
 
 // Reads, programs and an erase of four LUNs, while the status of a program on LUN 1 is next.
@@ -55,12 +63,12 @@ fn a_plan_ends_when_that_of_the_plain_search_does(rt: HostRuntime) -> Result<(),
     let alloc = rt.alloc();
     let problem = mixed(alloc)?;
     let plain = plan_counted(alloc, &problem, 1_048_576)?;
-    let planned = plan_known(alloc, &problem, Limit::of(1_048_576).unwrap())?;
-    assert_eq!(rt; planned.planned.finish, plain.planned.finish);
+    let planned = plan_within(alloc, &problem, Limit::of(1_048_576).unwrap())?;
+    assert_eq!(rt; planned.finish, plain.planned.finish);
     assert!(rt; planned.opened <= plain.opened);
-    assert_eq!(rt; (planned.opened, planned.reopened), (1, 0));
-    let text = planned.text().expect(&rt, "a text");
-    let checked = check_known_text(alloc, &problem, &planned.planned.schedule, text);
+    assert_eq!(rt; planned.opened, 1);
+    let text = text_of(&planned).expect(&rt, "a text");
+    let checked = check_known_text(alloc, &problem, &planned.schedule, text);
     assert_eq!(rt; checked, Ok(plain.planned.finish));
     Ok(())
 }
@@ -84,17 +92,17 @@ fn six_reads(alloc: Global) -> Result<Problem, ProblemFault> {
     Problem::new(alloc, sample_timing(), rules, 0, &luns, &wants)
 }
 
-// How many nodes each walk opens was counted by an independent search in C++.
+// How many nodes each walk opens was counted by an independent search in C++: 256, then 126.
 #[test]
 fn a_tree_is_walked_once_more_where_a_sooner_finish_was_found(rt: HostRuntime) -> Result<(), Fail> {
     let alloc = rt.alloc();
     let problem = six_reads(alloc)?;
-    let planned = plan_known(alloc, &problem, Limit::of(1000).unwrap())?;
-    assert_eq!(rt; planned.planned.finish, 92_120);
-    assert_eq!(rt; (planned.opened, planned.reopened), (256, 126));
-    let text = planned.text().expect(&rt, "a text");
+    let planned = plan_within(alloc, &problem, Limit::of(1000).unwrap())?;
+    assert_eq!(rt; planned.finish, 92_120);
+    assert_eq!(rt; planned.opened, 126);
+    let text = text_of(&planned).expect(&rt, "a text");
     assert!(rt; text.starts_with(b"ONFICERT 3 remember\nB"));
-    let checked = check_known_text(alloc, &problem, &planned.planned.schedule, text);
+    let checked = check_known_text(alloc, &problem, &planned.schedule, text);
     assert_eq!(rt; checked, Ok(92_120));
     Ok(())
 }
@@ -106,31 +114,30 @@ fn a_plan_within_a_small_limit_tells_what_nothing_ends_before(rt: HostRuntime) -
     let alloc = rt.alloc();
     let problem = six_reads(alloc)?;
     let planned = plan_within(alloc, &problem, Limit::of(100).unwrap())?;
-    assert!(rt; legal(&problem, &planned.planned.schedule));
+    assert!(rt; legal(&problem, &planned.schedule));
     assert_eq!(rt;
-        finish(&problem, &planned.planned.schedule),
-        planned.planned.finish
+        finish(&problem, &planned.schedule),
+        planned.finish
     );
-    assert!(rt; planned.planned.finish >= 92_120);
+    assert!(rt; planned.finish >= 92_120);
     assert_eq!(rt; planned.below, 91_240);
-    assert!(rt; planned.text() == Some(b"ONFICERT 3 remember\nL\n".as_slice()));
-    assert_eq!(rt; (planned.opened, planned.reopened), (100, 100));
+    assert!(rt; text_of(&planned) == Some(b"ONFICERT 3 remember\nL\n".as_slice()));
+    assert_eq!(rt; planned.opened, 100);
     Ok(())
 }
 
-// The first search opens 256 nodes, and has found what ends first before it meets one more than 255. Nothing ends before
+// The first walk opens 256 nodes, and has found what ends first before it meets one more than 255. Nothing ends before
 // the middle between its finish and the bound of 91,240 ns, as a walk within the same limit shows.
 #[test]
 fn a_plan_within_a_limit_is_the_best_that_was_found(rt: HostRuntime) -> Result<(), Fail> {
     let alloc = rt.alloc();
     let problem = six_reads(alloc)?;
     let planned = plan_within(alloc, &problem, Limit::of(255).unwrap())?;
-    assert!(rt; legal(&problem, &planned.planned.schedule));
-    assert_eq!(rt; (planned.planned.finish, planned.below), (92_120, 91_680));
-    assert_eq!(rt; planned.opened, 255);
-    assert!(rt; planned.reopened >= 1);
-    let text = planned.text().expect(&rt, "a text");
-    let checked = check_known_within(alloc, &problem, &planned.planned.schedule, 91_680, text);
+    assert!(rt; legal(&problem, &planned.schedule));
+    assert_eq!(rt; (planned.finish, planned.below), (92_120, 91_680));
+    assert!(rt; planned.opened >= 1);
+    let text = text_of(&planned).expect(&rt, "a text");
+    let checked = check_known_within(alloc, &problem, &planned.schedule, 91_680, text);
     assert_eq!(rt; checked, Ok(92_120));
     Ok(())
 }
@@ -139,7 +146,7 @@ fn a_plan_within_a_limit_is_the_best_that_was_found(rt: HostRuntime) -> Result<(
 fn is_no_later(alloc: Global, problem: &Problem) -> Result<bool, Fail> {
     let ruled = plan_by_rule(alloc, problem)?;
     let planned = plan_within(alloc, problem, Limit::of(1).unwrap())?;
-    Ok(planned.planned.finish <= ruled.planned.finish)
+    Ok(planned.finish <= ruled.finish)
 }
 
 // One node is no search: the plan is the best of the first schedules, of which the rule's is one.
@@ -166,6 +173,6 @@ fn a_plan_of_one_node_keeps_the_bus_as_the_rule_does(rt: HostRuntime) -> Result<
     let rules = Rules::new(true, true, false, 1);
     let problem = Problem::new(alloc, sample_timing(), rules, 0, &luns, &wants)?;
     let planned = plan_within(alloc, &problem, Limit::of(1).unwrap())?;
-    assert_eq!(rt; planned.planned.finish, 1_501_460);
+    assert_eq!(rt; planned.finish, 1_501_460);
     Ok(())
 }

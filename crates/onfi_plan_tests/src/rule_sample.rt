@@ -48,13 +48,13 @@ pub(crate) fn timing(gap: u64) -> Result<Timing, Fail> {
 /// then each new group, its members' numbers before its starts.
 pub(crate) fn told(alloc: Global, plan: &Plan) -> Result<Vec<u8>, AllocError> {
     let mut text = Vec::new(alloc);
-    let (finish, below) = (plan.planned.finish, plan.below);
+    let (finish, below) = (plan.finish, plan.below);
     text.extend_from_slice(format!(in alloc; "{finish} {below}")?.as_bytes())?;
-    for rest in plan.planned.schedule.rest() {
+    for rest in plan.schedule.rest() {
         text.push(b'|')?;
         put_starts(alloc, &mut text, rest.as_slice())?;
     }
-    for group in plan.planned.schedule.groups() {
+    for group in plan.schedule.groups() {
         text.push(b';')?;
         for member in group.members().members() {
             let id = member.id;

@@ -1,11 +1,12 @@
-//! A plan by the rule, and its planner.
+//! A plan by the rule, alone and as it is chosen.
 
 use crate::rule_sample::{free, timing, told, want};
-use onfi_check::check;
 use onfi_group::Rules;
-use onfi_plan::{Limit, Planner};
+use onfi_known_check::check_known_within;
+use onfi_plan::{Certificate, Limit, Planner};
+use onfi_planners::By;
 use onfi_problem::Problem;
-use onfi_steady::{RulePlanner, plan_by_rule};
+use onfi_steady::plan_by_rule;
 use onfi_timing::Kind;
 use std::test::Fail;
 
@@ -18,14 +19,13 @@ fn the_planner_and_the_certificate(rt: HostRuntime) -> Result<(), Fail> {
     let rules = Rules::new(true, true, false, 1);
     let problem = Problem::new(alloc, timing(5)?, rules, 0, &luns, &wants)?;
     let plan = plan_by_rule(alloc, &problem)?;
-    let by_planner = RulePlanner.plan(alloc, &problem, Limit::of(1).unwrap())?;
+    let by_planner = By::Rule.plan(alloc, &problem, Limit::of(1).unwrap())?;
     assert!(rt; told(alloc, &plan)?.as_slice() == told(alloc, &by_planner)?.as_slice());
-    assert_eq!(rt; (by_planner.opened, by_planner.reopened), (0, 0));
-    let tokens = plan.planned.cert.as_slice();
-    assert_eq!(rt; tokens.len(), 1);
-    assert_eq!(rt;
-        check(alloc, &problem, &plan.planned.schedule, tokens),
-        Ok(100)
-    );
+    assert_eq!(rt; by_planner.opened, 0);
+    let Certificate::Text(text) = &plan.certificate else {
+        return Err(Fail::of("tokens"));
+    };
+    let checked = check_known_within(alloc, &problem, &plan.schedule, 100, text.as_slice());
+    assert_eq!(rt; checked, Ok(100));
     Ok(())
 }

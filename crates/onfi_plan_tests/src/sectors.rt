@@ -3,14 +3,14 @@
 use crate::rule_sample::told;
 use crate::sample::free;
 use onfi_addr::Place;
-use onfi_early::{Weights, cost_of, improve};
 use onfi_group::{Group, Rules};
-use onfi_known_plan::plan_known;
-use onfi_plan::{Limit, Planner};
+use onfi_known_plan::plan_within;
+use onfi_plan::{Limit, none_ends_before};
+use onfi_planners::{Nodes, Weights, cost_of, make_better};
 use onfi_problem::{LunState, Problem};
 use onfi_request::Want;
 use onfi_samples::{sample_timing, want_of};
-use onfi_steady::RulePlanner;
+use onfi_steady::plan_by_rule;
 use onfi_timing::{Kind, Timing};
 use std::alloc::Global;
 use std::test::Fail;
@@ -48,10 +48,11 @@ fn weighted(page: u16, sector: u16) -> Weights {
 
 // When a plan ends in which what counts more ends sooner, and what it costs.
 fn weighed(alloc: Global, problem: &Problem, weights: &Weights) -> Result<(u64, u128), Fail> {
-    let mut plan = plan_known(alloc, problem, Limit::of(1000).unwrap())?;
-    improve(alloc, problem, &mut plan, weights, 0, 1500)?;
-    let cost = cost_of(problem, &plan.planned.schedule, weights);
-    Ok((plan.planned.finish, cost))
+    let plan = plan_within(alloc, problem, Limit::of(1000).unwrap())?;
+    none_ends_before(problem);
+    let plan = make_better(alloc, problem, plan, weights, Nodes::usual())?;
+    let cost = cost_of(problem, &plan.schedule, weights);
+    Ok((plan.finish, cost))
 }
 
 // A page of one LUN and a sector of another. The first data are ready at 25,240; both are put out at 25,240 + 11,000 + 3,080,
@@ -81,12 +82,12 @@ fn each_member_of_what_runs_puts_out_its_own(rt: HostRuntime) -> Result<(), Fail
         ready: 1000,
     };
     let problem = posed(alloc, &[running, free()], &[read(0, Kind::Read, 1, 0, 0)])?;
-    let plan = plan_known(alloc, &problem, Limit::of(1000).unwrap())?;
-    assert_eq!(rt; plan.planned.finish, 45_040);
+    let plan = plan_within(alloc, &problem, Limit::of(1000).unwrap())?;
+    assert_eq!(rt; plan.finish, 45_040);
     let mut weights = weighted(1, 0);
     weights.running[0] = [3, 5, 0, 0];
     let cost = 36_240 + 3 * 41_960 + 5 * 45_040;
-    assert_eq!(rt; cost_of(&problem, &plan.planned.schedule, &weights), cost);
+    assert_eq!(rt; cost_of(&problem, &plan.schedule, &weights), cost);
     Ok(())
 }
 
@@ -97,7 +98,7 @@ fn the_rule_begins_reads_of_other_sectors_as_one(rt: HostRuntime) -> Result<(), 
     let alloc = rt.alloc();
     let wants = [read(0, Kind::Read, 0, 0, 0), read(1, SECTOR, 0, 1, 0)];
     let problem = posed(alloc, &[free()], &wants)?;
-    let plan = RulePlanner.plan(alloc, &problem, Limit::of(1).unwrap())?;
+    let plan = plan_by_rule(alloc, &problem)?;
     let shown = told(alloc, &plan)?;
     assert!(rt; shown.as_slice() == b"40060 40060|; 0 1: 0 740 25980 36980".as_slice());
     Ok(())

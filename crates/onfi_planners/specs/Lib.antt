@@ -1,1 +1,4 @@
 pub mod Choice
+pub mod Cost
+pub mod Steps
+pub mod Weighing

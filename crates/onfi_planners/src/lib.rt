@@ -1,17 +1,29 @@
-//! Planners for the channels of a core: the plain search and the search that remembers states, which are exact, the best
-//! plan so far, which always comes, the rule, which searches nothing, and the plans of each made better, so that requests end
-//! early. Alone, it plans a problem by one of them, or by the one that was chosen when the program runs, under the trait of
-//! `onfi_plan`.
+//! Planners for the channels of a core, beside the plain one of `onfi_plan`: plans within a limit, which always come, plans by the
+//! rule, which searches nothing, and plans made better, so that requests end early. Alone, it plans a problem as was chosen when
+//! the program runs, says what a schedule costs, and makes a plan better without losing what is proved of it.
 #![tactic(auto)]
 
+mod aim;
+mod by;
+mod children;
 mod chosen;
-mod early;
-mod remembering;
+mod cost;
+mod floor;
+mod improving;
+mod line;
+mod nodes;
+mod rest;
+mod seen;
+mod times;
+mod walk;
 mod weighing;
+mod weights;
 
-pub use chosen::ChosenPlanner;
-pub use early::{EarlyPlanner, SlackPlanner, make_better, make_better_within};
-pub use onfi_early::Nodes;
+pub use by::By;
+pub use chosen::{ChosenPlanner, Early};
+pub use cost::cost_of;
+pub use improving::make_better;
+pub use nodes::Nodes;
 pub use onfi_plan::PlainPlanner;
-pub use remembering::RememberingPlanner;
 pub use weighing::Weighing;
+pub use weights::Weights;

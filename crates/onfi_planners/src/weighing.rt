@@ -1,7 +1,10 @@
 //! How much the requests of a problem count.
 
+ghost use Rattle.std.specs.Prelude.{◌≡◌};
+ghost use Rattle.onfi_planners.specs.Weighing.{weights_by};
+
+use crate::weights::Weights;
 use arrayvec::ArrayVec;
-use onfi_early::Weights;
 use onfi_problem::Problem;
 use onfi_request::Want;
 
@@ -18,7 +21,9 @@ pub enum Weighing {
 
 impl Weighing {
     /// The weights of a problem's requests.
-    pub(crate) fn weights_of(self, problem: &Problem) -> Weights {
+    pub fn weights_of(self, problem: &Problem) -> Weights
+        ensures { result ≡ weights_by self problem.now }
+    {
         match self {
             Weighing::ByAge => weights_by_age(problem),
             Weighing::Equal => Weights {

@@ -1,7 +1,7 @@
 ghost use Rattle.std.specs.Prelude.{◌≡◌, ◌<◌, ◌≤◌, length, IfSome};
 
 use onfi_plan::{Limit, PlainPlanner, Plan, PlanFault, Planner};
-use onfi_planners::ChosenPlanner;
+use onfi_planners::By;
 use onfi_problem::Problem;
 use onfi_run::{Way, run_script, run_script_by};
 use onfi_seq::Gate;
@@ -215,7 +215,7 @@ fn a_channel_with_nothing_to_do_goes_on_while_hosts_are_at_work(rt: HostRuntime)
 
 #[test]
 fn so_they_do_by_searches_that_remember_states(rt: HostRuntime) {
-    let planner = ChosenPlanner::Remembering;
+    let planner = By::Within;
     let (status, text) = meet(&rt, rt.alloc(), planner, 65_536, READS).expect(&rt, "a meeting");
     assert_eq!(rt; status, 0);
     assert!(rt; text.as_slice() == READS_ANSWERED);
@@ -237,7 +237,7 @@ fn both_channels_plan_within_the_limit_of_the_run(rt: HostRuntime) {
 fn a_run_by_the_best_plans_so_far_is_never_over(rt: HostRuntime) {
     let rows = "op,0,0,read,0,0,0\nop,0,0,program,1,0,0,*A5\n";
     for _ in 0..1_000 {
-        let planner = ChosenPlanner::BestSoFar;
+        let planner = By::Within;
         let (status, text) = meet(&rt, rt.alloc(), planner, 1, rows).expect(&rt, "a meeting");
         assert_eq!(rt; status, 0);
         let told = b"reply,0,0,0,read,*FF\nreply,0,0,1,done\nclosed\n";

@@ -15,7 +15,7 @@ use crate::script::plan_text_of;
 use crate::text::{Answer, answer_refusal, report_over};
 use crate::transfer::{EngineFault, InputFault, read_all, write_with_status};
 use onfi_plan::PlanFault;
-use onfi_planners::ChosenPlanner;
+use onfi_planners::By;
 use std::alloc::{AllocError, Global};
 use std::io::{Read, Write};
 use std::thread::Threads;
@@ -81,10 +81,10 @@ fn answer_command(
     let problem = &script.problem;
     match command {
         Command::Plan { limit, trace } => {
-            let options = PlanOptions::new(ChosenPlanner::Plain, limit, output_of(trace));
+            let options = PlanOptions::new(By::Plain, limit, output_of(trace));
             plan_script(alloc, options, script)
         }
-        Command::Check => check_plan(alloc, ChosenPlanner::Plain, problem, text),
+        Command::Check => check_plan(alloc, By::Plain, problem, text),
         Command::PlanBy(options) => plan_script(alloc, options, script),
         Command::CheckBy(planner) => check_plan(alloc, planner, problem, text),
         Command::Legal => judge_alone(alloc, problem, text),
@@ -189,7 +189,7 @@ pub fn engine_split<T: Threads + Sync, R: Read, W: Write>(
     ensures unread { result ≡ Err EngineFault.Read → Keeps (W.contents writer.old) (W.contents writer.new) }
     ensures unwritten { result ≡ Err EngineFault.Write → BeginsAnswerBy PartsTell (Command.Plan limit trace) (R.remaining reader.old) (W.contents writer.old) (W.contents writer.new) }
 {
-    let options = PlanOptions::new(ChosenPlanner::Plain, limit, output_of(trace));
+    let options = PlanOptions::new(By::Plain, limit, output_of(trace));
     engine_split_by(rt, alloc, options, workers, reader, writer)
 }
 
@@ -244,7 +244,7 @@ pub fn answer_by<T: Threads + Sync>(
     }
     match command {
         Command::Plan { limit, trace } => {
-            let options = PlanOptions::new(ChosenPlanner::Plain, limit, output_of(trace));
+            let options = PlanOptions::new(By::Plain, limit, output_of(trace));
             answer_by_workers(rt, alloc, options, workers, input)
         }
         Command::PlanBy(options) => answer_by_workers(rt, alloc, options, workers, input),

@@ -1,7 +1,7 @@
 //! Plan texts are checked.
 ghost use Rattle.std.specs.Prelude.{◌≡◌, codes, IfOk, if◌then◌else◌};
 ghost use Rattle.onfi_schedule.specs.Schedule.{Legal, finish};
-ghost use Rattle.onfi_planners.specs.declared.chosen.ChosenPlanner.TheVariants as by;
+ghost use Rattle.onfi_planners.specs.declared.by.By.TheVariants as by;
 ghost use Rattle.onfi_script.specs.Answer.{AnswersCheck, AnswersOptimal, AnswersSchedule, AnswersWithin};
 ghost use Rattle.onfi_script.specs.AnswerOf.{answer_of};
 ghost use Rattle.onfi_script.specs.Text.{known_text_refused, refused_at as spec_refused_at, refused_by, text_refused};
@@ -12,7 +12,7 @@ use crate::text::{Answer, accept_end, refuse, within};
 use crate::why::Why;
 use onfi_check::{CertFault, TextFault, check_text};
 use onfi_known_check::{KnownFault, KnownTextFault, check_known_text, check_known_within};
-use onfi_planners::ChosenPlanner;
+use onfi_planners::By;
 use onfi_problem::Problem;
 use onfi_schedule::{Schedule, find_breach, finish};
 use std::alloc::{AllocError, Global};
@@ -160,17 +160,16 @@ fn check_within(alloc: Global, problem: &Problem, text: &[u8]) -> Result<Answer,
 /// The answer to a plan text as this planner's are.
 pub fn check_plan(
     alloc: Global,
-    planner: ChosenPlanner,
+    by: By,
     problem: &Problem,
     text: &[u8],
 ) -> Result<Answer, AllocError>
     requires begun { problem.now.all ≡ problem.now.problem.wants }
-    ensures { IfOk result (λ a. AnswersCheck planner problem.now.problem text.now (answer_of a)) }
+    ensures { IfOk result (λ a. AnswersCheck by problem.now.problem text.now (answer_of a)) }
 {
-    match planner {
-        ChosenPlanner::Plain => checked_optimal(alloc, false, problem, text),
-        ChosenPlanner::Remembering => checked_optimal(alloc, true, problem, text),
-        ChosenPlanner::BestSoFar => check_within(alloc, problem, text),
-        ChosenPlanner::ByRule => check_within(alloc, problem, text),
+    match by {
+        By::Plain => checked_optimal(alloc, false, problem, text),
+        By::Within => check_within(alloc, problem, text),
+        By::Rule => check_within(alloc, problem, text),
     }
 }

@@ -1,7 +1,7 @@
 ghost use Rattle.std.specs.Prelude.{◌≡◌};
 ghost use Rattle.onfi_script.specs.Answer.{options_of};
 
-use onfi_planners::ChosenPlanner;
+use onfi_planners::By;
 
 /// What is printed of a plan.
 #[derive(Clone, Copy)]
@@ -16,11 +16,9 @@ pub enum Output {
 #[derive(Clone, Copy)]
 pub struct PlanOptions {
     /// What finds the plan; the plain planner is a search by as many workers as there are, and the rule searches nothing.
-    pub planner: ChosenPlanner,
-    /// Where it is to be made better: requests end sooner by the weights of the script, and the last phase may end later by so
-    /// many thousandths, 1,000 at most, of what lies between the time from when on the bus is free and the one before which
-    /// nothing ends.
-    pub better: Option<u16>,
+    pub by: By,
+    /// Whether it is made better: requests end sooner by the weights of the script, and nothing ends later.
+    pub early: bool,
     /// How many nodes a search opens at most, 1 to 1,048,576; the rule opens none.
     pub limit: u32,
     pub output: Output,
@@ -28,12 +26,12 @@ pub struct PlanOptions {
 
 impl PlanOptions {
     /// A plan of a planner as it is.
-    pub fn new(planner: ChosenPlanner, limit: u32, output: Output) -> PlanOptions
-        ensures { result ≡ options_of planner limit output }
+    pub fn new(by: By, limit: u32, output: Output) -> PlanOptions
+        ensures { result ≡ options_of by limit output }
     {
         PlanOptions {
-            planner,
-            better: None,
+            by,
+            early: false,
             limit,
             output,
         }
@@ -53,7 +51,7 @@ pub enum Command {
     /// Say whether the plan text after the script shows what plans of that planner do: as `Check`, by a certificate that
     /// remembers states where the planner does. Of the best so far and of the rule a line `below` may say before which time
     /// nothing ends.
-    CheckBy(ChosenPlanner),
+    CheckBy(By),
     /// Say whether the schedule of the plan text after the script is legal, and when it ends. A certificate need not
     /// stand there, and isn't looked at; nor is the number after `finish`, nor that of a line `below`.
     Legal,

@@ -2,7 +2,7 @@
 ghost use Rattle.std.specs.Prelude.{◌≡◌, ◌≤◌, ℕ, List, IfOk, IfErr};
 ghost use Rattle.onfi_schedule.specs.Schedule.{Legal, finish};
 ghost use Rattle.onfi_schedule.specs.Trace.{IsTrace};
-ghost use Rattle.onfi_plan.specs.Certificate.{IsSpelled, certificate_in};
+ghost use Rattle.onfi_plan.specs.Certificate.{IsSpelled};
 ghost use Rattle.onfi_planners.specs.Choice.{IsPlannedByRule, slack_in};
 ghost use Rattle.onfi_script.specs.Answer.{IsFromRule, IsPlan, OneTells, PartsTell, Prints, TellsOver};
 ghost use Rattle.onfi_script.specs.AnswerOf.{answer_of};
@@ -10,10 +10,9 @@ ghost use Rattle.onfi_script.specs.Limit.{IsLimit};
 
 use crate::command::{Output, PlanOptions};
 use crate::text::{Answer, plan_text};
-use onfi_early::Weights;
 use onfi_plan::{Limit, Plan, PlanFault, Planner, certificate_text};
-use onfi_planner::{NoGate, Planned, plan_split};
-use onfi_planners::{ChosenPlanner, make_better};
+use onfi_planner::{NoGate, plan_split};
+use onfi_planners::{By, Nodes, Weights, make_better};
 use onfi_problem::Problem;
 use onfi_schedule::{Schedule, trace, trace_requests};
 use std::alloc::{AllocError, Global};
@@ -31,12 +30,12 @@ pub fn plan_by(
 ) -> Result<Plan, PlanFault>
     requires limit { IsLimit options.limit }
     requires begun { problem.now.all ≡ problem.now.problem.wants }
-    ensures plan { IfOk result (IsPlan options.planner (slack_in options.better) options.limit problem.now.problem) }
-    ensures by_rule { IfOk result (λ plan. options.planner ≡ ChosenPlanner.ByRule → IsFromRule options.better options.limit problem.now.problem plan) }
-    ensures over { IfErr result (λ fault. (opened : ℕ) → fault ≡ PlanFault.Over opened → TellsOver OneTells options.planner options.limit problem.now.problem opened) }
+    ensures plan { IfOk result (IsPlan options.by options.early options.limit problem.now.problem) }
+    ensures by_rule { IfOk result (λ plan. options.by ≡ By.Rule → IsFromRule options.early options.limit problem.now.problem plan) }
+    ensures over { IfErr result (λ fault. (opened : ℕ) → fault ≡ PlanFault.Over opened → TellsOver OneTells options.by options.limit problem.now.problem opened) }
 {
     let limit = Limit::of(options.limit).unwrap();
-    let plan = options.planner.plan(alloc, problem, limit)?;
+    let plan = options.by.plan(alloc, problem, limit)?;
     let better = improve_plan(alloc, problem, weights, options, plan)?;
     Ok(better)
 }
@@ -57,20 +56,19 @@ pub fn plan_by_workers<R: Threads + Sync>(
     requires some_workers { 1 ≤ workers }
     requires few_workers { workers ≤ 8 }
     requires begun { problem.now.all ≡ problem.now.problem.wants }
-    ensures plan { IfOk result (IsPlan options.planner (slack_in options.better) options.limit problem.now.problem) }
-    ensures by_rule { IfOk result (λ plan. options.planner ≡ ChosenPlanner.ByRule → IsFromRule options.better options.limit problem.now.problem plan) }
-    ensures over { IfErr result (λ fault. (opened : ℕ) → fault ≡ PlanFault.Over opened → TellsOver PartsTell options.planner options.limit problem.now.problem opened) }
+    ensures plan { IfOk result (IsPlan options.by options.early options.limit problem.now.problem) }
+    ensures by_rule { IfOk result (λ plan. options.by ≡ By.Rule → IsFromRule options.early options.limit problem.now.problem plan) }
+    ensures over { IfErr result (λ fault. (opened : ℕ) → fault ≡ PlanFault.Over opened → TellsOver PartsTell options.by options.limit problem.now.problem opened) }
 {
-    match options.planner {
-        ChosenPlanner::Plain => {
+    match options.by {
+        By::Plain => {
             let planned = plan_split(rt, alloc, problem, options.limit, workers, &NoGate)?;
             let plan = Plan::of(planned, 0);
             let better = improve_plan(alloc, problem, weights, options, plan)?;
             Ok(better)
         }
-        ChosenPlanner::Remembering => plan_by(alloc, problem, weights, options),
-        ChosenPlanner::BestSoFar => plan_by(alloc, problem, weights, options),
-        ChosenPlanner::ByRule => plan_by(alloc, problem, weights, options),
+        By::Within => plan_by(alloc, problem, weights, options),
+        By::Rule => plan_by(alloc, problem, weights, options),
     }
 }
 
@@ -82,14 +80,14 @@ fn improve_plan(
     options: PlanOptions,
     plan: Plan,
 ) -> Result<Plan, AllocError>
-    requires { IsPlan options.planner 0 options.limit problem.now.problem plan }
-    ensures plan { IfOk result (IsPlan options.planner (slack_in options.better) options.limit problem.now.problem) }
-    ensures by_rule { IsPlannedByRule problem.now.problem options.limit plan → IfOk result (IsFromRule options.better options.limit problem.now.problem) }
+    requires { IsPlan options.by 0 options.limit problem.now.problem plan }
+    ensures plan { IfOk result (IsPlan options.by options.early options.limit problem.now.problem) }
+    ensures by_rule { IsPlannedByRule problem.now.problem options.limit plan → IfOk result (IsFromRule options.early options.limit problem.now.problem) }
 {
-    match options.better {
-        None => Ok(plan),
-        Some(per_mille) => make_better(alloc, problem, plan, weights, per_mille),
+    if !options.early {
+        return Ok(plan);
     }
+    make_better(alloc, problem, plan, weights, Nodes::usual())
 }
 
 /// The trace of a legal schedule; each line names its request where that is asked for.
@@ -116,24 +114,19 @@ pub fn print_plan(
     plan: Plan,
     output: Output,
 ) -> Result<Answer, AllocError>
-    requires legal { Legal problem.now.problem plan.planned.schedule }
-    requires finish { finish problem.now.problem plan.planned.schedule ≡ plan.planned.finish }
-    ensures { IfOk result (λ a. (text : List ℕ) × IsSpelled problem.now.problem.rules.strict (certificate_in plan) text
-        × Prints output problem.now.problem plan.planned.schedule plan.below text (answer_of a)) }
+    requires legal { Legal problem.now.problem plan.schedule }
+    requires finish { finish problem.now.problem plan.schedule ≡ plan.finish }
+    ensures { IfOk result (λ a. (text : List ℕ) × IsSpelled problem.now.problem.rules.strict plan.certificate text
+        × Prints output problem.now.problem plan.schedule plan.below text (answer_of a)) }
 {
     let Plan {
-        planned,
-        below,
-        text,
-        ..
-    } = plan;
-    let Planned {
         schedule,
         finish,
-        cert,
-    } = planned;
-    let strict = problem.rules().strict;
-    let certificate = certificate_text(alloc, strict, cert.as_slice(), text)?;
+        below,
+        certificate,
+        ..
+    } = plan;
+    let certificate = certificate_text(alloc, problem.rules().strict, certificate)?;
     let text = match output {
         Output::Plan => plan_text(alloc, &schedule, finish, below, certificate.as_slice())?,
         Output::Trace { requests } => trace_of(alloc, problem, &schedule, requests)?,

@@ -16,7 +16,7 @@ use crate::script::script_len;
 use crate::sectors::asks_amiss;
 use crate::setup::{Setup, find_beyond, set_up};
 use crate::weights::weights;
-use onfi_early::Weights;
+use onfi_planners::Weights;
 use onfi_problem::{Problem, ProblemFault};
 use onfi_timing::read_records;
 use std::alloc::Global;

@@ -5,7 +5,7 @@ ghost use Rattle.onfi_script.specs.Setup as spec;
 
 use crate::forms::row_on;
 use crate::row::{Row, Subject};
-use onfi_early::Weights;
+use onfi_planners::Weights;
 
 /// How much the want of that number counts; 1 where no row says.
 fn weight_of(rows: &[Row], request: u8) -> u16

@@ -7,13 +7,13 @@ ghost use Rattle.onfi_core.specs.Kept.{first_half};
 ghost use Rattle.onfi_core.specs.Queues.{IsFresh};
 ghost use Rattle.onfi_core.specs.Steps.{IsBest, IsPromised, none_left};
 ghost use Rattle.onfi_core.specs.Unanswered.{unanswered_senders};
-ghost use Rattle.onfi_core.specs.View.{plainly_with, planning_with};
+ghost use Rattle.onfi_core.specs.View.{plainly_with, planning_by};
 ghost use Rattle.onfi_seq.specs.Sequencer.{AreFreshPosters, IsFreshIntake, IsRight, seen_in};
 
 use crate::driver::Driver;
 use onfi_chip::Chip;
-use onfi_core::Setup;
-use onfi_plan::{PlainPlanner, Plan, Planner};
+use onfi_core::{LastPlan, Setup};
+use onfi_plan::{PlainPlanner, Planner};
 use onfi_planner::Planned;
 use onfi_problem::Problem;
 use onfi_queue::Intake;
@@ -146,8 +146,8 @@ impl<C: Chip, P: Planner> Sequencer<C, P> {
     }
 
     /// The problem and the plan of the last accepting planning, by whichever planner; none before one.
-    pub fn last_plan(&self) -> Option<(&Problem, &Plan)>
-        ensures last { MatchOption result (self.now.0.half.last ≡ None) (λ r. self.now.0.half.last ≡ Some (planning_with r.0.now.problem r.1.now)) }
+    pub fn last_plan(&self) -> Option<(&Problem, &LastPlan)>
+        ensures last { MatchOption result (self.now.0.half.last ≡ None) (λ r. self.now.0.half.last ≡ Some (planning_by r.0.now.problem r.1.now)) }
         ensures promised { IfSome self.now.0.half.last (IsPromised P.exact P.certifies) }
         ensures best { IsTrue P.exact → IfSome self.now.0.half.last IsBest }
     {

@@ -9,7 +9,7 @@ ghost use Rattle.onfi_console.specs.Words.{IsInRange};
 ghost use Rattle.onfi_sim.specs.Carrying as spec;
 ghost use Rattle.onfi_sim.specs.Carrying.{BeginsToCarryOut, CarriesOut};
 
-use onfi_console::{ChosenPlanner, Command, EngineFault, Named, SlackPlanner, describe};
+use onfi_console::{By, ChosenPlanner, Command, EngineFault, Named, describe};
 use onfi_run::{Limit, Way, no_gates, run_script, run_script_by};
 use onfi_script::{
     Answer, AuditOptions, GapOptions, InputFault, audit_by, audit_gaps, engine, engine_split,
@@ -84,15 +84,15 @@ fn carry_out_problem<T: Threads + Sync, I: Read, W: Write>(
 }
 
 /// Whether plans are left as the plain planner makes them, where nothing shows when they end.
-fn is_plain(planner: ChosenPlanner, per_mille: u16) -> bool {
-    planner == ChosenPlanner::Plain && per_mille == 0
+fn is_plain(planner: ChosenPlanner) -> bool {
+    planner.by == By::Plain
 }
 
 /// Runs the operations of a script.
 fn carry_out_run<R: Threads + Wait + Sync, I: Read, W: Write>(
     rt: &R,
     alloc: Global,
-    planner: SlackPlanner<ChosenPlanner>,
+    planner: ChosenPlanner,
     limit: u32,
     clocked: bool,
     reader: &mut I,
@@ -107,7 +107,7 @@ fn carry_out_run<R: Threads + Wait + Sync, I: Read, W: Write>(
     let Ok(gates) = no_gates(alloc) else {
         return write_answer(writer, Err(AllocError));
     };
-    let plain = is_plain(planner.planner, planner.per_mille);
+    let plain = is_plain(planner);
     if !clocked && plain {
         return run_script(rt, alloc, limit, gates, reader, writer);
     }

@@ -7,8 +7,7 @@ mod carrying_out;
 
 pub use carrying_out::carry_out;
 pub use onfi_console::{
-    ChosenPlanner, Command, CommandName, EngineFault, GapOptions, Named, Output, Parsed,
-    PlanOptions, SlackPlanner, Weighing, WordsFault, audit, audit_gaps, describe, engine,
-    engine_split, words,
+    By, ChosenPlanner, Command, CommandName, EngineFault, GapOptions, Named, Output, Parsed,
+    PlanOptions, WordsFault, audit, audit_gaps, describe, engine, engine_split, words,
 };
 pub use onfi_run::{Gate, Limit, NoGate, Way, run_script};

@@ -5,7 +5,6 @@ use Rattle.onfi_problem.specs.Problem.{Problem}
 use Rattle.onfi_problem.specs.Moves.{IsDone, after}
 use Rattle.onfi_schedule.specs.Schedule.{Schedule}
 use Rattle.onfi_schedule.specs.Runs.{Step, schedule_of}
-use Rattle.onfi_plan.specs.declared.plan.Plan.{Plan}
 use Rattle.onfi_steady.specs.declared.dispatcher.Dispatcher.{Dispatcher}
 use Rattle.onfi_steady.specs.declared.next.NextPhase.{NextPhase}
 use Rattle.onfi_steady.specs.declared.waiter.Waiter.{Waiter}
@@ -36,12 +35,6 @@ pub record IsByRule (p : Problem) (s : Schedule) (finish : ℕ) : Type 0 where
   pub steps : List Step
   pub run : IsRuleRun p steps finish
   pub schedule : s ≡ schedule_of p steps
-
--- .. as a planner's plan, whatever its limit: no node is opened
-pub record IsRulePlan (p : Problem) (limit : ℕ) (plan : Plan) : Type 0 where
-  pub rule : IsByRule p plan.planned.schedule plan.planned.finish
-  pub opened : plan.opened ≡ 0
-  pub reopened : plan.reopened ≡ 0
 
 -- a dispatcher with these books is of the channel that the problem is
 pub record IsFor (p : Problem) (books : Books) (d : Dispatcher) : Type 0 where

@@ -1,6 +1,6 @@
 //! Plans by a rule, without a search: of each LUN the group that it would begin, of all LUNs the phase that starts soonest,
 //! one phase after another. Alone, it makes a legal schedule of a problem in one pass, and says how far that is from the best
-//! at most; as [`RulePlanner`] it stands under the trait of `onfi_plan`.
+//! at most.
 #![tactic(auto)]
 
 mod begin;
@@ -25,12 +25,10 @@ mod next;
 mod next_turn;
 mod offer;
 mod own;
-mod planner;
 mod planning;
 mod ready;
 mod run;
 mod slot;
-mod text;
 mod turn;
 mod waiter;
 mod waiting;
@@ -45,8 +43,6 @@ pub use laws::{
     ready_by_states, rising_requests_are_accepted, running_is_fair,
 };
 pub use next::{NextPhase, next_phase, next_phase_of};
-pub use planner::RulePlanner;
 pub use planning::plan_by_rule;
-pub use text::plan_by_rule_with_text;
 pub use waiter::Waiter;
 pub use waiting::{Full, Waiting};

@@ -1,20 +1,28 @@
-ghost use Rattle.std.specs.Prelude.{◌≡◌, ◌+◌, ◌≤◌, IfOk, length};
-ghost use Rattle.onfi_schedule.specs.Schedule.{Legal, Optimal, finish};
+//! The plan of the rule.
+
+ghost use Rattle.std.specs.Prelude.{◌≡◌, ◌∷◌, [], ◌+◌, ◌≤◌, IfOk};
+ghost use Rattle.onfi_problem.specs.Left.{InLimits};
+ghost use Rattle.onfi_schedule.specs.Schedule.{Legal, finish};
 ghost use Rattle.onfi_bound.specs.Reaching.{NoneReaches};
 ghost use Rattle.onfi_check.specs.Tree.{AcceptsTokens};
+ghost use Rattle.onfi_known_check.specs.Word.{of_plain};
 ghost use Rattle.onfi_planner.specs.Planning.{AreRising};
-ghost use Rattle.onfi_plan.specs.Certificate.{Plain, certificate_in};
+ghost use Rattle.onfi_plan.specs.Certificate.{IsRemembering, ShowsBelow};
+ghost use Rattle.onfi_plan.specs.declared.plan.Certificate.TheVariants.{Text};
 ghost use Rattle.onfi_steady.specs.Rule.{IsByRule};
 
 use crate::below::{greatest_bound, token_of};
 use crate::dispatch::run_by_rule;
-use onfi_plan::Plan;
-use onfi_planner::{Planned, schedule_of};
+use onfi_cert::Token as PlainToken;
+use onfi_known_check::{Token, text_of};
+use onfi_plan::{Certificate, Plan};
+use onfi_planner::schedule_of;
 use onfi_problem::Problem;
 use std::alloc::{AllocError, Global};
 
 /// The schedule that the rule makes of a problem, in one pass and without a search, its groups by rising first start; and
-/// what no schedule ends before, in ns: the greatest of the bounds, of which the certificate is the one token.
+/// what no schedule ends before, in ns: the greatest of the bounds. The certificate is the text of that bound's token, which
+/// `check_known_within` of `onfi_known_check` checks.
 ///
 /// Phase after phase goes that is next of a [`Dispatcher`](crate::Dispatcher) for which all of it waits, and no program is the newest:
 /// each LUN gives what it goes on with, or the group of its oldest read that may start, else of its oldest program, else of its
@@ -23,35 +31,55 @@ use std::alloc::{AllocError, Global};
 /// # Errors
 /// Only where memory was refused.
 pub fn plan_by_rule(alloc: Global, problem: &Problem) -> Result<Plan, AllocError>
-    ensures legal { IfOk result (λ plan. Legal problem.now.problem plan.planned.schedule) }
-    ensures finish { IfOk result (λ plan. finish problem.now.problem plan.planned.schedule ≡ plan.planned.finish) }
-    ensures rule { IfOk result (λ plan. IsByRule problem.now.problem plan.planned.schedule plan.planned.finish) }
-    ensures rising { IfOk result (λ plan. AreRising plan.planned.schedule.groups) }
-    ensures below { IfOk result (λ plan. plan.below ≤ plan.planned.finish) }
+    ensures legal { IfOk result (λ plan. Legal problem.now.problem plan.schedule) }
+    ensures finish { IfOk result (λ plan. finish problem.now.problem plan.schedule ≡ plan.finish) }
+    ensures rule { IfOk result (λ plan. IsByRule problem.now.problem plan.schedule plan.finish) }
+    ensures rising { IfOk result (λ plan. AreRising plan.schedule.groups) }
+    ensures below { IfOk result (λ plan. plan.below ≤ plan.finish) }
     ensures greatest { IfOk result (λ plan. NoneReaches problem.now.problem (plan.below + 1)) }
-    ensures accepted { IfOk result (λ plan. AcceptsTokens plan.planned.cert.items problem.now.problem plan.below) }
-    ensures one_token { IfOk result (λ plan. length plan.planned.cert.items ≡ 1) }
-    ensures plain { IfOk result (λ plan. certificate_in plan ≡ Plain plan.planned.cert.items) }
-    ensures optimal { IfOk result (λ plan. plan.below ≡ plan.planned.finish → Optimal problem.now.problem plan.planned.schedule) }
+    ensures shown { IfOk result (λ plan. ShowsBelow plan.certificate problem.now.all problem.now.problem plan.below) }
+    ensures kind { IfOk result (λ plan. IsRemembering plan.certificate) }
     ensures opened { IfOk result (λ plan. plan.opened ≡ 0) }
-    ensures reopened { IfOk result (λ plan. plan.reopened ≡ 0) }
 {
     problem.in_limits();
     let best = run_by_rule(alloc, problem)?;
     let schedule = schedule_of(alloc, problem, best.steps.as_slice());
     let greatest = greatest_bound(problem);
-    let mut cert = Vec::new(alloc);
-    cert.push(token_of(greatest.bound))?;
-    let planned = Planned {
+    let text = text_below(alloc, problem, token_of(greatest.bound), greatest.at)?;
+    Ok(Plan {
         schedule,
         finish: best.finish,
-        cert,
-    };
-    Ok(Plan {
-        planned,
         below: greatest.at,
-        text: None,
+        certificate: Certificate::Text(text),
         opened: 0,
-        reopened: 0,
     })
+}
+
+// The text of a certificate that remembers states, of the one token of a plain one.
+fn text_below(
+    alloc: Global,
+    problem: &Problem,
+    token: PlainToken,
+    below: u64,
+) -> Result<Vec<u8>, AllocError>
+    requires limits { InLimits problem.now.problem }
+    requires accepted { AcceptsTokens (token ∷ []) problem.now.problem below }
+    ensures { IfOk result (λ text. ShowsBelow (Text text) problem.now.all problem.now.problem below) }
+{
+    text_of(alloc, problem.rules().strict, &[convert_token(token)])
+}
+
+// The same token of a certificate that remembers states.
+fn convert_token(token: PlainToken) -> Token
+    ensures { result ≡ of_plain token }
+{
+    match token {
+        PlainToken::Branch(width) => Token::Branch(width),
+        PlainToken::Bus => Token::Bus,
+        PlainToken::Lead => Token::Lead,
+        PlainToken::Trail => Token::Trail,
+        PlainToken::Die(lun) => Token::Die(lun),
+        PlainToken::Yield(lun) => Token::Yield(lun),
+        PlainToken::End => Token::End,
+    }
 }

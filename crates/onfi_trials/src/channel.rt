@@ -10,7 +10,7 @@ use crate::stage::Stage;
 use onfi_addr::Place;
 use onfi_chip::SimChip;
 use onfi_core::{Core, CoreFault, Event, Outcome, Setup};
-use onfi_planners::ChosenPlanner;
+use onfi_planners::By;
 use onfi_request::Request;
 use onfi_samples::{request_of, sample_geometry};
 use onfi_timing::Kind;
@@ -64,7 +64,7 @@ fn event_of(alloc: Global, row: &Row) -> Result<Option<Event>, AllocError> {
 #[derive(Drop)]
 struct Played {
     alloc: Global,
-    core: Core<SimChip, ChosenPlanner>,
+    core: Core<SimChip, By>,
 }
 
 impl Model for Played {

@@ -4,8 +4,8 @@ use crate::ended::Ended;
 use crate::sample::{problem, running, want};
 use onfi_check::{CertFault, TextFault};
 use onfi_known_check::{KnownFault, check_known_text};
-use onfi_known_plan::plan_known;
-use onfi_plan::{Limit, Plan};
+use onfi_known_plan::plan_within as plan_best;
+use onfi_plan::{Certificate, Limit, Plan};
 use onfi_planner::{NoGate, PlanFault, Planned, plan, plan_split};
 use onfi_problem::{LunState, Problem};
 use onfi_samples::sample_timing;
@@ -77,9 +77,12 @@ fn judge_known(
     problem: &Problem,
     plan: &Plan,
 ) -> Result<(), Ended> {
-    let text = plan.text().unwrap_or(b"");
+    let Certificate::Text(text) = &plan.certificate else {
+        return Err(Ended::NoTrial);
+    };
+    let text = text.as_slice();
     for _try in 0..2u8 {
-        match check_known_text(alloc, problem, &plan.planned.schedule, text) {
+        match check_known_text(alloc, problem, &plan.schedule, text) {
             Ok(finish) => {
                 println!(rt; "accepted {finish}")?;
                 return Ok(());
@@ -97,17 +100,13 @@ fn judge_known(
 /// Plans with searches that remember states, and judges the plan; once more where memory was refused.
 fn recall(rt: &impl Print, alloc: Global, problem: &Problem) -> Result<(), Ended> {
     for _try in 0..2u8 {
-        match plan_known(alloc, problem, Limit::of(1_048_576).unwrap()) {
+        match plan_best(alloc, problem, Limit::of(1_048_576).unwrap()) {
             Ok(plan) => {
-                println!(rt; "finish {}", plan.planned.finish)?;
-                say_groups(rt, &plan.planned.schedule)?;
+                println!(rt; "finish {}", plan.finish)?;
+                say_groups(rt, &plan.schedule)?;
                 return judge_known(rt, alloc, problem, &plan);
             }
-            Err(PlanFault::Over { opened }) => {
-                println!(rt; "over {opened}")?;
-                return Ok(());
-            }
-            Err(PlanFault::Memory) => println!(rt; "memory")?,
+            Err(_) => println!(rt; "memory")?,
         }
     }
     Err(Ended::Memory)

@@ -1,8 +1,7 @@
 //! What is printed of plans and replies.
 
 use crate::ended::Ended;
-use onfi_core::Outcome;
-use onfi_plan::Plan;
+use onfi_core::{LastPlan, Outcome};
 use onfi_problem::Problem;
 use onfi_request::{Answer, Reply, Request};
 use onfi_schedule::Placed;
@@ -75,26 +74,26 @@ fn say_group(rt: &impl Print, placed: &Placed) -> Result<(), Ended> {
 }
 
 /// The wants of a plan's problem, when it ends and before when nothing does, its starts and its certificate.
-pub(crate) fn say_plan(rt: &impl Print, last: Option<(&Problem, &Plan)>) -> Result<(), Ended> {
+pub(crate) fn say_plan(rt: &impl Print, last: Option<(&Problem, &LastPlan)>) -> Result<(), Ended> {
     let Some((_, plan)) = last else {
         println!(rt; "no plan")?;
         return Ok(());
     };
-    println!(rt; "finish {} below {}", plan.planned.finish, plan.below)?;
-    let schedule = &plan.planned.schedule;
+    println!(rt; "finish {} below {}", plan.finish(), plan.below())?;
+    let schedule = plan.schedule();
     for starts in schedule.rest() {
         println!(rt; "rest {:?}", starts.as_slice())?;
     }
     for placed in schedule.groups() {
         say_group(rt, placed)?;
     }
-    match plan.tokens() {
-        Some(tokens) => {
-            for token in tokens {
+    match plan {
+        LastPlan::Tokens { planned, .. } => {
+            for token in planned.cert.as_slice() {
                 println!(rt; "{token:?}")?;
             }
         }
-        None => println!(rt; "a certificate that remembers states")?,
+        LastPlan::Text { .. } => println!(rt; "a certificate that remembers states")?,
     }
     Ok(())
 }

@@ -7,7 +7,7 @@ use crate::saying::{say_plan, say_reply};
 use crate::stage::Stage;
 use onfi_chip::SimChip;
 use onfi_core::Setup;
-use onfi_planners::ChosenPlanner;
+use onfi_planners::By;
 use onfi_queue::{Host, SubmitFault};
 use onfi_reply::Inbox;
 use onfi_request::{Reply, Request};
@@ -40,7 +40,7 @@ impl Gate for Watch {
 #[derive(Drop)]
 struct Served {
     alloc: Global,
-    sequencer: Sequencer<SimChip, ChosenPlanner>,
+    sequencer: Sequencer<SimChip, By>,
     hosts: [Host; 4],
     inboxes: [Inbox; 4],
     gate: Watch,

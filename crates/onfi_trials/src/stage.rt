@@ -11,7 +11,7 @@ use onfi_chip::{ArrayTime, SimChip};
 use onfi_core::{Choice, Setup, SetupFault};
 use onfi_die::Fault;
 use onfi_group::Rules;
-use onfi_planners::ChosenPlanner;
+use onfi_planners::By;
 use onfi_samples::{sample_geometry, sample_timing};
 use onfi_timing::{Spans, Timing};
 use std::alloc::{AllocError, Global};
@@ -23,7 +23,7 @@ pub(crate) struct Stage {
     geometry: Geometry,
     timing: Timing,
     choice: Choice,
-    pub(crate) planner: ChosenPlanner,
+    pub(crate) planner: By,
     faults: Vec<Fault>,
     calls: Vec<u32>,
     statuses: Vec<u32>,
@@ -40,7 +40,7 @@ impl Stage {
             geometry: sample_geometry(),
             timing: sample_timing(),
             choice: Choice::InOrder,
-            planner: ChosenPlanner::Plain,
+            planner: By::Plain,
             faults: Vec::new(alloc),
             calls: Vec::new(alloc),
             statuses: Vec::new(alloc),
@@ -72,8 +72,8 @@ impl Stage {
                 self.timing = time_sectors()?;
             }
             Word::ByNext => self.choice = Choice::NextPhase,
-            Word::Remembering => self.planner = ChosenPlanner::Remembering,
-            Word::Best => self.planner = ChosenPlanner::BestSoFar,
+            Word::Remembering => self.planner = By::Within,
+            Word::Best => self.planner = By::Within,
             _ => return Err(Ended::NoTrial),
         }
         Ok(())

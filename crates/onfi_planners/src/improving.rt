@@ -1,0 +1,120 @@
+//! A plan made better.
+
+ghost use Rattle.std.specs.Prelude.{◌≡◌, ◌^◌, ◌<◌, ◌≤◌, true, false, IfOk};
+ghost use Rattle.onfi_schedule.specs.Schedule.{Legal, finish};
+ghost use Rattle.onfi_known_check.specs.Laws.{NoneBefore};
+ghost use Rattle.onfi_planner.specs.Planning.{AreRising};
+ghost use Rattle.onfi_known_plan.specs.Walks.{IsRunOf};
+ghost use Rattle.onfi_planners.specs.Choice.{IsMadeFrom};
+
+use crate::aim::Aim;
+use crate::cost::cost_of;
+use crate::floor::Floor;
+use crate::nodes::Nodes;
+use crate::seen::Seen;
+use crate::walk::{Notes, search};
+use crate::weights::Weights;
+use onfi_bound::Loads;
+use onfi_plan::Plan;
+use onfi_planner::{Best, schedule_of};
+use onfi_problem::Problem;
+use onfi_schedule::Schedule;
+use std::alloc::{AllocError, Global};
+
+/// The plan with a schedule that ends no later and costs no more by these weights, so that requests end sooner by them where the
+/// finish allows it; for that so many nodes are opened at most, and with 0 the plan stays as it is. No clause says that the cost
+/// is the least there is; it is the least that the search has met.
+///
+/// What shows that nothing ends before a time shows it of this schedule too: of an optimal plan an optimal one is made.
+///
+/// # Errors
+/// Only where memory was refused; the plan is dropped then.
+pub fn make_better(
+    alloc: Global,
+    problem: &Problem,
+    plan: Plan,
+    weights: &Weights,
+    nodes: Nodes,
+) -> Result<Plan, AllocError>
+    requires legal { Legal problem.now.problem plan.schedule }
+    requires finish { finish problem.now.problem plan.schedule ≡ plan.finish }
+    requires none_before { NoneBefore problem.now.problem plan.below }
+    ensures legal { IfOk result (λ better. Legal problem.now.problem better.schedule) }
+    ensures finish { IfOk result (λ better. finish problem.now.problem better.schedule ≡ better.finish) }
+    ensures below { IfOk result (λ better. better.below ≤ better.finish) }
+    ensures made { IfOk result (IsMadeFrom weights.now problem.now plan) }
+    ensures as_is { nodes ≡ 0 → IfOk result (λ better. better ≡ plan) }
+
+    // Where the groups of the plan stand by rising first start.
+    ensures rising { AreRising plan.schedule.groups → IfOk result (λ better. AreRising better.schedule.groups) }
+{
+    let cost = cost_of(problem, &plan.schedule, weights);
+    let aim = Aim::new(alloc, problem, weights, plan.finish)?;
+    let walked = walk(alloc, problem, &aim, cost, nodes.get())?;
+    let mut better = plan;
+    if walked.improved {
+        let schedule = make_schedule(alloc, problem, &walked.best);
+        if cost_of(problem, &schedule, weights) <= cost && walked.best.finish <= better.finish {
+            better.schedule = schedule;
+            better.finish = walked.best.finish;
+        }
+    }
+    Ok(better)
+}
+
+// What a walk has given: the best run, where it found one.
+#[derive(Drop)]
+struct Walked {
+    best: Best,
+    improved: bool,
+}
+
+// Walks over the runs of a problem for one that costs less, where there may be one.
+fn walk(
+    alloc: Global,
+    problem: &Problem,
+    aim: &Aim,
+    cost: u128,
+    limit: u32,
+) -> Result<Walked, AllocError>
+    ensures run { IfOk result (λ walked. walked.improved ≡ true → IsRunOf problem.now walked.best) }
+    ensures small { IfOk result (λ walked. walked.improved ≡ true → walked.best.finish < 2 ^ 62) }
+    ensures idle { limit ≡ 0 → IfOk result (λ walked. walked.improved ≡ false) }
+{
+    problem.in_limits();
+    let mut best = Best {
+        finish: 0,
+        steps: Vec::new(alloc),
+    };
+    let mut floor = Floor::new(problem, aim);
+    floor.look_at(problem, aim, 0);
+    if floor.cost() >= cost {
+        return Ok(Walked {
+            best,
+            improved: false,
+        });
+    }
+    let mut at = problem.copy(alloc)?;
+    let loads = Loads::new(alloc, &at)?;
+    let mut notes = Notes {
+        cost,
+        left: limit,
+        seen: Seen::new(alloc),
+        floor,
+        lun: 0,
+    };
+    let improved = search(&mut at, &loads, aim, 0, &mut best, &mut notes)?;
+    Ok(Walked { best, improved })
+}
+
+// The schedule of a run.
+fn make_schedule(alloc: Global, problem: &Problem, best: &Best) -> Schedule
+    requires run { IsRunOf problem.now best.now }
+    requires small { best.now.finish < 2 ^ 62 }
+    ensures legal { Legal problem.now.problem result }
+    ensures rising { AreRising result.groups }
+    ensures finish { finish problem.now.problem result ≡ best.now.finish }
+{
+    problem.in_limits();
+    schedule_of(alloc, problem, best.steps.as_slice())
+}
