@@ -2,6 +2,7 @@ pub mod Audit
 pub mod AuditBegun
 pub mod AuditPhase
 pub mod Broken
+pub mod Check
 pub mod Delay
 pub mod Device
 pub mod Dispatching
@@ -11,6 +12,7 @@ pub mod Geometry
 pub mod InOrder
 pub mod LogBroken
 pub mod Output
+pub mod Plan
 pub mod PlainSchedule
 pub mod Problem
 pub mod Ran

@@ -1,4 +1,4 @@
--- Wants, schedules and plans as plain structs.
+-- Wants and schedules as plain structs.
 use Rattle.std.specs.Prelude.{ℕ, List, ◌++◌, length, drop, map, replicate}
 use Rattle.onfi_request.specs.declared.want.Want.{Want}
 use Rattle.onfi_schedule.specs.Schedule.{Placed, Schedule}
@@ -6,8 +6,6 @@ use Rattle.onfi_calls.specs.declared.channel.PlainWant.{PlainWant}
 use Rattle.onfi_calls.specs.declared.schedule.PlainRest.{PlainRest}
 use Rattle.onfi_calls.specs.declared.schedule.PlainGroup.{PlainGroup}
 use Rattle.onfi_calls.specs.declared.schedule.PlainSchedule.{PlainSchedule}
-use Rattle.onfi_calls.specs.declared.schedule.PlainPlan.{PlainPlan}
-use Rattle.onfi_calls.specs.declared.schedule.PlainWithin.{PlainWithin}
 use Rattle.onfi_calls.specs.Due.{number_of_kind}
 
 -- in front of as many of the rest as fill up n places
@@ -39,10 +37,3 @@ written_schedule s = record {
   rest = filled 8 no_rest (map written_rest s.rest);
   group = filled 8 no_group (map written_group s.groups);
 }
-
-abbrev pub written_plan : Schedule → ℕ → ℕ → PlainPlan
-written_plan s finish opened = record { schedule = written_schedule s; finish = finish; opened = opened }
-
--- .. of which nothing ends before `below`
-abbrev pub written_within : Schedule → ℕ → ℕ → PlainWithin
-written_within s finish below = record { schedule = written_schedule s; finish = finish; below = below }

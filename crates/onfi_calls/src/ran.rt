@@ -110,7 +110,7 @@ fn stand_after(flight: &Flight, luns: &[PlainLun], due: &Due) -> Behind
         bus_free: flight.bus_free(),
         lun: lun_in(state, &name_group(luns, due)),
         wants: plain_wants(flight.wants()),
-        schedule: written::schedule(flight.left()),
+        schedule: plain_schedule::schedule(flight.left()),
     }
 }
 
