@@ -1,7 +1,7 @@
 //! The command line.
-ghost use Rattle.std.specs.Prelude.{◌≡◌, ◌≤◌, None, Some, false, true, is_some, IfErr, IfOk, IfSome, codes, map, option_map, string_bytes};
+ghost use Rattle.std.specs.Prelude.{◌≡◌, ◌≤◌, None, Some, false, true, IfErr, IfOk, OnOk, codes, map, option_map, string_bytes};
 ghost use Rattle.std.specs.List.{list_any};
-ghost use Rattle.clap.specs.Words.{first_of, first_value, found_of, kind_of, rows_of, subcommand_of, subcommand_rows_of};
+ghost use Rattle.clap.specs.Words.{first_value, found_of, kind_of, rows_of, subcommand_of, subcommand_rows_of};
 ghost use Rattle.clap.specs.declared.error.kind.ErrorKind.{ErrorKind};
 ghost use Rattle.onfi_script.specs.Limit.{IsLimited};
 ghost use Rattle.onfi_console.specs.Readers.{AreRead};
@@ -10,157 +10,104 @@ ghost use Rattle.onfi_console.specs.Words as spec;
 use crate::commands::app;
 use crate::escaping::escape_text;
 use crate::fault::{Untaken, WordsFault};
-use crate::parsed::{MOST, Named, Parsed};
+use crate::parsed::{MOST, Named, Parsed, RunBy, RunOptions};
 use clap::error::ErrorKind;
 use clap::{ArgMatches, Error};
 use onfi_plan::Limit;
-use onfi_planners::{By, ChosenPlanner, Early};
+use onfi_planners::By;
 use onfi_script::{AuditOptions, Command, GapOptions, Output, PlanOptions, number};
 use std::alloc::{AllocError, Global};
 
-/// Why a command or the value of an option is not taken.
+/// Why a command, an option or its value is not taken.
 #[derive(Clone, Copy)]
 enum ValueFault {
     NoCommand,
-    Limit,
-    Workers,
-    WorkersBesideRemember,
-    WithinBesideRemember,
-    RememberBesideLegal,
-    WithinBesideLegal,
-    WorkersBesideEarly,
-    Clock,
-    SearchBesideRule,
-    RunSearchBesideRule,
-    By,
-    PlannerBesideNext,
-    LimitWithoutOptimum,
-    CsvWithoutOptimum,
-    StatusBesideOptimum,
-}
-
-impl ValueFault {
-    /// What is said of it.
-    fn text(self) -> &'static str {
-        match self {
-            ValueFault::NoCommand =>
-                "a command was expected: 'plan', 'check', 'audit', 'run' or 'device'",
-            ValueFault::Limit => "'--limit' wants a number from 1 to 1048576, digits alone",
-            ValueFault::Workers => "'--workers' wants a number from 1 to 8, digits alone",
-            ValueFault::WorkersBesideRemember => {
-                "'--workers' can't be used with '--remember' or '--within': that search has one worker"
-            }
-            ValueFault::WithinBesideRemember => {
-                "'--within' can't be used with '--remember': both remember states, and only '--within' gives the best plan so far"
-            }
-            ValueFault::RememberBesideLegal => {
-                "'--remember' can't be used with '--legal': no certificate is looked at"
-            }
-            ValueFault::WithinBesideLegal => {
-                "'--within' can't be used with '--legal': no certificate is looked at"
-            }
-            ValueFault::WorkersBesideEarly => {
-                "'--workers' can't be used with '--early': one worker makes a plan better"
-            }
-            ValueFault::Clock => "'--clock' wants 'simulated'",
-            ValueFault::SearchBesideRule => {
-                "'--rule' can't be used with '--limit', '--workers', '--remember', '--within' or '--early': it searches nothing"
-            }
-            ValueFault::RunSearchBesideRule => {
-                "'--rule' can't be used with '--limit', '--remember' or '--within': it searches nothing"
-            }
-            ValueFault::By => "'--by' wants 'next'",
-            ValueFault::PlannerBesideNext => {
-                "'--by next' can't be used with '--limit', '--remember', '--within' or '--rule': it plans nothing"
-            }
-            ValueFault::LimitWithoutOptimum => {
-                "'--limit' can't be used without '--optimum': nothing else of 'audit' searches"
-            }
-            ValueFault::CsvWithoutOptimum => {
-                "'--csv' can't be used without '--optimum': nothing else of 'audit' is a table"
-            }
-            ValueFault::StatusBesideOptimum => {
-                "'--ready-by-status' can't be used with '--optimum': pieces are planned by the stated times"
-            }
-        }
-    }
+    /// An option wants another value: what it wants.
+    Wants(&'static str, &'static str),
+    /// An option can't be used with another.
+    Beside(&'static str, &'static str),
+    /// .. or not without it.
+    Without(&'static str, &'static str),
 }
 
 /// The usual limit of searches whose plans may be other than optimal, the plain one excepted; it bounds their time and memory.
 const USUAL: u32 = 65_536;
 
 /// As many workers as a search may have.
-const MOST_WORKERS: u64 = 8;
+const MOST_WORKERS: u32 = 8;
 
-/// As many thousandths as a plan may end later.
-
-/// The limit that is named, in its range.
-fn read_limit(matches: &ArgMatches<'_>) -> Result<Option<u32>, ValueFault>
-    ensures range { IfOk result (λ limit. IfSome limit (λ n. (1 ≤ n) × (n ≤ 1048576))) }
-    ensures value { IfOk result (λ limit. spec.IsNamedLimit (first_value (found_of matches.now) (codes "limit")) limit) }
-    ensures refused { IfErr result (λ fault. spec.IsOutside 1 1048576 (first_value (found_of matches.now) (codes "limit"))) }
+/// The number that an option gives, 1 to `most`, or the usual one where none is given.
+fn number_of(
+    used: &ArgMatches<'_>,
+    option: &str,
+    most: u32,
+    usual: u32,
+    fault: ValueFault,
+) -> Result<u32, ValueFault>
+    requires some { 1 ≤ usual }
+    requires few { usual ≤ most }
+    ensures range { IfOk result (λ n. (1 ≤ n) × (n ≤ most)) }
+    ensures value { IfOk result (λ n. spec.IsNumber most usual (first_value (found_of used.now) option.now) n) }
+    ensures refused { IfErr result (λ _. spec.IsOutside most (first_value (found_of used.now) option.now)) }
 {
-    let Some(text) = matches.get_str("limit") else {
-        return Ok(None);
+    let Some(text) = used.get_str(option) else {
+        return Ok(usual);
     };
-    match number(text.as_bytes(), 1, u64::from(MOST)) {
-        Ok(limit) => Ok(Some(limit as u32)),
-        Err(_) => Err(ValueFault::Limit),
+    match number(text.as_bytes(), 1, u64::from(most)) {
+        Ok(given) => Ok(given as u32),
+        Err(_) => Err(fault),
     }
 }
 
-/// A limit in its range, or the usual one where none is named.
-fn limit_of(matches: &ArgMatches<'_>, usual: u32) -> Result<u32, ValueFault>
+/// The limit that is given, or the usual one.
+fn limit_of(used: &ArgMatches<'_>, usual: u32) -> Result<u32, ValueFault>
     requires some { 1 ≤ usual }
     requires few { usual ≤ 1048576 }
     ensures range { IfOk result (λ n. (1 ≤ n) × (n ≤ 1048576)) }
-    ensures value { IfOk result (λ n. spec.IsLimit usual (first_value (found_of matches.now) (codes "limit")) n) }
-    ensures refused { IfErr result (λ fault. spec.IsOutside 1 1048576 (first_value (found_of matches.now) (codes "limit"))) }
+    ensures value { IfOk result (λ n. spec.IsLimit usual (first_value (found_of used.now) (codes "limit")) n) }
+    ensures refused { IfErr result (λ _. spec.IsOutside 1048576 (first_value (found_of used.now) (codes "limit"))) }
 {
-    let named = read_limit(matches)?;
-    Ok(named.unwrap_or(usual))
+    let fault = ValueFault::Wants("--limit", "a number from 1 to 1048576, digits alone");
+    number_of(used, "limit", MOST, usual, fault)
 }
 
-/// A number of workers in its range, or one where none is named; none may be named of a search that remembers states.
-fn workers_of(matches: &ArgMatches<'_>, remember: bool) -> Result<usize, ValueFault>
+/// The workers that are given, or one.
+fn workers_of(used: &ArgMatches<'_>) -> Result<usize, ValueFault>
     ensures range { IfOk result (λ n. (1 ≤ n) × (n ≤ 8)) }
-    ensures value { IfOk result (λ n. spec.IsWorkers remember (first_value (found_of matches.now) (codes "workers")) n) }
+    ensures value { IfOk result (λ n. spec.IsWorkers (first_value (found_of used.now) (codes "workers")) n) }
+    ensures refused { IfErr result (λ _. spec.IsOutside 8 (first_value (found_of used.now) (codes "workers"))) }
 {
-    let Some(text) = matches.get_str("workers") else {
-        return Ok(1);
-    };
-    if remember {
-        return Err(ValueFault::WorkersBesideRemember);
-    }
-    match number(text.as_bytes(), 1, MOST_WORKERS) {
-        Ok(workers) => Ok(workers as usize),
-        Err(_) => Err(ValueFault::Workers),
-    }
+    let fault = ValueFault::Wants("--workers", "a number from 1 to 8, digits alone");
+    let workers = number_of(used, "workers", MOST_WORKERS, 1, fault)?;
+    Ok(workers as usize)
 }
 
 /// Whether a flag is given.
-fn is_given(matches: &ArgMatches<'_>, flag: &str) -> bool
-    ensures { result ≡ spec.is_given (first_value (found_of matches.now) flag.now) }
+fn is_given(used: &ArgMatches<'_>, flag: &str) -> bool
+    ensures { result ≡ spec.is_given (first_value (found_of used.now) flag.now) }
 {
-    match matches.get_str(flag) {
+    match used.get_str(flag) {
         Some(text) => text == "true",
         None => false,
     }
 }
 
-/// Whether an option is given, with whichever value.
-fn has_value(matches: &ArgMatches<'_>, option: &str) -> bool
-    ensures { result ≡ is_some (first_value (found_of matches.now) option.now) }
+/// Refuses an option with a value where another stands beside it.
+fn leave_out(used: &ArgMatches<'_>, option: &str, fault: ValueFault) -> Result<(), ValueFault>
+    ensures { OnOk result (first_value (found_of used.now) option.now ≡ None) }
 {
-    matches.get_str(option).is_some()
+    match used.get_str(option) {
+        None => Ok(()),
+        Some(_) => Err(fault),
+    }
 }
 
 /// What is to be printed of a plan.
-fn output_of(matches: &ArgMatches<'_>) -> Output
-    ensures { result ≡ spec.output_of (spec.is_given (first_value (found_of matches.now) (codes "trace"))) (spec.is_given (first_value (found_of matches.now) (codes "requests"))) }
+fn output_of(used: &ArgMatches<'_>) -> Output
+    ensures { result ≡ spec.output_of (spec.is_given (first_value (found_of used.now) (codes "trace"))) (spec.is_given (first_value (found_of used.now) (codes "requests"))) }
 {
-    let trace = is_given(matches, "trace");
-    if is_given(matches, "requests") {
+    let trace = is_given(used, "trace");
+    if is_given(used, "requests") {
         Output::Trace { requests: true }
     } else if trace {
         Output::Trace { requests: false }
@@ -169,85 +116,46 @@ fn output_of(matches: &ArgMatches<'_>) -> Output
     }
 }
 
-/// The planner that the flags `remember` and `within` name.
-fn planner_of(remember: bool, within: bool) -> Result<By, ValueFault>
-    ensures { IfOk result (λ planner. spec.planner_of remember within ≡ Some planner) }
+/// The way to plan that is named, the plain one where none is; `ways` are those that a command takes.
+fn by_of(used: &ArgMatches<'_>, ways: &'static str) -> Result<By, ValueFault>
+    ensures { IfOk result (λ by. spec.IsBy (first_value (found_of used.now) (codes "by")) by) }
 {
-    match (within, remember) {
-        (false, false) => Ok(By::Plain),
-        (false, true) => Ok(By::Within),
-        (true, false) => Ok(By::Within),
-        (true, true) => Err(ValueFault::WithinBesideRemember),
+    match used.get_str("by") {
+        None => Ok(By::Plain),
+        Some("plain") => Ok(By::Plain),
+        Some("within") => Ok(By::Within),
+        Some("rule") => Ok(By::Rule),
+        Some(_) => Err(ValueFault::Wants("--by", ways)),
     }
 }
 
-/// The limit of a planner where none is named.
-fn usual_for(planner: By) -> u32
-    ensures value { result ≡ spec.usual_for planner }
-    ensures some { 1 ≤ result }
-    ensures few { result ≤ 1048576 }
+/// The limit of a way to plan.
+fn limit_by(used: &ArgMatches<'_>, by: By) -> Result<u32, ValueFault>
+    ensures range { IfOk result (λ n. (1 ≤ n) × (n ≤ 1048576)) }
+    ensures value { IfOk result (λ n. spec.IsLimitBy by (first_value (found_of used.now) (codes "limit")) n) }
 {
-    match planner {
-        By::Plain | By::Rule => MOST,
-        By::Within => USUAL,
+    match by {
+        By::Plain => limit_of(used, MOST),
+        By::Within => limit_of(used, USUAL),
+        By::Rule => {
+            leave_out(used, "limit", ValueFault::Beside("--limit", "--by rule"))?;
+            Ok(MOST)
+        }
     }
 }
 
-/// Whether one worker alone plans so.
-fn is_alone(by: By, early: bool) -> bool
-    ensures { result ≡ spec.is_alone by early }
+/// The workers of a way to plan.
+fn workers_by(used: &ArgMatches<'_>, by: By) -> Result<usize, ValueFault>
+    ensures range { IfOk result (λ n. (1 ≤ n) × (n ≤ 8)) }
+    ensures value { IfOk result (λ n. spec.IsWorkersBy by (first_value (found_of used.now) (codes "workers")) n) }
 {
-    early || by != By::Plain
-}
-
-/// The command to plan so.
-fn plan_command(by: By, early: bool, limit: u32, output: Output) -> Command
-    ensures command { result ≡ spec.plan_command by early limit output }
-    ensures limited { 1 ≤ limit → limit ≤ 1048576 → IsLimited result }
-{
-    match (by, early, output) {
-        (By::Plain, false, Output::Plan) => Command::Plan {
-            limit,
-            trace: false,
-        },
-        (By::Plain, false, Output::Trace { requests: false }) => Command::Plan {
-            limit,
-            trace: true,
-        },
-        _ => Command::PlanBy(PlanOptions {
-            by,
-            early,
-            limit,
-            output,
-        }),
-    }
-}
-
-/// Whether an option of `plan` is given that names a search, or bounds one.
-fn names_search(used: &ArgMatches<'_>) -> bool
-    ensures { result ≡ spec.names_search (first_value (found_of used.now)) }
-{
-    has_value(used, "limit")
-        || has_value(used, "workers")
-        || is_given(used, "remember")
-        || is_given(used, "within")
-        || is_given(used, "early")
-}
-
-/// What `plan --rule` with these arguments names.
-fn plan_by_rule_of(used: &ArgMatches<'_>) -> Result<Named, ValueFault>
-    requires { spec.given (codes "rule") (rows_of (found_of used.now)) ≡ true }
-    ensures range { IfOk result (λ named. spec.IsInRange named) }
-    ensures named { IfOk result (λ named. spec.IsNamed named (codes "plan") (rows_of (found_of used.now))) }
-{
-    let searches = names_search(used);
-    if searches {
-        return Err(ValueFault::SearchBesideRule);
-    }
-    let output = output_of(used);
-    let command = plan_command(By::Rule, false, MOST, output);
-    let workers = 1;
-    Ok(Named::Problem { command, workers })
+    let way = match by {
+        By::Plain => return workers_of(used),
+        By::Within => "--by within",
+        By::Rule => "--by rule",
+    };
+    leave_out(used, "workers", ValueFault::Beside("--workers", way))?;
+    Ok(1)
 }
 
 /// What `plan` with these arguments names.
@@ -255,37 +163,27 @@ fn plan_of(used: &ArgMatches<'_>) -> Result<Named, ValueFault>
     ensures range { IfOk result (λ named. spec.IsInRange named) }
     ensures named { IfOk result (λ named. spec.IsNamed named (codes "plan") (rows_of (found_of used.now))) }
 {
-    let rule = is_given(used, "rule");
-    if rule {
-        return plan_by_rule_of(used);
-    }
+    let by = by_of(used, "'plain', 'within' or 'rule'")?;
     let early = is_given(used, "early");
-    if early && has_value(used, "workers") {
-        return Err(ValueFault::WorkersBesideEarly);
-    }
-    let remember = is_given(used, "remember");
-    let within = is_given(used, "within");
-    let planner = planner_of(remember, within)?;
-    let limit = limit_of(used, usual_for(planner))?;
-    let workers = workers_of(used, is_alone(planner, early))?;
+    let limit = limit_by(used, by)?;
+    let workers = workers_by(used, by)?;
     let output = output_of(used);
-    let command = plan_command(planner, early, limit, output);
+    let options = PlanOptions { by, early, limit, output };
+    let command = Command::PlanBy(options);
     Ok(Named::Problem { command, workers })
 }
 
-/// The command to check so, by the flags `legal`, `within` and `remember`.
-fn check_command(legal: bool, within: bool, remember: bool) -> Result<Command, ValueFault>
-    ensures command { IfOk result (λ command. spec.check_command legal within remember ≡ Some command) }
+/// The command to check plan texts as the way that is named makes them.
+fn check_by(used: &ArgMatches<'_>) -> Result<Command, ValueFault>
+    requires { spec.given (codes "legal") (rows_of (found_of used.now)) ≡ false }
+    ensures command { IfOk result (λ command. spec.IsProblem command 1 (codes "check") (rows_of (found_of used.now))) }
     ensures limited { IfOk result IsLimited }
 {
-    match (legal, within, remember) {
-        (true, _, true) => Err(ValueFault::RememberBesideLegal),
-        (true, true, false) => Err(ValueFault::WithinBesideLegal),
-        (true, false, false) => Ok(Command::Legal),
-        (false, true, true) => Err(ValueFault::WithinBesideRemember),
-        (false, true, false) => Ok(Command::CheckBy(By::Within)),
-        (false, false, true) => Ok(Command::CheckBy(By::Within)),
-        (false, false, false) => Ok(Command::Check),
+    let ways = "'plain' or 'within'";
+    match by_of(used, ways)? {
+        By::Plain => Ok(Command::Check),
+        By::Within => Ok(Command::CheckWithin),
+        By::Rule => Err(ValueFault::Wants("--by", ways)),
     }
 }
 
@@ -294,126 +192,53 @@ fn check_of(used: &ArgMatches<'_>) -> Result<Named, ValueFault>
     ensures range { IfOk result (λ named. spec.IsInRange named) }
     ensures named { IfOk result (λ named. spec.IsNamed named (codes "check") (rows_of (found_of used.now))) }
 {
-    let remember = is_given(used, "remember");
-    let within = is_given(used, "within");
     let legal = is_given(used, "legal");
-    let command = check_command(legal, within, remember)?;
-    Ok(Named::Problem {
-        command,
-        workers: 1,
-    })
+    let command = if legal {
+        leave_out(used, "by", ValueFault::Beside("--by", "--legal"))?;
+        Command::Legal
+    } else {
+        check_by(used)?
+    };
+    let workers = 1;
+    Ok(Named::Problem { command, workers })
 }
 
-/// The planner of a run by this search, whose plans are made better.
-fn run_planner(search: By) -> ChosenPlanner
-    ensures { result ≡ spec.run_planner search }
+/// The way to run that is named.
+fn run_by(used: &ArgMatches<'_>) -> Result<RunBy, ValueFault>
+    ensures { IfOk result (λ by. spec.IsRunBy (first_value (found_of used.now) (codes "by")) by) }
 {
-    ChosenPlanner {
-        by: search,
-        early: Some(Early::default()),
+    match used.get_str("by") {
+        Some("next") => Ok(RunBy::Next),
+        _ => {
+            let by = by_of(used, "'plain', 'within', 'rule' or 'next'")?;
+            Ok(RunBy::Plans(by))
+        }
     }
 }
 
-/// The planner of a run by the rule, whose plans stay as the rule makes them.
-fn rule_planner() -> ChosenPlanner
-    ensures { result ≡ spec.rule_planner }
+/// Its limit.
+fn run_limit(used: &ArgMatches<'_>, by: RunBy) -> Result<u32, ValueFault>
+    ensures range { IfOk result (λ n. (1 ≤ n) × (n ≤ 1048576)) }
+    ensures value { IfOk result (λ n. spec.IsRunLimit by (first_value (found_of used.now) (codes "limit")) n) }
 {
-    ChosenPlanner {
-        by: By::Rule,
-        early: None,
-    }
-}
-
-/// Whether an option is given, whose one value is that word.
-fn has_word(
-    matches: &ArgMatches<'_>,
-    option: &str,
-    word: &str,
-    other: ValueFault,
-) -> Result<bool, ValueFault>
-    ensures { IfOk result (λ given. spec.IsWord word.now (first_value (found_of matches.now) option.now) given) }
-{
-    match matches.get_str(option) {
-        None => Ok(false),
-        Some(text) if text == word => Ok(true),
-        Some(_) => Err(other),
+    match by {
+        RunBy::Plans(by) => limit_by(used, by),
+        RunBy::Next => {
+            leave_out(used, "limit", ValueFault::Beside("--limit", "--by next"))?;
+            Ok(MOST)
+        }
     }
 }
 
 /// Whether a run has a clock.
-fn clock_of(matches: &ArgMatches<'_>) -> Result<bool, ValueFault>
-    ensures { IfOk result (λ clocked. spec.IsClock (first_value (found_of matches.now) (codes "clock")) clocked) }
+fn clock_of(used: &ArgMatches<'_>) -> Result<bool, ValueFault>
+    ensures { IfOk result (λ clocked. spec.IsClock (first_value (found_of used.now) (codes "clock")) clocked) }
 {
-    has_word(matches, "clock", "simulated", ValueFault::Clock)
-}
-
-/// Whether an option of `run` is given that names a search, or bounds one.
-fn names_run_search(used: &ArgMatches<'_>) -> bool
-    ensures { result ≡ spec.names_run_search (first_value (found_of used.now)) }
-{
-    is_given(used, "remember")
-        || is_given(used, "within")
-        || has_value(used, "limit")
-}
-
-/// What `run --rule` with these arguments names.
-fn run_by_rule_of(used: &ArgMatches<'_>) -> Result<Named, ValueFault>
-    requires rule { spec.given (codes "rule") (rows_of (found_of used.now)) ≡ true }
-    requires plans { first_of (codes "by") (rows_of (found_of used.now)) ≡ None }
-    ensures range { IfOk result (λ named. spec.IsInRange named) }
-    ensures named { IfOk result (λ named. spec.IsNamed named (codes "run") (rows_of (found_of used.now))) }
-{
-    let searches = names_run_search(used);
-    if searches {
-        return Err(ValueFault::RunSearchBesideRule);
+    match used.get_str("clock") {
+        None => Ok(false),
+        Some("simulated") => Ok(true),
+        Some(_) => Err(ValueFault::Wants("--clock", "'simulated'")),
     }
-    let clocked = clock_of(used)?;
-    Ok(Named::Run {
-        planner: rule_planner(),
-        limit: MOST,
-        clocked,
-    })
-}
-
-/// What `run` without `--by` and with these arguments names.
-fn planned_run_of(used: &ArgMatches<'_>) -> Result<Named, ValueFault>
-    requires { first_of (codes "by") (rows_of (found_of used.now)) ≡ None }
-    ensures range { IfOk result (λ named. spec.IsInRange named) }
-    ensures named { IfOk result (λ named. spec.IsNamed named (codes "run") (rows_of (found_of used.now))) }
-{
-    let rule = is_given(used, "rule");
-    if rule {
-        return run_by_rule_of(used);
-    }
-    let remembers = is_given(used, "remember");
-    let within = is_given(used, "within");
-    let search = planner_of(remembers, within)?;
-    let limit = read_limit(used)?;
-    let clocked = clock_of(used)?;
-    let limit = limit.unwrap_or(usual_for(search));
-    Ok(Named::Run {
-        planner: run_planner(search),
-        limit,
-        clocked,
-    })
-}
-
-/// What `run --by next` with these arguments names.
-fn next_run_of(used: &ArgMatches<'_>) -> Result<Named, ValueFault>
-    requires { first_of (codes "by") (rows_of (found_of used.now)) ≡ Some (codes "next") }
-    ensures range { IfOk result (λ named. spec.IsInRange named) }
-    ensures named { IfOk result (λ named. spec.IsNamed named (codes "run") (rows_of (found_of used.now))) }
-{
-    let rule = is_given(used, "rule");
-    if rule {
-        return Err(ValueFault::PlannerBesideNext);
-    }
-    let searches = names_run_search(used);
-    if searches {
-        return Err(ValueFault::PlannerBesideNext);
-    }
-    let clocked = clock_of(used)?;
-    Ok(Named::RunNext { clocked })
 }
 
 /// What `run` with these arguments names.
@@ -421,12 +246,15 @@ fn run_of(used: &ArgMatches<'_>) -> Result<Named, ValueFault>
     ensures range { IfOk result (λ named. spec.IsInRange named) }
     ensures named { IfOk result (λ named. spec.IsNamed named (codes "run") (rows_of (found_of used.now))) }
 {
-    let next = has_word(used, "by", "next", ValueFault::By)?;
-    if next {
-        next_run_of(used)
-    } else {
-        planned_run_of(used)
+    let by = run_by(used)?;
+    let early = is_given(used, "early");
+    if early && by == RunBy::Next {
+        return Err(ValueFault::Beside("--early", "--by next"));
     }
+    let limit = run_limit(used, by)?;
+    let clocked = clock_of(used)?;
+    let options = RunOptions { by, early, limit, clocked };
+    Ok(Named::Run { options })
 }
 
 /// How a log is judged, by the flags that are given.
@@ -447,9 +275,9 @@ fn audit_optimum_of(used: &ArgMatches<'_>) -> Result<Named, ValueFault>
 {
     let AuditOptions { all, by_status } = audit_options(used);
     if by_status {
-        return Err(ValueFault::StatusBesideOptimum);
+        return Err(ValueFault::Beside("--ready-by-status", "--optimum"));
     }
-    let nodes = limit_of(used, usual_for(By::Within))?;
+    let nodes = limit_of(used, USUAL)?;
     let limit = Limit::of(nodes).unwrap();
     let csv = is_given(used, "csv");
     let options = GapOptions { all, limit, csv };
@@ -465,11 +293,9 @@ fn audit_of(used: &ArgMatches<'_>) -> Result<Named, ValueFault>
     if optimum {
         return audit_optimum_of(used);
     }
-    if has_value(used, "limit") {
-        return Err(ValueFault::LimitWithoutOptimum);
-    }
+    leave_out(used, "limit", ValueFault::Without("--limit", "--optimum"))?;
     if is_given(used, "csv") {
-        return Err(ValueFault::CsvWithoutOptimum);
+        return Err(ValueFault::Without("--csv", "--optimum"));
     }
     let options = audit_options(used);
     Ok(Named::Audit { options })
@@ -549,14 +375,37 @@ pub fn read_words<'a>(alloc: Global, words: &'a [String]) -> Result<Parsed<'a>, 
         named,
         script: used.get_str("FILE"),
         plan: second_file(used),
+        trace_file: used.get_str("trace-file"),
         quiet: is_given(used, "quiet"),
     })
 }
 
+/// What is wrong with a command, an option or its value.
+fn describe_fault(alloc: Global, fault: ValueFault) -> Result<String, AllocError> {
+    match fault {
+        ValueFault::NoCommand => String::from_str(
+            alloc,
+            "a command was expected: 'plan', 'check', 'audit', 'run' or 'device'",
+        ),
+        ValueFault::Wants(option, what) => format!(in alloc; "'{option}' wants {what}"),
+        ValueFault::Beside(option, other) => {
+            format!(in alloc; "'{option}' can't be used with '{other}'")
+        }
+        ValueFault::Without(option, other) => {
+            format!(in alloc; "'{option}' can't be used without '{other}'")
+        }
+    }
+}
+
 /// A refusal that says what is wrong, and how to learn more.
+fn write_refusal(alloc: Global, fault: ValueFault) -> Result<String, AllocError> {
+    let what = describe_fault(alloc, fault)?;
+    format!(in alloc; "error: {what}\n\nFor more information, try '--help'.\n")
+}
+
+/// .. as an answer to the words.
 fn refuse(alloc: Global, fault: ValueFault) -> Untaken {
-    let what = fault.text();
-    match format!(in alloc; "error: {what}\n\nFor more information, try '--help'.\n") {
+    match write_refusal(alloc, fault) {
         Ok(text) => Untaken::Refused(text),
         Err(AllocError) => Untaken::Memory,
     }

@@ -47,6 +47,14 @@ fn quiet_flag<'a>(alloc: Global) -> Arg<'a>
     flag(alloc, "quiet", help::QUIET).short('q')
 }
 
+/// `--trace LOG`, of `run`
+fn trace_file<'a>(alloc: Global) -> Arg<'a>
+    ensures rule { rule_of result ≡ spec.trace_file }
+    ensures local { result.global ≡ false }
+{
+    value(alloc, "trace-file", "LOG", help::TRACE_RUN).long("trace")
+}
+
 /// The name of a file.
 fn file<'a>(alloc: Global, name: &'a str, about: &'a str) -> Arg<'a>
     ensures rule { rule_of result ≡ spec.file name.now }
@@ -73,55 +81,37 @@ fn with<'a>(command: Command<'a>, arg: Arg<'a>) -> Result<Command<'a>, AllocErro
     command.arg(arg)
 }
 
-/// `plan [--limit N] [--trace] [--requests]`
-fn plan_output<'a>(alloc: Global) -> Result<Command<'a>, AllocError>
-    ensures app { IfOk result (λ a. app_of a ≡ spec.plan_output) }
-    ensures local { IfOk result (λ a. (fields_of a).has_globals ≡ false) }
-{
-    let plan = command(alloc, "plan", help::PLAN, help::PLAN_MORE);
-    let plan = with(plan, number(alloc, "limit", help::LIMIT))?;
-    let plan = with(plan, flag(alloc, "trace", help::TRACE))?;
-    with(plan, flag(alloc, "requests", help::REQUESTS))
-}
-
-/// .. with `[--workers N] [--remember] [--within] [--rule]`
+/// `plan [--by WAY] [--early] [--limit N] [--workers N]`
 fn plan_search<'a>(alloc: Global) -> Result<Command<'a>, AllocError>
     ensures app { IfOk result (λ a. app_of a ≡ spec.plan_search) }
     ensures local { IfOk result (λ a. (fields_of a).has_globals ≡ false) }
 {
-    let plan = plan_output(alloc)?;
-    let plan = with(plan, number(alloc, "workers", help::WORKERS))?;
-    let plan = with(plan, flag(alloc, "remember", help::REMEMBER_PLAN))?;
-    let plan = with(plan, flag(alloc, "within", help::WITHIN_PLAN))?;
-    with(plan, flag(alloc, "rule", help::RULE_PLAN))
+    let plan = command(alloc, "plan", help::PLAN, help::PLAN_MORE);
+    let plan = with(plan, value(alloc, "by", "WAY", help::BY_PLAN))?;
+    let plan = with(plan, flag(alloc, "early", help::EARLY_PLAN))?;
+    let plan = with(plan, number(alloc, "limit", help::LIMIT))?;
+    with(plan, number(alloc, "workers", help::WORKERS))
 }
 
-/// .. with `[--early]`
-fn plan_early<'a>(alloc: Global) -> Result<Command<'a>, AllocError>
-    ensures app { IfOk result (λ a. app_of a ≡ spec.plan_early) }
-    ensures local { IfOk result (λ a. (fields_of a).has_globals ≡ false) }
-{
-    let plan = plan_search(alloc)?;
-    with(plan, flag(alloc, "early", help::EARLY))
-}
-
-/// .. with `[--quiet] [FILE]`
+/// .. with `[--trace] [--requests] [--quiet] [FILE]`
 fn plan<'a>(alloc: Global) -> Result<Command<'a>, AllocError>
     ensures app { IfOk result (λ a. app_of a ≡ spec.plan) }
     ensures local { IfOk result (λ a. (fields_of a).has_globals ≡ false) }
 {
-    let plan = with(plan_early(alloc)?, quiet_flag(alloc))?;
+    let plan = plan_search(alloc)?;
+    let plan = with(plan, flag(alloc, "trace", help::TRACE))?;
+    let plan = with(plan, flag(alloc, "requests", help::REQUESTS))?;
+    let plan = with(plan, quiet_flag(alloc))?;
     with(plan, file(alloc, "FILE", help::FILE))
 }
 
-/// `check [--remember] [--within] [--legal]`
+/// `check [--by WAY] [--legal]`
 fn check_judging<'a>(alloc: Global) -> Result<Command<'a>, AllocError>
     ensures app { IfOk result (λ a. app_of a ≡ spec.check_judging) }
     ensures local { IfOk result (λ a. (fields_of a).has_globals ≡ false) }
 {
     let check = command(alloc, "check", help::CHECK, help::CHECK_MORE);
-    let check = with(check, flag(alloc, "remember", help::REMEMBER_CHECK))?;
-    let check = with(check, flag(alloc, "within", help::WITHIN_CHECK))?;
+    let check = with(check, value(alloc, "by", "WAY", help::BY_CHECK))?;
     with(check, flag(alloc, "legal", help::LEGAL))
 }
 
@@ -130,38 +120,31 @@ fn check<'a>(alloc: Global) -> Result<Command<'a>, AllocError>
     ensures app { IfOk result (λ a. app_of a ≡ spec.check) }
     ensures local { IfOk result (λ a. (fields_of a).has_globals ≡ false) }
 {
-    let check = with(check_judging(alloc)?, quiet_flag(alloc))?;
+    let check = check_judging(alloc)?;
+    let check = with(check, quiet_flag(alloc))?;
     let check = with(check, file(alloc, "FILE", help::FILE))?;
     with(check, file(alloc, "PLAN", help::PLAN_FILE))
 }
 
-/// `run [--limit N] [--remember] [--within]`
-fn run_search<'a>(alloc: Global) -> Result<Command<'a>, AllocError>
-    ensures app { IfOk result (λ a. app_of a ≡ spec.run_search) }
-    ensures local { IfOk result (λ a. (fields_of a).has_globals ≡ false) }
-{
-    let run = command(alloc, "run", help::RUN, help::RUN_MORE);
-    let run = with(run, number(alloc, "limit", help::LIMIT_RUN))?;
-    let run = with(run, flag(alloc, "remember", help::REMEMBER_RUN))?;
-    with(run, flag(alloc, "within", help::WITHIN_RUN))
-}
-
-/// .. with `[--rule] [--by WAY]`
+/// `run [--by WAY] [--early] [--limit N] [--clock CLOCK]`
 fn run_planning<'a>(alloc: Global) -> Result<Command<'a>, AllocError>
     ensures app { IfOk result (λ a. app_of a ≡ spec.run_planning) }
     ensures local { IfOk result (λ a. (fields_of a).has_globals ≡ false) }
 {
-    let run = with(run_search(alloc)?, flag(alloc, "rule", help::RULE_RUN))?;
-    with(run, value(alloc, "by", "WAY", help::BY_RUN))
+    let run = command(alloc, "run", help::RUN, help::RUN_MORE);
+    let run = with(run, value(alloc, "by", "WAY", help::BY_RUN))?;
+    let run = with(run, flag(alloc, "early", help::EARLY_RUN))?;
+    let run = with(run, number(alloc, "limit", help::LIMIT))?;
+    with(run, value(alloc, "clock", "CLOCK", help::CLOCK_RUN))
 }
 
-/// .. with `[--clock CLOCK] [--quiet] [FILE]`
+/// .. with `[--trace LOG] [--quiet] [FILE]`
 fn run<'a>(alloc: Global) -> Result<Command<'a>, AllocError>
     ensures app { IfOk result (λ a. app_of a ≡ spec.run) }
     ensures local { IfOk result (λ a. (fields_of a).has_globals ≡ false) }
 {
-    let clock = value(alloc, "clock", "CLOCK", help::CLOCK_RUN);
-    let run = with(run_planning(alloc)?, clock)?;
+    let run = run_planning(alloc)?;
+    let run = with(run, trace_file(alloc))?;
     let run = with(run, quiet_flag(alloc))?;
     with(run, file(alloc, "FILE", help::FILE))
 }

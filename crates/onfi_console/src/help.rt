@@ -7,55 +7,35 @@ pub const PROGRAM: &str =
 
 pub const PROGRAM_MORE: &str = "\
 The script is read from FILE, or from standard input; the answer goes to standard output, messages to standard error.
-
-Statuses:
-  0  planned, accepted, legal, described, or each operation has its reply
-  1  the script is refused
-  2  the plan text or its certificate is refused
-  3  a channel stopped or was left unfinished
-  4  memory was refused
-  5  the command line is refused, or asks for help
-  6  as many nodes were opened as may be, and the search isn't over
-  7  a read or write failed
-  8  legal, and proved to end at most so much later than the optimum
+Statuses: 0 done; 1 the script is refused; 2 the plan text, its certificate or the log is; 3 a channel stopped or was left
+unfinished; 4 memory was refused; 5 the command line is, or asks for help; 6 the search isn't over; 7 a read or write failed;
+8 legal, and proved to end at most so much later than the optimum. Formats of scripts and answers: docs/FORMATS.md
 
 Example:
   onfi_sim plan examples/batch.onfi > batch.plan
-  onfi_sim check examples/batch.onfi batch.plan
-
-Formats of scripts and answers: docs/FORMATS.md";
+  onfi_sim check examples/batch.onfi batch.plan";
 
 pub const PLAN: &str =
     "Makes the bus schedule that ends soonest, with a certificate that nothing ends sooner.";
 
 pub const PLAN_MORE: &str = "\
-Input: a script of rows up to the line 'end': a device (shape and spans rows, or page and sheet rows), the state of bus
-and LUNs (bus, free, running), and up to eight requests (want), of which reads may put out some sectors of their page
-(sectorpost or sector, sectors, runsectors).
-Output: the plan text: its finish in ns, the starts of each group's phases, the certificate. With --within or --rule a line
-'below N' where the plan isn't proved optimal: nothing ends before N ns. With --early requests end early by their weights
-(weight), which else mean nothing.
-
-Statuses: 0 planned; 1 the script is refused; 4 memory was refused; 5 the command line is refused; 6 the search isn't over
-within the limit; 7 a read or write failed.
+Input: a script of rows up to the line 'end': a device, the state of bus and LUNs, up to eight requests.
+Output: the plan text: its finish in ns, the starts of each group's phases, the certificate; with --by within or rule a line
+'below N' where the plan may not be optimal: nothing ends before N ns.
+Statuses: 0 planned; 1 script refused; 4 memory refused; 5 words refused; 6 search not over; 7 a read or write failed.
 
 Example:
-  onfi_sim plan examples/batch.onfi
-  onfi_sim plan --remember --requests examples/batch.onfi
-  onfi_sim plan --early examples/batch.onfi
-  onfi_sim plan --rule examples/batch.onfi";
+  onfi_sim plan --by within --early examples/batch.onfi";
 
 pub const CHECK: &str =
     "Says whether a plan text is legal, ends when it says, and is optimal by its certificate.";
 
 pub const CHECK_MORE: &str = "\
-Input: a script up to its line 'end', and a plan text behind that line or in the file PLAN. Whoever made the plan isn't
-trusted.
-Output: 'accepted N', the finish in ns, or what is wrong; with --within also 'within N M': it ends at N ns, and nothing
-ends before M; with --legal 'legal N', the time at which the schedule ends.
-
-Statuses: 0 accepted or legal; 1 the script is refused; 2 the plan text or its certificate is refused; 4 memory was
-refused; 5 the command line is refused; 7 a read or write failed; 8 'within'.
+Input: a script up to its line 'end', and a plan text behind that line or in the file PLAN. Whoever made it isn't trusted.
+Output: 'accepted N', the finish in ns, or what is wrong; by 'within' also 'within N M': it ends at N ns, and nothing ends
+before M; with --legal 'legal N', the time at which the schedule ends.
+Statuses: 0 accepted or legal; 1 script refused; 2 plan text or certificate refused; 4 memory refused; 5 words refused;
+7 a read or write failed; 8 'within'.
 
 Example:
   onfi_sim plan examples/batch.onfi > batch.plan
@@ -66,30 +46,22 @@ pub const RUN: &str =
 
 pub const RUN_MORE: &str = "\
 Input: a script of page and sheet rows, channels, hosts and operations (op, opread), up to the line 'end'.
-Output: a line for each reply, by host, channel and number, then 'closed'. With --clock each reply has its moment in ns, and
-lines tell how long each bus was busy and how long reads, programs and erases took: how many, their mean, most of 99 of 100.
-
-Statuses: 0 each operation has its reply; 1 the script is refused; 3 a channel stopped or was left unfinished; 4 memory
-was refused; 5 the command line is refused; 6 a plan wasn't over within the limit; 7 a read or write failed.
+Output: a line for each reply, by host, channel and number, then 'closed'; with --clock each reply has its moment in ns, and
+lines say how long buses were busy and operations took.
+Statuses: 0 each operation has its reply; 1 script refused; 3 a channel stopped or was left unfinished; 4 memory refused;
+5 words refused; 6 a plan wasn't over within the limit; 7 a read or write failed.
 
 Example:
-  onfi_sim run examples/two-hosts.onfi
-  onfi_sim run --remember examples/two-hosts.onfi
-  onfi_sim run --within --limit 200 examples/two-hosts.onfi
-  onfi_sim run --rule examples/two-hosts.onfi
-  onfi_sim run --by next examples/two-hosts.onfi
-  onfi_sim run --clock simulated examples/two-hosts.onfi";
+  onfi_sim run --by next --clock simulated examples/two-hosts.onfi";
 
 pub const DEVICE: &str =
     "Says what a parameter page tells of its device, and how long each kind of operation takes there.";
 
 pub const DEVICE_MORE: &str = "\
-Input: a script as for 'plan', with page rows, and with sheet rows where lengths are to be told, up to the line 'end'.
-Output: a line NAME,N for each field of the page that is looked at, times in ns; then the rows 'shape' and 'spans' that tell of
-the same device, or 'refused,NAME': why none can be planned for.
-
-Statuses: 0 described; 1 the script is refused, or holds no page; 4 memory was refused; 5 the command line is refused; 7 a read
-or write failed.
+Input: a script as for 'plan', with page rows, and with sheet rows where lengths are asked for, up to the line 'end'.
+Output: a line NAME,N for each field of the page that is looked at, times in ns; then the rows 'shape' and 'spans' that say the
+same of the device, or 'refused,NAME': why none can be planned for.
+Statuses: 0 described; 1 script refused, or it holds no page; 4 memory refused; 5 words refused; 7 a read or write failed.
 
 Example:
   onfi_sim device examples/program-by-page.onfi";
@@ -120,48 +92,34 @@ Example:
   onfi_sim audit examples/batch.onfi batch.log
   onfi_sim audit --optimum examples/batch.onfi batch.log";
 
+pub const BY_PLAN: &str =
+    "'plain': the optimum; 'within': the best plan within the limit; 'rule': no search, in microseconds [plain]";
+
+pub const BY_CHECK: &str =
+    "'plain': plan texts as 'plan' prints them; 'within': those of 'plan --by within' and '--by rule' [plain]";
+
+pub const BY_RUN: &str =
+    "Plan batches by 'plain', 'within' or 'rule' as 'plan' does; 'next': plan none, take the next phase [plain]";
+
+pub const EARLY_PLAN: &str =
+    "Let requests end early by the weights of the script, and nothing later than the plan does";
+
+pub const EARLY_RUN: &str = "Let requests end early by their age, and nothing later than its plan does";
+
 pub const LIMIT: &str =
-    "Open at most N nodes in a search, 1 to 1048576; the greatest where none is named";
+    "Open at most N nodes in the search for a plan, 1 to 1048576 [1048576, by 'within' 65536]";
 
-pub const LIMIT_RUN: &str =
-    "Open at most N nodes a plan, 1 to 1048576; else the most, 65536 with --within";
-
-pub const REMEMBER_RUN: &str =
-    "Plan by remembered states; answers in practice where the plain search isn't over";
-
-pub const WITHIN_RUN: &str =
-    "Take the best plan so far where a search opened as many nodes as it may; no planning is over";
+pub const WORKERS: &str =
+    "Search by N workers, 1 to 8, by 'plain' alone; the plan is the same for any number [1]";
 
 pub const TRACE: &str = "Print a line for each phase in place of the plan";
 
 pub const REQUESTS: &str = "Print that trace with the request of each line as a last column";
 
-pub const WORKERS: &str = "Search by N workers, 1 to 8; the plan is the same for any number";
-
-pub const REMEMBER_PLAN: &str =
-    "Search by remembered states; answers in practice where the plain search isn't over";
-
-pub const WITHIN_PLAN: &str =
-    "Search likewise, and give the best plan so far at the limit, 65536 where none is named";
-
-pub const RULE_PLAN: &str =
-    "Plan by a rule, in microseconds and without a search; the text is that of --within";
-
-pub const RULE_RUN: &str = "Plan by a rule, in microseconds and without a search";
-
-pub const BY_RUN: &str =
-    "Go by 'next': plan nothing, and give each bus the phase that goes first of all that may come next";
-
-pub const EARLY: &str =
-    "Let requests end early by the weights of the script, and nothing later than the plan does";
-
 pub const CLOCK_RUN: &str =
-    "Run by a clock, 'simulated': tells when each reply came, how busy buses were and how long operations took";
+    "'simulated': one clock drives the run, and no threads; the same script gives the same times";
 
-pub const WITHIN_CHECK: &str =
-    "Take plan texts of 'plan --within' and 'plan --rule', and no others";
-
-pub const REMEMBER_CHECK: &str = "Take a certificate that remembers states, and no plain one";
+pub const TRACE_RUN: &str = "Write the phases that ran to the file LOG, a line each";
 
 pub const LEGAL: &str = "Say whether the schedule is legal and when it ends; needs no certificate";
 

@@ -6,15 +6,13 @@ use crate::lines::{last_of_text, line_fault, token_at, token_text_fault};
 use onfi_cert::CertTextFault;
 use onfi_check::{CertFault, TextFault};
 use onfi_known_check::{KnownFault, KnownTextFault};
-use onfi_planners::By;
 use onfi_script::{Command, Why, after_end, script_len};
 use std::alloc::{AllocError, Global};
 
 /// What a certificate has to prove for a command.
 fn proof_of(command: Command) -> &'static str {
     match command {
-        Command::CheckBy(By::Within) =>
-            "that nothing ends before the time that is told",
+        Command::CheckWithin => "that nothing ends before the time that is told",
         _ => "it optimal",
     }
 }
@@ -117,7 +115,7 @@ fn line_cause(text: &[u8], number: usize) -> Option<&'static str> {
         Some(_) => {}
     }
     if number == 3 && line.starts_with(b"below ") {
-        return Some("a line 'below N' is taken by 'check --within' alone");
+        return Some("a line 'below N' is taken by 'check --by within' alone");
     }
     if text.is_empty() && number > 2 {
         return Some(
@@ -184,9 +182,8 @@ fn header_fault(command: Command, header: &[u8]) -> &'static str {
     let plain = header == b"ONFICERT 1".as_slice() || header == b"ONFICERT 2 strict".as_slice();
     match command {
         Command::Check if remembers =>
-            "it remembers states; 'check --remember' takes it, and 'check --within' where 'plan --within' made it",
-        Command::CheckBy(_) if plain =>
-            "it is a plain one; 'check' takes it, without '--remember' and '--within'",
+            "it remembers states; 'check --by within' takes it",
+        Command::CheckWithin if plain => "it is a plain one; 'check' takes it, without '--by within'",
         _ =>
             "its first line is 'ONFICERT 1', 'ONFICERT 2 strict', 'ONFICERT 3 remember' or 'ONFICERT 4 strict remember', with LF behind it",
     }

@@ -29,9 +29,9 @@ pub use device::describe;
 pub use escaping::{escape_bytes, escape_text};
 pub use fault::{Untaken, WordsFault};
 pub use input::Input;
-pub use onfi_planners::{By, ChosenPlanner};
+pub use onfi_planners::By;
 pub use onfi_script::{
     Command, EngineFault, GapOptions, Output, PlanOptions, audit, audit_gaps, engine, engine_split,
 };
-pub use parsed::{CommandName, Named, Parsed};
+pub use parsed::{CommandName, Named, Parsed, RunBy, RunOptions};
 pub use saying::message;

@@ -3,7 +3,7 @@ ghost use Rattle.std.specs.Prelude.{◌≡◌, ◌≤◌};
 ghost use Rattle.onfi_console.specs.Readers as spec;
 ghost use Rattle.onfi_console.specs.Words.{IsInRange};
 
-use onfi_planners::ChosenPlanner;
+use onfi_planners::By;
 use onfi_script::{AuditOptions, Command, GapOptions, Output};
 
 /// A command of the program.
@@ -36,6 +36,27 @@ impl CommandName {
     }
 }
 
+/// What gives the buses of a run their phases.
+#[derive(Clone, Copy, Debug, PartialEq, Eq)]
+pub enum RunBy {
+    /// Plans of batches, each made so.
+    Plans(By),
+    /// The next phase alone, step by step: nothing is planned.
+    Next,
+}
+
+/// How the operations of a script are run.
+#[derive(Clone, Copy, Debug, PartialEq, Eq)]
+pub struct RunOptions {
+    pub by: RunBy,
+    /// Whether each plan is made better, so that requests end early by their age; never by the next phase.
+    pub early: bool,
+    /// How many nodes the search for a plan opens at most, 1 to 1,048,576; the greatest limit where nothing is searched.
+    pub limit: u32,
+    /// Whether one simulated clock drives the run, and not threads.
+    pub clocked: bool,
+}
+
 /// What a command line names.
 #[derive(Clone, Copy)]
 pub enum Named {
@@ -45,16 +66,9 @@ pub enum Named {
         command: Command,
         workers: usize,
     },
-    /// The operations of a script are run, by a simulated clock or in threads; that planner plans each batch, with at most
-    /// `limit` nodes, 1 to 1,048,576.
+    /// The operations of a script are run.
     Run {
-        planner: ChosenPlanner,
-        limit: u32,
-        clocked: bool,
-    },
-    /// The operations of a script are run, by a simulated clock or in threads, phase by phase: nothing is planned.
-    RunNext {
-        clocked: bool,
+        options: RunOptions,
     },
     /// The parameter page of a script is described.
     Device,
@@ -74,9 +88,11 @@ pub struct Parsed<'a> {
     pub named: Named,
     /// The file of the script, `-` for standard input; standard input where none is named.
     pub script: Option<&'a str>,
-    /// The file of a plan text that comes after the script, `-` for standard input; none where the script's own file
-    /// holds it.
+    /// The file of a plan text or a log that comes after the script, `-` for standard input; none where the script's own
+    /// file holds it.
     pub plan: Option<&'a str>,
+    /// The file that takes the phases of a run, a line each; none where none is named, and for all but `run`.
+    pub trace_file: Option<&'a str>,
     /// Whether nothing is to be said beside the answer.
     pub quiet: bool,
 }
@@ -91,23 +107,21 @@ impl Parsed<'_> {
     {
         match self.named {
             Named::Problem { command, .. } => command_in(command),
-            Named::Run { .. } | Named::RunNext { .. } => CommandName::Run,
+            Named::Run { .. } => CommandName::Run,
             Named::Device => CommandName::Device,
-            Named::Audit { .. } => CommandName::Audit,
-            Named::Gaps { .. } => CommandName::Audit,
+            Named::Audit { .. } | Named::Gaps { .. } => CommandName::Audit,
         }
     }
 
-    /// How many nodes a search may open, 1 to 1,048,576; the greatest limit for `check`, `device`, the rule, a run phase
-    /// by phase and an audit that measures nothing, since they search nothing.
+    /// How many nodes a search may open, 1 to 1,048,576; the greatest limit where nothing is searched.
     pub fn limit(&self) -> u32
         ensures named { result ≡ spec.limit_of self.now.named }
         ensures range { IsInRange self.now.named → (1 ≤ result) × (result ≤ 1048576) }
     {
         match self.named {
             Named::Problem { command, .. } => limit_in(command),
-            Named::Run { limit, .. } => limit,
-            Named::RunNext { .. } | Named::Device | Named::Audit { .. } => MOST,
+            Named::Run { options } => options.limit,
+            Named::Device | Named::Audit { .. } => MOST,
             Named::Gaps { options } => options.limit.get(),
         }
     }
@@ -118,9 +132,8 @@ impl Parsed<'_> {
     {
         match self.named {
             Named::Problem { command, .. } => trace_in(command),
-            Named::Run { .. } | Named::RunNext { .. } => false,
-            Named::Device | Named::Audit { .. } => false,
-            Named::Gaps { .. } => false,
+            Named::Run { .. } | Named::Device => false,
+            Named::Audit { .. } | Named::Gaps { .. } => false,
         }
     }
 
@@ -131,9 +144,8 @@ impl Parsed<'_> {
     {
         match self.named {
             Named::Problem { workers, .. } => workers,
-            Named::Run { .. } | Named::RunNext { .. } => 1,
-            Named::Device | Named::Audit { .. } => 1,
-            Named::Gaps { .. } => 1,
+            Named::Run { .. } | Named::Device => 1,
+            Named::Audit { .. } | Named::Gaps { .. } => 1,
         }
     }
 }
@@ -144,7 +156,7 @@ fn command_in(command: Command) -> CommandName
 {
     match command {
         Command::Plan { .. } | Command::PlanBy(_) => CommandName::Plan,
-        Command::Check | Command::CheckBy(_) | Command::Legal => CommandName::Check,
+        Command::Check | Command::CheckWithin | Command::Legal => CommandName::Check,
     }
 }
 
@@ -155,7 +167,7 @@ fn limit_in(command: Command) -> u32
     match command {
         Command::Plan { limit, .. } => limit,
         Command::PlanBy(options) => options.limit,
-        Command::Check | Command::CheckBy(_) | Command::Legal => MOST,
+        Command::Check | Command::CheckWithin | Command::Legal => MOST,
     }
 }
 
@@ -166,6 +178,6 @@ fn trace_in(command: Command) -> bool
     match command {
         Command::Plan { trace, .. } => trace,
         Command::PlanBy(options) => matches!(options.output, Output::Trace { .. }),
-        Command::Check | Command::CheckBy(_) | Command::Legal => false,
+        Command::Check | Command::CheckWithin | Command::Legal => false,
     }
 }

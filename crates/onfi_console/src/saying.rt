@@ -7,8 +7,7 @@ use crate::judged::describe_refusal;
 use crate::parsed::{MOST, Named, Parsed};
 use crate::ran::run_message;
 use crate::script::{purpose_of, script_message};
-use onfi_planners::By;
-use onfi_script::{Command, Why};
+use onfi_script::Why;
 use std::alloc::{AllocError, Global};
 
 /// What is said, in words and for a person, beside an answer to an input, which refuses for that reason; nothing where the
@@ -56,9 +55,9 @@ fn about(
             input,
             refusal,
         )?)),
-        (_, Named::Run { .. } | Named::RunNext { .. }) => run_message(alloc, answer),
-        (Some(Why::Over(opened)), Named::Problem { command, .. }) => {
-            Ok(Some(over_message(alloc, command, parsed.limit(), opened)?))
+        (_, Named::Run { .. }) => run_message(alloc, answer),
+        (Some(Why::Over(opened)), Named::Problem { .. }) => {
+            Ok(Some(over_message(alloc, parsed.limit(), opened)?))
         }
         (Some(why), Named::Problem { command, .. }) => {
             Ok(Some(describe_refusal(alloc, command, input, why)?))
@@ -67,32 +66,14 @@ fn about(
     }
 }
 
-/// Whether a command plans by the search that remembers states.
-fn remembers(command: Command) -> bool {
-    match command {
-        Command::PlanBy(options) => options.by == By::Within,
-        _ => false,
-    }
-}
-
 /// The message where a search opened so many nodes and isn't over.
-fn over_message(
-    alloc: Global,
-    command: Command,
-    limit: u32,
-    opened: u32,
-) -> Result<String, AllocError> {
+fn over_message(alloc: Global, limit: u32, opened: u32) -> Result<String, AllocError> {
     let raise = if limit < MOST {
         "raise '--limit' up to 1048576, or "
     } else {
         ""
     };
-    let remember = if remembers(command) {
-        ""
-    } else {
-        "'--remember', which mostly finds one, or with "
-    };
     format!(in alloc;
-        "onfi_sim: no optimal plan was found within {opened} nodes; {raise}plan with {remember}'--within', which always gives a plan\n"
+        "onfi_sim: no optimal plan was found within {opened} nodes; {raise}plan with '--by within', which always gives a plan\n"
     )
 }

@@ -1,8 +1,10 @@
 -- What is written for an input, and with which status.
 use Rattle.std.specs.Prelude.{◌≡◌, ◌≢◌, codes, ℕ, ◌+◌, ◌++◌, ◌^◌, ◌<◌, ◌≤◌, ◌⊎◌, Bool, true, false, List, take, Option, Some, None, position, Result, Ok, Err, IfSome, MatchResult}
 use Rattle.std.specs.Io.KnownBytes.{Appends}
+use Rattle.std.specs.List.{AllByRecursion as Each}
 use Rattle.onfi_problem.specs.Problem.{Problem, HasLengths, IsSmall, IsProblem}
 use Rattle.onfi_problem.specs.Left.{horizon, InLimits}
+use Rattle.onfi_problem.specs.Position.{Position}
 use Rattle.onfi_schedule.specs.Schedule.{Schedule, Legal, Optimal, finish}
 use Rattle.onfi_schedule.specs.Trace.{IsTrace}
 use Rattle.onfi_cert.specs.declared.token.Token.{Token}
@@ -21,12 +23,12 @@ use Rattle.onfi_known_check.specs.declared.fault.KnownFault.{KnownFault}
 use Rattle.onfi_known_check.specs.declared.fault.KnownTextFault.{KnownTextFault}
 use Rattle.onfi_known_check.specs.declared.token.Token.{Token as KnownToken}
 use Rattle.onfi_planner.specs.Planning.{AreRising}
-use Rattle.onfi_early.specs.Slack.{slack_of}
-use Rattle.onfi_plan.specs.Certificate.{IsMadeFrom, IsSpelled, ShowsBelow as Shows, certificate_in}
+use Rattle.onfi_plan.specs.Certificate.{IsPlain, IsSpelled, ShowsBelow as Shows}
 use Rattle.onfi_plan.specs.declared.plan.Plan.{Plan as OnePlan}
-use Rattle.onfi_planners.specs.Choice.{IsExact, IsPlannedByRule, certified_by, slack_in}
-use Rattle.onfi_planners.specs.declared.chosen.ChosenPlanner.{ChosenPlanner}
-use Rattle.onfi_planners.specs.declared.chosen.ChosenPlanner.TheVariants.{Plain, Remembering, BestSoFar, ByRule}
+use Rattle.onfi_planners.specs.Choice.{IsMadeFrom, IsPlannedByRule, IsPlannedWithin}
+use Rattle.onfi_planners.specs.declared.by.By.{By}
+use Rattle.onfi_planners.specs.declared.by.By.TheVariants.{Plain, Within, Rule}
+use Rattle.onfi_planners.specs.declared.weights.Weights.{Weights}
 use Rattle.onfi_script.specs.declared.command.Command.{Command}
 use Rattle.onfi_script.specs.declared.command.Command.TheVariants as asked
 use Rattle.onfi_script.specs.declared.command.Output.{Output}
@@ -42,7 +44,7 @@ use Rattle.onfi_script.specs.Input.{TellsRows}
 use Rattle.onfi_script.specs.Script.{plan_text_of}
 use Rattle.onfi_script.specs.declared.device.Device.{Device}
 use Rattle.onfi_script.specs.Device.{TellsDevice}
-use Rattle.onfi_script.specs.Setup.{asks_amiss, is_beyond, SetsUp}
+use Rattle.onfi_script.specs.Setup.{asks_amiss, is_beyond, weights as weights_in, SetsUp}
 use Rattle.onfi_script.specs.PlanText.{plan_of, plan_within_of, schedule_of}
 use Rattle.onfi_script.specs.Text.{Answer, memory, refused, planned, over, accepted, within, legal_until, refused_for, refused_at, text_refused, known_text_refused}
 
@@ -50,36 +52,57 @@ use Rattle.onfi_script.specs.Text.{Answer, memory, refused, planned, over, accep
 abbrev pub whole : ScriptFault → Refusal
 whole fault = record { row = 0; fault = fault }
 
--- the text is that of tokens which are accepted for this time: plain ones of the plain planner, of the others ones that
+-- the text is that of tokens which are accepted for this time: plain ones of the plain search, of the other ways ones that
 -- remember states
-abbrev pub Certifies : ChosenPlanner → Problem → ℕ → List ℕ → Type 0
+abbrev pub Certifies : By → Problem → ℕ → List ℕ → Type 0
 Certifies Plain p below text = (tokens : List Token) × IsCertificate text p.rules.strict tokens × AcceptsTokens tokens p below
 Certifies _ p below text = (tokens : List KnownToken) × IsKnownCertificate text p.rules.strict tokens × ProvesTokens p.wants tokens p below
 
 -- .. and nothing ends before it
-pub record ShowsBelow (planner : ChosenPlanner) (p : Problem) (below : ℕ) (text : List ℕ) : Type 0 where
-  pub certificate : Certifies planner p below text
+pub record ShowsBelow (by : By) (p : Problem) (below : ℕ) (text : List ℕ) : Type 0 where
+  pub certificate : Certifies by p below text
   pub none_before : NoneBefore p below
 
--- a plan of a planner: a legal schedule, its groups by rising first start, and a certificate of that planner's that nothing ends
--- before `below`. It ends at most so many thousandths later, with none it is optimal; save that the best so far may end at any
--- time where the tree of the problem has more nodes than the limit, and one by the rule at any time
-pub record IsPlan (planner : ChosenPlanner) (slack limit : ℕ) (p : Problem) (plan : OnePlan) : Type 0 where
-  pub legal : Legal p plan.planned.schedule
-  pub ends : finish p plan.planned.schedule ≡ plan.planned.finish
-  pub rising : AreRising plan.planned.schedule.groups
-  pub kind : certified_by planner (certificate_in plan)
-  pub shown : Shows (certificate_in plan) p.wants p plan.below
-  pub none_before : NoneBefore p plan.below
-  pub optimal : IsExact planner → slack ≡ 0 → Optimal p plan.planned.schedule × (plan.below ≡ plan.planned.finish)
-  pub near : planner ≢ ByRule → plan.below + slack_of slack p.bus_free plan.below < plan.planned.finish → (planner ≡ BestSoFar) × HasMoreNodes p limit
+-- what is promised of plans by each way beside what is of all: the plain search shows when its plans end, the others promise as
+-- much to who plans by them alone
+abbrev pub IsBy : By → ℕ → Position → OnePlan → Type 0
+IsBy Plain limit x plan = (plan.below ≡ plan.finish) × IsPlain plan.certificate
+IsBy Within limit x plan = IsPlannedWithin x limit plan
+IsBy Rule limit x plan = IsPlannedByRule x plan
 
--- the plan is the one that the rule makes, or was made better from it and ends at most so many thousandths later
-pub record IsFromRule (better : Option ℕ) (limit : ℕ) (p : Problem) (plan : OnePlan) : Type 0 where
+-- a plan was found by this way: a legal schedule, its groups by rising first start, and a certificate that nothing ends before
+-- `below`
+pub record IsFound (by : By) (limit : ℕ) (x : Position) (plan : OnePlan) : Type 0 where
+  pub legal : Legal x.problem plan.schedule
+  pub ends : finish x.problem plan.schedule ≡ plan.finish
+  pub rising : AreRising plan.schedule.groups
+  pub shown : Shows plan.certificate x.all x.problem plan.below
+  pub none_before : NoneBefore x.problem plan.below
+  pub is_by : IsBy by limit x plan
+
+-- the plan was made better by these weights, where that was asked for
+abbrev pub IsEarly : Bool → Weights → Position → OnePlan → OnePlan → Type 0
+IsEarly false weights x first plan = plan ≡ first
+IsEarly true weights x first plan = IsMadeFrom weights x first plan
+
+-- a plan as the options ask for it: one was found by their way, and made better by these weights where they say so. By the plain
+-- search it is optimal; within a limit it ends no later than the rule's plan and than the first schedule, and where it may end too
+-- late the tree has more nodes than the limit, and the certificate shows no less than the greatest bound
+pub record IsPlan (options : PlanOptions) (weights : Weights) (x : Position) (plan : OnePlan) : Type 0 where
+  pub legal : Legal x.problem plan.schedule
+  pub ends : finish x.problem plan.schedule ≡ plan.finish
+  pub rising : AreRising plan.schedule.groups
+  pub shown : Shows plan.certificate x.all x.problem plan.below
+  pub none_before : NoneBefore x.problem plan.below
+  pub optimal : options.by ≡ Plain → Optimal x.problem plan.schedule × (plan.below ≡ plan.finish) × IsPlain plan.certificate
+  pub near : options.by ≡ Within → IsPlannedWithin x options.limit plan
   pub first : OnePlan
-  pub rule : IsPlannedByRule p limit first
-  pub made : IsMadeFrom first (slack_of (slack_in better) p.bus_free first.below) plan
-  pub as_is : better ≡ None → plan ≡ first
+  pub found : IsFound options.by options.limit x first
+  pub early : IsEarly options.early weights x first plan
+
+-- the requests of a script weigh so: its wants as its rows say, and each member of a group that runs 1
+abbrev pub IsWeighed : List ℕ → Weights → Type 0
+IsWeighed input weights = (rows : List Row) × TellsRows for_a.Problem input (Ok rows) × (weights.wants ≡ weights_in rows) × Each (Each (λ w. w ≡ 1)) weights.running
 
 -- a plan is printed as asked for: the plan text with its certificate, or its trace, whose lines name their requests where that
 -- is asked for
@@ -87,14 +110,16 @@ abbrev pub Prints : Output → Problem → Schedule → ℕ → List ℕ → Ans
 Prints Plan p s below text answer = answer ≡ planned s (finish p s) below text
 Prints (Trace requests) p s below text answer = IsTrace requests p s answer.text × (answer.status ≡ 0)
 
--- a plan as the options ask for it
-pub record PrintsPlan (options : PlanOptions) (p : Problem) (answer : Answer) : Type 0 where
+-- a plan as the options ask for it, of the problem with all of its wants
+pub record PrintsPlan (options : PlanOptions) (weights : Weights) (p : Problem) (answer : Answer) : Type 0 where
+  pub x : Position
+  pub of_problem : x.problem ≡ p
+  pub of_wants : x.all ≡ p.wants
   pub plan : OnePlan
-  pub is_plan : IsPlan options.planner (slack_in options.better) options.limit p plan
-  pub by_rule : options.planner ≡ ByRule → IsFromRule options.better options.limit p plan
+  pub is_plan : IsPlan options weights x plan
   pub text : List ℕ
-  pub spelled : IsSpelled p.rules.strict (certificate_in plan) text
-  pub printed : Prints options.output p plan.planned.schedule plan.below text answer
+  pub spelled : IsSpelled p.rules.strict plan.certificate text
+  pub printed : Prints options.output p plan.schedule plan.below text answer
 
 -- one search with a limit reports that limit, where the tree of the problem has more nodes
 abbrev pub OneTells : ℕ → Problem → ℕ → Type 0
@@ -104,58 +129,49 @@ OneTells limit p opened = (opened ≡ limit) × HasMoreNodes p limit
 abbrev pub PartsTell : ℕ → Problem → ℕ → Type 0
 PartsTell limit p opened = IsSplitOver p limit opened
 
--- what a planner reports as over, where the plain search does so: the best so far is never over, nor is the rule
-abbrev pub TellsOver : (ℕ → Problem → ℕ → Type 0) → ChosenPlanner → ℕ → Problem → ℕ → Type 0
+-- what is reported as over by a way, where the plain search reports it so: the others are never over
+abbrev pub TellsOver : (ℕ → Problem → ℕ → Type 0) → By → ℕ → Problem → ℕ → Type 0
 TellsOver Tells Plain limit p opened = Tells limit p opened
-TellsOver Tells Remembering limit p opened = OneTells limit p opened
-TellsOver Tells BestSoFar limit p opened = ⊥
-TellsOver Tells ByRule limit p opened = ⊥
+TellsOver Tells _ limit p opened = ⊥
 
 -- a plan, or how many nodes were opened
-abbrev pub AnswersPlan : (ℕ → Problem → ℕ → Type 0) → PlanOptions → Problem → Answer → Type 0
-AnswersPlan Tells options p answer = PrintsPlan options p answer ⊎ ((opened : ℕ) × TellsOver Tells options.planner options.limit p opened × (answer ≡ over opened))
+abbrev pub AnswersPlan : (ℕ → Problem → ℕ → Type 0) → PlanOptions → Weights → Problem → Answer → Type 0
+AnswersPlan Tells options weights p answer = PrintsPlan options weights p answer ⊎ ((opened : ℕ) × TellsOver Tells options.by options.limit p opened × (answer ≡ over opened))
 
 -- a schedule is optimal, and the text a certificate of that
-pub record IsProved (planner : ChosenPlanner) (p : Problem) (s : Schedule) (text : List ℕ) : Type 0 where
+pub record IsProved (by : By) (p : Problem) (s : Schedule) (text : List ℕ) : Type 0 where
   pub optimal : Optimal p s
-  pub certificate : Certifies planner p (finish p s) text
+  pub certificate : Certifies by p (finish p s) text
 
 -- .. is legal, and the text a certificate that nothing ends before `below`, when it may not have ended yet
-pub record IsShown (planner : ChosenPlanner) (p : Problem) (s : Schedule) (below : ℕ) (text : List ℕ) : Type 0 where
+pub record IsShown (by : By) (p : Problem) (s : Schedule) (below : ℕ) (text : List ℕ) : Type 0 where
   pub legal : Legal p s
-  pub shown : ShowsBelow planner p below text
+  pub shown : ShowsBelow by p below text
   pub least : below ≤ finish p s
 
 -- what is wrong with the schedule or its certificate is reported
-abbrev pub TellsFault : ChosenPlanner → Problem → Schedule → ℕ → List ℕ → Answer → Type 0
+abbrev pub TellsFault : By → Problem → Schedule → ℕ → List ℕ → Answer → Type 0
 TellsFault Plain p s below text answer = (fault : TextFault CertFault CertTextFault) × IsTextFault p s text fault × (answer ≡ text_refused fault)
 TellsFault _ p s below text answer = (fault : TextFault KnownFault KnownTextFault) × IsKnownTextFault p.wants p s below text fault × (answer ≡ known_text_refused fault)
 
 -- the answer to a schedule that is said to end at `ends`, where its certificate is to show that nothing ends before `below`:
 -- what is wrong with them, that the schedule ends at another time, that it is legal and so near the optimum, or optimal
-pub data AnswersSchedule (planner : ChosenPlanner) (p : Problem) (s : Schedule) (ends below : ℕ) (text : List ℕ) (answer : Answer) : Type 0 where
-  is_refused : TellsFault planner p s below text answer → AnswersSchedule planner p s ends below text answer
-  ends_otherwise : IsShown planner p s below text → finish p s ≢ ends → answer ≡ refused_for (codes "finish") → AnswersSchedule planner p s ends below text answer
-  is_within : IsShown planner p s below text → finish p s ≡ ends → below < ends → answer ≡ within ends below → AnswersSchedule planner p s ends below text answer
-  is_accepted : IsProved planner p s text → finish p s ≡ ends → answer ≡ accepted ends → AnswersSchedule planner p s ends below text answer
+pub data AnswersSchedule (by : By) (p : Problem) (s : Schedule) (ends below : ℕ) (text : List ℕ) (answer : Answer) : Type 0 where
+  is_refused : TellsFault by p s below text answer → AnswersSchedule by p s ends below text answer
+  ends_otherwise : IsShown by p s below text → finish p s ≢ ends → answer ≡ refused_for (codes "finish") → AnswersSchedule by p s ends below text answer
+  is_within : IsShown by p s below text → finish p s ≡ ends → below < ends → answer ≡ within ends below → AnswersSchedule by p s ends below text answer
+  is_accepted : IsProved by p s text → finish p s ≡ ends → answer ≡ accepted ends → AnswersSchedule by p s ends below text answer
 
--- the answer to a plan text whose certificate is to show that its schedule is optimal: its first wrong line, or the answer to
--- what it says
-abbrev pub AnswersOptimal : ChosenPlanner → Problem → List ℕ → Answer → Type 0
-AnswersOptimal planner p text answer = MatchResult (plan_of p.wants text)
-    (λ r. AnswersSchedule planner p (schedule_of p r.0) r.0.finish (finish p (schedule_of p r.0)) r.1 answer) (λ number. answer ≡ refused_at (codes "plan") number)
+-- the answer to a plan text with a plain certificate, which is to show that its schedule is optimal: its first wrong line, or the
+-- answer to what it says
+abbrev pub AnswersOptimal : Problem → List ℕ → Answer → Type 0
+AnswersOptimal p text answer = MatchResult (plan_of p.wants text)
+    (λ r. AnswersSchedule Plain p (schedule_of p r.0) r.0.finish (finish p (schedule_of p r.0)) r.1 answer) (λ number. answer ≡ refused_at (codes "plan") number)
 
--- .. to one in which a line `below` may stand
+-- .. to one whose certificate remembers states, in which a line `below` may stand
 abbrev pub AnswersWithin : Problem → List ℕ → Answer → Type 0
 AnswersWithin p text answer = MatchResult (plan_within_of p.wants text)
-    (λ r. AnswersSchedule BestSoFar p (schedule_of p r.0) r.0.finish r.1 r.2 answer) (λ number. answer ≡ refused_at (codes "plan") number)
-
--- .. to one as a planner's are: in that of the best so far, and in one by the rule, a line `below` may stand
-abbrev pub AnswersCheck : ChosenPlanner → Problem → List ℕ → Answer → Type 0
-AnswersCheck Plain p text answer = AnswersOptimal Plain p text answer
-AnswersCheck Remembering p text answer = AnswersOptimal Remembering p text answer
-AnswersCheck BestSoFar p text answer = AnswersWithin p text answer
-AnswersCheck ByRule p text answer = AnswersWithin p text answer
+    (λ r. AnswersSchedule Within p (schedule_of p r.0) r.0.finish r.1 r.2 answer) (λ number. answer ≡ refused_at (codes "plan") number)
 
 -- the answer to a schedule alone: that a condition is broken, or when it ends
 pub data TellsLegal (p : Problem) (s : Schedule) (answer : Answer) : Type 0 where
@@ -175,17 +191,17 @@ abbrev pub output_of : Bool → Output
 output_of true = Trace false
 output_of false = Plan
 
--- a plan of a planner as it is
-abbrev pub options_of : ChosenPlanner → ℕ → Output → PlanOptions
-options_of planner limit output = record { planner = planner; better = None; limit = limit; output = output }
+-- a plan by a way as it is
+abbrev pub options_of : By → ℕ → Output → PlanOptions
+options_of by limit output = record { by = by; early = false; limit = limit; output = output }
 
--- what the command asks for; all but those that plan read the plan text after the script
-abbrev pub AnswersCommand : (ℕ → Problem → ℕ → Type 0) → Command → List ℕ → Problem → Answer → Type 0
-AnswersCommand Tells (asked.Plan limit trace) text p answer = AnswersPlan Tells (options_of Plain limit (output_of trace)) p answer
-AnswersCommand Tells asked.Check text p answer = AnswersCheck Plain p text answer
-AnswersCommand Tells (asked.PlanBy options) text p answer = AnswersPlan Tells options p answer
-AnswersCommand Tells (asked.CheckBy planner) text p answer = AnswersCheck planner p text answer
-AnswersCommand Tells asked.Legal text p answer = AnswersLegal p text answer
+-- what the command asks for, where requests weigh so; all but those that plan read the plan text after the script
+abbrev pub AnswersCommand : (ℕ → Problem → ℕ → Type 0) → Command → Weights → List ℕ → Problem → Answer → Type 0
+AnswersCommand Tells (asked.Plan limit trace) weights text p answer = AnswersPlan Tells (options_of Plain limit (output_of trace)) weights p answer
+AnswersCommand Tells asked.Check weights text p answer = AnswersOptimal p text answer
+AnswersCommand Tells (asked.PlanBy options) weights text p answer = AnswersPlan Tells options weights p answer
+AnswersCommand Tells asked.CheckWithin weights text p answer = AnswersWithin p text answer
+AnswersCommand Tells asked.Legal weights text p answer = AnswersLegal p text answer
 
 -- lengths are stated for all that is put out, and reads alone put out sectors
 pub record HasAllLengths (rows : List Row) (p : Problem) : Type 0 where
@@ -220,7 +236,8 @@ pub data AnswersScript (Answers : List ℕ → Problem → Answer → Type 0) (i
 
 -- .. or that memory ran out
 abbrev pub IsAnswerBy : (ℕ → Problem → ℕ → Type 0) → Command → List ℕ → Answer → Type 0
-IsAnswerBy Tells command input answer = (answer ≡ memory) ⊎ AnswersScript (λ text p a. AnswersCommand Tells command text p a) input answer
+IsAnswerBy Tells command input answer =
+    (answer ≡ memory) ⊎ AnswersScript (λ text p a. (weights : Weights) × IsWeighed input weights × AnswersCommand Tells command weights text p a) input answer
 
 -- the writer was given the answer to what the reader had, where both show their bytes
 abbrev pub AnswersBy : (ℕ → Problem → ℕ → Type 0) → Command → Option (List ℕ) → Option (List ℕ) → Option (List ℕ) → ℕ → Type 0

@@ -6,7 +6,7 @@ ghost use Rattle.onfi_script.specs.AnswerOf.{answer_of, told_of};
 ghost use Rattle.onfi_script.specs.Limit.{IsLimit, IsLimited};
 
 use crate::alone::judge_alone;
-use crate::checking::check_plan;
+use crate::checking::{check_optimal, check_within};
 use crate::command::{Command, Output, PlanOptions};
 use crate::fault::Stop;
 use crate::planning::{plan_by, plan_by_workers, print_plan};
@@ -24,7 +24,7 @@ use std::thread::Threads;
 fn plan_script(alloc: Global, options: PlanOptions, script: &Script) -> Result<Answer, AllocError>
     requires limit { IsLimit options.limit }
     requires begun { script.now.problem.all ≡ script.now.problem.problem.wants }
-    ensures { IfOk result (λ a. AnswersPlan OneTells options script.now.problem.problem (answer_of a)) }
+    ensures { IfOk result (λ a. AnswersPlan OneTells options script.now.weights script.now.problem.problem (answer_of a)) }
 {
     let problem = &script.problem;
     match plan_by(alloc, problem, &script.weights, options) {
@@ -34,7 +34,7 @@ fn plan_script(alloc: Global, options: PlanOptions, script: &Script) -> Result<A
     }
 }
 
-/// The answer that plans a problem, where the plain planner searches by so many workers.
+/// The answer that plans a problem, where the plain search has so many workers.
 fn answer_plan_by_workers<T: Threads + Sync>(
     rt: &T,
     alloc: Global,
@@ -46,7 +46,7 @@ fn answer_plan_by_workers<T: Threads + Sync>(
     requires some_workers { 1 ≤ workers }
     requires few_workers { workers ≤ 8 }
     requires begun { script.now.problem.all ≡ script.now.problem.problem.wants }
-    ensures { IfOk result (λ a. AnswersPlan PartsTell options script.now.problem.problem (answer_of a)) }
+    ensures { IfOk result (λ a. AnswersPlan PartsTell options script.now.weights script.now.problem.problem (answer_of a)) }
 {
     let problem = &script.problem;
     match plan_by_workers(rt, alloc, problem, &script.weights, options, workers) {
@@ -76,7 +76,7 @@ fn answer_command(
 ) -> Result<Answer, AllocError>
     requires limit { IsLimited command }
     requires begun { script.now.problem.all ≡ script.now.problem.problem.wants }
-    ensures { IfOk result (λ a. AnswersCommand OneTells command text.now script.now.problem.problem (answer_of a)) }
+    ensures { IfOk result (λ a. AnswersCommand OneTells command script.now.weights text.now script.now.problem.problem (answer_of a)) }
 {
     let problem = &script.problem;
     match command {
@@ -84,9 +84,9 @@ fn answer_command(
             let options = PlanOptions::new(By::Plain, limit, output_of(trace));
             plan_script(alloc, options, script)
         }
-        Command::Check => check_plan(alloc, By::Plain, problem, text),
+        Command::Check => check_optimal(alloc, problem, text),
         Command::PlanBy(options) => plan_script(alloc, options, script),
-        Command::CheckBy(planner) => check_plan(alloc, planner, problem, text),
+        Command::CheckWithin => check_within(alloc, problem, text),
         Command::Legal => judge_alone(alloc, problem, text),
     }
 }
@@ -193,7 +193,7 @@ pub fn engine_split<T: Threads + Sync, R: Read, W: Write>(
     engine_split_by(rt, alloc, options, workers, reader, writer)
 }
 
-/// What [`engine`] does for `PlanBy`, where the plain planner searches as [`engine_split`] does.
+/// What [`engine`] does for `PlanBy`, where the plain search is that of [`engine_split`].
 ///
 /// # Errors
 /// As `engine`.
@@ -248,8 +248,6 @@ pub fn answer_by<T: Threads + Sync>(
             answer_by_workers(rt, alloc, options, workers, input)
         }
         Command::PlanBy(options) => answer_by_workers(rt, alloc, options, workers, input),
-        Command::Check => answer(alloc, command, input),
-        Command::CheckBy(_) => answer(alloc, command, input),
-        Command::Legal => answer(alloc, command, input),
+        Command::Check | Command::CheckWithin | Command::Legal => answer(alloc, command, input),
     }
 }

@@ -1,8 +1,8 @@
 //! Plan texts are checked.
-ghost use Rattle.std.specs.Prelude.{◌≡◌, codes, IfOk, if◌then◌else◌};
+ghost use Rattle.std.specs.Prelude.{◌≡◌, codes, IfOk};
 ghost use Rattle.onfi_schedule.specs.Schedule.{Legal, finish};
 ghost use Rattle.onfi_planners.specs.declared.by.By.TheVariants as by;
-ghost use Rattle.onfi_script.specs.Answer.{AnswersCheck, AnswersOptimal, AnswersSchedule, AnswersWithin};
+ghost use Rattle.onfi_script.specs.Answer.{AnswersOptimal, AnswersSchedule, AnswersWithin};
 ghost use Rattle.onfi_script.specs.AnswerOf.{answer_of};
 ghost use Rattle.onfi_script.specs.Text.{known_text_refused, refused_at as spec_refused_at, refused_by, text_refused};
 
@@ -11,8 +11,7 @@ use crate::plan_within::{PlanWithin, read_plan_within};
 use crate::text::{Answer, accept_end, refuse, within};
 use crate::why::Why;
 use onfi_check::{CertFault, TextFault, check_text};
-use onfi_known_check::{KnownFault, KnownTextFault, check_known_text, check_known_within};
-use onfi_planners::By;
+use onfi_known_check::{KnownFault, KnownTextFault, check_known_within};
 use onfi_problem::Problem;
 use onfi_schedule::{Schedule, find_breach, finish};
 use std::alloc::{AllocError, Global};
@@ -73,25 +72,7 @@ fn judge_plain(
     }
 }
 
-/// .. of its certificate, which remembers states.
-fn judge_known(
-    alloc: Global,
-    problem: &Problem,
-    schedule: &Schedule,
-    ends: u64,
-    certificate: &[u8],
-) -> Result<Answer, AllocError>
-    requires begun { problem.now.all ≡ problem.now.problem.wants }
-    ensures { IfOk result (λ a. AnswersSchedule by.Remembering problem.now.problem schedule.now ends (finish problem.now.problem schedule.now) certificate.now (answer_of a)) }
-{
-    match check_known_text(alloc, problem, schedule, certificate) {
-        Ok(end) if end == ends => accept_end(alloc, ends),
-        Ok(is) => refuse(alloc, Why::Finish { said: ends, is }),
-        Err(fault) => refuse(alloc, why_known(problem, schedule, ends, fault)),
-    }
-}
-
-/// .. where nothing is said to end before `below`, in ns.
+/// .. of its certificate, which remembers states, where nothing is said to end before `below`, in ns.
 fn judge_within(
     alloc: Global,
     problem: &Problem,
@@ -101,7 +82,7 @@ fn judge_within(
     certificate: &[u8],
 ) -> Result<Answer, AllocError>
     requires begun { problem.now.all ≡ problem.now.problem.wants }
-    ensures { IfOk result (λ a. AnswersSchedule by.BestSoFar problem.now.problem schedule.now ends below certificate.now (answer_of a)) }
+    ensures { IfOk result (λ a. AnswersSchedule by.Within problem.now.problem schedule.now ends below certificate.now (answer_of a)) }
 {
     match check_known_within(alloc, problem, schedule, below, certificate) {
         Ok(is) if is != ends => refuse(alloc, Why::Finish { said: ends, is }),
@@ -111,33 +92,22 @@ fn judge_within(
     }
 }
 
-/// The answer to a plan text whose certificate is to show that its schedule is optimal, and remembers states where `remember`
-/// says so.
-fn checked_optimal(
-    alloc: Global,
-    remember: bool,
-    problem: &Problem,
-    text: &[u8],
-) -> Result<Answer, AllocError>
-    requires begun { problem.now.all ≡ problem.now.problem.wants }
-    ensures { IfOk result (λ a. AnswersOptimal (if remember then by.Remembering else by.Plain) problem.now.problem text.now (answer_of a)) }
+/// The answer to a plan text with a plain certificate, which is to show that its schedule is optimal.
+pub fn check_optimal(alloc: Global, problem: &Problem, text: &[u8]) -> Result<Answer, AllocError>
+    ensures { IfOk result (λ a. AnswersOptimal problem.now.problem text.now (answer_of a)) }
 {
     match read_plan(alloc, problem.wants(), text) {
         Ok((plan, certificate)) => {
             let ends = plan.finish();
             let schedule = plan.schedule(problem.lun_count());
-            if remember {
-                judge_known(alloc, problem, &schedule, ends, certificate)
-            } else {
-                judge_plain(alloc, problem, &schedule, ends, certificate)
-            }
+            judge_plain(alloc, problem, &schedule, ends, certificate)
         }
         Err(number) => refuse_line(alloc, number),
     }
 }
 
-/// The answer to a plan text in which a line `below` may stand.
-fn check_within(alloc: Global, problem: &Problem, text: &[u8]) -> Result<Answer, AllocError>
+/// The answer to a plan text whose certificate remembers states, in which a line `below` may stand.
+pub fn check_within(alloc: Global, problem: &Problem, text: &[u8]) -> Result<Answer, AllocError>
     requires begun { problem.now.all ≡ problem.now.problem.wants }
     ensures { IfOk result (λ a. AnswersWithin problem.now.problem text.now (answer_of a)) }
 {
@@ -154,22 +124,5 @@ fn check_within(alloc: Global, problem: &Problem, text: &[u8]) -> Result<Answer,
             judge_within(alloc, problem, &schedule, ends, below, certificate)
         }
         Err(number) => refuse_line(alloc, number),
-    }
-}
-
-/// The answer to a plan text as this planner's are.
-pub fn check_plan(
-    alloc: Global,
-    by: By,
-    problem: &Problem,
-    text: &[u8],
-) -> Result<Answer, AllocError>
-    requires begun { problem.now.all ≡ problem.now.problem.wants }
-    ensures { IfOk result (λ a. AnswersCheck by problem.now.problem text.now (answer_of a)) }
-{
-    match by {
-        By::Plain => checked_optimal(alloc, false, problem, text),
-        By::Within => check_within(alloc, problem, text),
-        By::Rule => check_within(alloc, problem, text),
     }
 }

@@ -15,7 +15,7 @@ pub enum Output {
 /// How a problem is planned, and what is printed of the plan.
 #[derive(Clone, Copy)]
 pub struct PlanOptions {
-    /// What finds the plan; the plain planner is a search by as many workers as there are, and the rule searches nothing.
+    /// How the plan is found; the plain search has as many workers as there are, and the rule searches nothing.
     pub by: By,
     /// Whether it is made better: requests end sooner by the weights of the script, and nothing ends later.
     pub early: bool,
@@ -25,7 +25,7 @@ pub struct PlanOptions {
 }
 
 impl PlanOptions {
-    /// A plan of a planner as it is.
+    /// A plan by a way as it is.
     pub fn new(by: By, limit: u32, output: Output) -> PlanOptions
         ensures { result ≡ options_of by limit output }
     {
@@ -48,10 +48,9 @@ pub enum Command {
     Check,
     /// Print a plan by these options.
     PlanBy(PlanOptions),
-    /// Say whether the plan text after the script shows what plans of that planner do: as `Check`, by a certificate that
-    /// remembers states where the planner does. Of the best so far and of the rule a line `below` may say before which time
-    /// nothing ends.
-    CheckBy(By),
+    /// As `Check`, of a plan text whose certificate remembers states, as plans within a limit and by the rule have them. A line
+    /// `below` may say before which time nothing ends; then the schedule need not be optimal.
+    CheckWithin,
     /// Say whether the schedule of the plan text after the script is legal, and when it ends. A certificate need not
     /// stand there, and isn't looked at; nor is the number after `finish`, nor that of a line `below`.
     Legal,

@@ -3,8 +3,7 @@ ghost use Rattle.std.specs.Prelude.{◌≡◌, ◌≤◌, ℕ, List, IfOk, IfErr
 ghost use Rattle.onfi_schedule.specs.Schedule.{Legal, finish};
 ghost use Rattle.onfi_schedule.specs.Trace.{IsTrace};
 ghost use Rattle.onfi_plan.specs.Certificate.{IsSpelled};
-ghost use Rattle.onfi_planners.specs.Choice.{IsPlannedByRule, slack_in};
-ghost use Rattle.onfi_script.specs.Answer.{IsFromRule, IsPlan, OneTells, PartsTell, Prints, TellsOver};
+ghost use Rattle.onfi_script.specs.Answer.{IsFound, IsPlan, OneTells, PartsTell, Prints, TellsOver};
 ghost use Rattle.onfi_script.specs.AnswerOf.{answer_of};
 ghost use Rattle.onfi_script.specs.Limit.{IsLimit};
 
@@ -21,7 +20,7 @@ use std::thread::Threads;
 /// The plan that these options ask for.
 ///
 /// # Errors
-/// `Over` as the planner reports it; `Memory` where memory was refused.
+/// `Over` where the plain search opened as many nodes as it may and isn't over; `Memory` where memory was refused.
 pub fn plan_by(
     alloc: Global,
     problem: &Problem,
@@ -30,8 +29,7 @@ pub fn plan_by(
 ) -> Result<Plan, PlanFault>
     requires limit { IsLimit options.limit }
     requires begun { problem.now.all ≡ problem.now.problem.wants }
-    ensures plan { IfOk result (IsPlan options.by options.early options.limit problem.now.problem) }
-    ensures by_rule { IfOk result (λ plan. options.by ≡ By.Rule → IsFromRule options.early options.limit problem.now.problem plan) }
+    ensures plan { IfOk result (IsPlan options weights.now problem.now) }
     ensures over { IfErr result (λ fault. (opened : ℕ) → fault ≡ PlanFault.Over opened → TellsOver OneTells options.by options.limit problem.now.problem opened) }
 {
     let limit = Limit::of(options.limit).unwrap();
@@ -40,10 +38,10 @@ pub fn plan_by(
     Ok(better)
 }
 
-/// The plan that these options ask for, where the plain planner searches by so many workers.
+/// The plan that these options ask for, where the plain search has so many workers.
 ///
 /// # Errors
-/// `Over` as the planner reports it, and as [`plan_split`] does where that is the plain one; `Memory` where memory was refused.
+/// `Over` as [`plan_split`] reports it; `Memory` where memory was refused.
 pub fn plan_by_workers<R: Threads + Sync>(
     rt: &R,
     alloc: Global,
@@ -56,8 +54,7 @@ pub fn plan_by_workers<R: Threads + Sync>(
     requires some_workers { 1 ≤ workers }
     requires few_workers { workers ≤ 8 }
     requires begun { problem.now.all ≡ problem.now.problem.wants }
-    ensures plan { IfOk result (IsPlan options.by options.early options.limit problem.now.problem) }
-    ensures by_rule { IfOk result (λ plan. options.by ≡ By.Rule → IsFromRule options.early options.limit problem.now.problem plan) }
+    ensures plan { IfOk result (IsPlan options weights.now problem.now) }
     ensures over { IfErr result (λ fault. (opened : ℕ) → fault ≡ PlanFault.Over opened → TellsOver PartsTell options.by options.limit problem.now.problem opened) }
 {
     match options.by {
@@ -67,12 +64,11 @@ pub fn plan_by_workers<R: Threads + Sync>(
             let better = improve_plan(alloc, problem, weights, options, plan)?;
             Ok(better)
         }
-        By::Within => plan_by(alloc, problem, weights, options),
-        By::Rule => plan_by(alloc, problem, weights, options),
+        By::Within | By::Rule => plan_by(alloc, problem, weights, options),
     }
 }
 
-/// A plan of the options' planner, made better where they say so.
+/// A plan that was found by the options' way, made better where they say so.
 fn improve_plan(
     alloc: Global,
     problem: &Problem,
@@ -80,9 +76,8 @@ fn improve_plan(
     options: PlanOptions,
     plan: Plan,
 ) -> Result<Plan, AllocError>
-    requires { IsPlan options.by 0 options.limit problem.now.problem plan }
-    ensures plan { IfOk result (IsPlan options.by options.early options.limit problem.now.problem) }
-    ensures by_rule { IsPlannedByRule problem.now.problem options.limit plan → IfOk result (IsFromRule options.early options.limit problem.now.problem) }
+    requires { IsFound options.by options.limit problem.now plan }
+    ensures { IfOk result (IsPlan options weights.now problem.now) }
 {
     if !options.early {
         return Ok(plan);

@@ -2,7 +2,7 @@
 ghost use Rattle.std.specs.Prelude.{◌≡◌, IfOk, MatchResult, Ok, Err};
 ghost use Rattle.onfi_script.specs.declared.fault.ScriptFault.TheVariants as of;
 ghost use Rattle.onfi_script.specs.declared.fault.Stop.TheVariants.{Refused};
-ghost use Rattle.onfi_script.specs.Answer.{TellsProblem, TellsScript, TellsSetup, whole};
+ghost use Rattle.onfi_script.specs.Answer.{IsWeighed, TellsProblem, TellsScript, TellsSetup, whole};
 ghost use Rattle.onfi_script.specs.Input.{TellsRows};
 ghost use Rattle.onfi_script.specs.SetupOf.{problem_of};
 ghost use Rattle.onfi_script.specs.Stop.{IfRefused, Tells};
@@ -105,6 +105,7 @@ fn problem_in(alloc: Global, rows: &[Row]) -> Result<Problem, Stop>
 pub fn read_script(alloc: Global, input: &[u8]) -> Result<Script, Stop>
     ensures told { Tells IfRefused (λ s. s.problem.problem) result (TellsScript input.now) }
     ensures begun { IfOk result (λ s. s.problem.all ≡ s.problem.problem.wants) }
+    ensures weighed { IfOk result (λ s. IsWeighed input.now s.weights) }
 {
     let rows = read_rows(alloc, Purpose::Problem, input)?;
     let problem = problem_in(alloc, rows.as_slice())?;
