@@ -24,3 +24,5 @@ pub mod Serving
 pub mod Stand
 pub mod Status
 pub mod StatusText
+pub mod Text
+pub mod Words

@@ -38,7 +38,9 @@ mod stand;
 mod status;
 mod status_text;
 mod taking;
+mod text;
 mod version;
+mod words;
 
 pub use audit::PlainAudit;
 pub use audit_begin::onfi_audit_begin;
@@ -62,4 +64,5 @@ pub use row::onfi_row;
 pub use schedule::{PlainPlanned, PlainSchedule, PlainVerdict};
 pub use status_text::onfi_status_text;
 pub use taking::{onfi_dispatcher_accept, onfi_dispatcher_accept_again, onfi_dispatcher_cancel};
+pub use text::onfi_text;
 pub use version::onfi_version;
