@@ -54,9 +54,7 @@ pub extern "C" fn onfi_ran(
         (record { channel = channel.new; wants = take count.new wants.new; schedule = schedule.new })
         wants.old wants.new count.old count.new lun number started result }
 {
-    onfi_calls::onfi_ran(
-        alloc, channel, wants, count, schedule, lun, number, started,
-    )
+    onfi_calls::onfi_ran(alloc, channel, wants, count, schedule, lun, number, started)
 }
 
 /// Is [`onfi_output_of`](onfi_calls::onfi_output_of) for C.

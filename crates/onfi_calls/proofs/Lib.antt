@@ -17,3 +17,5 @@ mod Standing
 mod Stands
 mod Stated
 mod StepTaken
+mod Texts
+mod Verdicts

@@ -104,8 +104,8 @@ check_by Rule = None
 abbrev pub check_asked : List (List ℕ) → Option Command
 check_asked words =
     if length words == check_words words then
-      (if has (codes "--legal") words then (if has (codes "--by") words then None else Some Legal)
-      else and_then (by_named (value (codes "--by") words)) check_by)
+    (if has (codes "--legal") words then (if has (codes "--by") words then None else Some Legal)
+    else and_then (by_named (value (codes "--by") words)) check_by)
     else None
 
 -- .. `audit [--all] [--ready-by-status]`

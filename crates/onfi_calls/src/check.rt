@@ -17,12 +17,7 @@ use onfi_known_check::{check_known_text, check_known_within};
 use std::alloc::Global;
 
 /// When the schedule ends, in ns, where a certificate that remembers states shows what is asked.
-fn judge_known(
-    alloc: Global,
-    stand: &Stand,
-    below: u64,
-    certificate: &[u8],
-) -> Result<u64, Refusal>
+fn judge_known(alloc: Global, stand: &Stand, below: u64, certificate: &[u8]) -> Result<u64, Refusal>
     requires begun { stand.now.problem.all ≡ stand.now.problem.problem.wants }
     requires other { IsTextFault stand.now.problem.problem stand.now.schedule certificate.now (OfText NoHeader) }
     ensures shown { IfOk result (λ ends. spec.IsShown stand.now.problem.problem stand.now.schedule below certificate.now) }
@@ -55,7 +50,12 @@ fn judge(alloc: Global, stand: &Stand, below: u64, certificate: &[u8]) -> Result
             }
             Ok(finish)
         }
-        Err(TextFault::Text(CertTextFault::Header)) => judge_known(alloc, stand, below, certificate),
+        Err(TextFault::Text(CertTextFault::Header)) => judge_known(
+            alloc,
+            stand,
+            below,
+            certificate,
+        ),
         Err(fault) => Err(Refusal::of_text(fault)),
     }
 }

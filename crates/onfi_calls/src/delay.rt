@@ -13,9 +13,9 @@ ghost use Rattle.onfi_calls.specs.ReadSchedule.{groups_of, rest_of, rests_of, sc
 ghost use Rattle.onfi_calls.specs.PlainSchedule.{filled, no_group, no_rest, written_rest, written_schedule};
 
 use crate::channel::{PlainLun, PlainWant};
+use crate::plain_schedule::{NO_GROUP, NO_REST};
 use crate::ran::name_group;
 use crate::schedule::{PlainGroup, PlainRest, PlainSchedule};
-use crate::plain_schedule::{NO_GROUP, NO_REST};
 use arrayvec::ArrayVec;
 use onfi_flight::Due;
 use onfi_group::{Group, wait_before};

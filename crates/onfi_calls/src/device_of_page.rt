@@ -11,7 +11,9 @@ use crate::refusal::Refusal;
 use crate::status::Status;
 use onfi_addr::{Geometry, GeometryFault};
 use onfi_param::{PageFault, ParamPage, read_page};
-use onfi_timing::{Kind, Parameter, Sheet, SheetFault, Spans, Strobe, StrobeFault, Strobes, Timing};
+use onfi_timing::{
+    Kind, Parameter, Sheet, SheetFault, Spans, Strobe, StrobeFault, Strobes, Timing,
+};
 use std::alloc::Global;
 
 /// The number of a parameter.

@@ -8,12 +8,12 @@ ghost use Rattle.onfi_calls.specs.Refused.{IsMeasured};
 
 use crate::channel::{PlainChannel, PlainWant};
 use crate::device::PlainGeometry;
-use crate::least_due::due_in_order;
 use crate::flight::fill;
 use crate::geometry::geometry_of;
+use crate::least_due::due_in_order;
 use crate::phase::PlainPhase;
-use crate::row::row_in;
 use crate::problem::{measure_few, rules};
+use crate::row::row_in;
 use crate::schedule::PlainSchedule;
 use crate::status::Status;
 use onfi_addr::{Geometry, Place};

@@ -346,10 +346,8 @@ fn have_lacking(channel: &PlainChannel, wants: &[PlainWant]) -> bool
     requires { channel.now.lun_count ≤ 8 }
     ensures { result ≡ spec.have_lacking channel.now wants.now }
 {
-    luns_lack(
-        &channel.lengths,
-        &channel.lun[..channel.lun_count as usize],
-    ) || wants_lack(&channel.lengths, wants)
+    luns_lack(&channel.lengths, &channel.lun[..channel.lun_count as usize])
+        || wants_lack(&channel.lengths, wants)
 }
 
 /// Whether more requests are said than a problem may have.

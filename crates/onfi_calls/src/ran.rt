@@ -12,14 +12,14 @@ ghost use Rattle.onfi_calls.specs.PlainSchedule.{filled, written_want};
 ghost use Rattle.onfi_calls.specs.declared.status.Status.TheVariants.{Clock};
 
 use crate::channel::{PlainChannel, PlainLun, PlainWant};
-use crate::least_due::due_in_order;
+use crate::delay::{delay_schedule, lun_after, wants_left};
 use crate::flight::{fault_of, fill};
 use crate::in_order::HALF;
-use crate::delay::{delay_schedule, lun_after, wants_left};
+use crate::least_due::due_in_order;
+use crate::plain_schedule::{self, plain_want, plain_wants};
 use crate::problem::{measure_few, rules};
 use crate::schedule::PlainSchedule;
 use crate::status::Status;
-use crate::plain_schedule::{self, plain_want, plain_wants};
 use arrayvec::ArrayVec;
 use onfi_flight::{Due, Flight, Next};
 use onfi_group::phase_length;
@@ -248,7 +248,9 @@ fn run_in_flight(
         wants.old wants.new count.old count.new lun number started result }
 {
     let waiting = &wants[..*count];
-    match run_said(alloc, timing, channel, waiting, schedule, lun, number, started) {
+    match run_said(
+        alloc, timing, channel, waiting, schedule, lun, number, started,
+    ) {
         Ok(behind) => {
             channel.bus_free = behind.bus_free;
             channel.lun[usize::from(lun)] = behind.lun;

@@ -9,8 +9,7 @@ use crate::channel::PlainWant;
 use crate::dispatcher::is_on;
 use crate::in_order::has_page;
 use crate::plain_dispatcher::PlainDispatcher;
-use crate::problem::want_of;
-use crate::problem::lacks_length;
+use crate::problem::{lacks_length, want_of};
 use crate::status::Status;
 
 /// Why the device can't have a request, if so.

@@ -1,6 +1,7 @@
 //! What the words of a command ask for.
 ghost use Rattle.std.specs.Prelude.{◌≡◌, length, option_map, IfSome};
 ghost use Rattle.std.specs.Str.{bytes_eq};
+ghost use Rattle.onfi_script.specs.Field.{number as field_number};
 ghost use Rattle.onfi_script.specs.Limit.{IsLimit, IsLimited};
 ghost use Rattle.onfi_calls.specs.Words as spec;
 
@@ -99,7 +100,7 @@ fn with_value(words: &[u8], name: &str) -> usize
 
 /// The way to plan that is named, the plain one where none is.
 fn by_named(word: Option<&[u8]>) -> Option<By>
-    ensures { result ≡ spec.by_named (option_map (λ w. w.now) word) }
+    ensures { result ≡ spec.by_named (option_map (λ w. w.now) word.entry) }
 {
     let Some(word) = word else {
         return Some(By::Plain);
@@ -117,7 +118,7 @@ fn by_named(word: Option<&[u8]>) -> Option<By>
 
 /// A limit of nodes.
 fn read_limit(word: &[u8]) -> Option<u32>
-    ensures value { result ≡ spec.taken (spec.number 1 1048576 word.now) }
+    ensures value { result ≡ spec.taken (field_number 1 1048576 word.now) }
     ensures range { IfSome result IsLimit }
 {
     match number(word, 1, 1_048_576) {
@@ -128,7 +129,7 @@ fn read_limit(word: &[u8]) -> Option<u32>
 
 /// The limit that is named, or the usual one; the rule takes none.
 fn limit_named(by: By, word: Option<&[u8]>) -> Option<u32>
-    ensures value { result ≡ spec.limit_named by (option_map (λ w. w.now) word) }
+    ensures value { result ≡ spec.limit_named by (option_map (λ w. w.now) word.entry) }
     ensures range { IfSome result IsLimit }
 {
     match (by, word) {
