@@ -99,12 +99,13 @@ pub const BY_CHECK: &str =
     "'plain': plan texts as 'plan' prints them; 'within': those of 'plan --by within' and '--by rule' [plain]";
 
 pub const BY_RUN: &str =
-    "Plan batches by 'plain', 'within' or 'rule' as 'plan' does; 'next': plan none, take the next phase [plain]";
+    "Plan batches by 'plain', 'within' or 'rule'; 'next': plan none, and run what may go first [plain]";
 
 pub const EARLY_PLAN: &str =
     "Let requests end early by the weights of the script, and nothing later than the plan does";
 
-pub const EARLY_RUN: &str = "Let requests end early by their age, and nothing later than its plan does";
+pub const EARLY_RUN: &str =
+    "Let requests end early by their age, and nothing later than its plan does";
 
 pub const LIMIT: &str =
     "Open at most N nodes in the search for a plan, 1 to 1048576 [1048576, by 'within' 65536]";

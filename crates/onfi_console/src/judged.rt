@@ -181,9 +181,9 @@ fn header_fault(command: Command, header: &[u8]) -> &'static str {
         || header == b"ONFICERT 4 strict remember".as_slice();
     let plain = header == b"ONFICERT 1".as_slice() || header == b"ONFICERT 2 strict".as_slice();
     match command {
-        Command::Check if remembers =>
-            "it remembers states; 'check --by within' takes it",
-        Command::CheckWithin if plain => "it is a plain one; 'check' takes it, without '--by within'",
+        Command::Check if remembers => "it remembers states; 'check --by within' takes it",
+        Command::CheckWithin if plain =>
+            "it is a plain one; 'check' takes it, without '--by within'",
         _ =>
             "its first line is 'ONFICERT 1', 'ONFICERT 2 strict', 'ONFICERT 3 remember' or 'ONFICERT 4 strict remember', with LF behind it",
     }

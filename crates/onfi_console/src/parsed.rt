@@ -62,24 +62,15 @@ pub struct RunOptions {
 pub enum Named {
     /// The problem of a script is planned, or a plan of it checked, by so many workers, 1 to 8; one where none are
     /// named.
-    Problem {
-        command: Command,
-        workers: usize,
-    },
+    Problem { command: Command, workers: usize },
     /// The operations of a script are run.
-    Run {
-        options: RunOptions,
-    },
+    Run { options: RunOptions },
     /// The parameter page of a script is described.
     Device,
     /// A log that begins as a script says is judged.
-    Audit {
-        options: AuditOptions,
-    },
+    Audit { options: AuditOptions },
     /// A log that begins as a script says is judged, and measured where it is legal.
-    Gaps {
-        options: GapOptions,
-    },
+    Gaps { options: GapOptions },
 }
 
 /// What a command line asks for.
