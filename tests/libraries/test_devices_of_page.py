@@ -152,7 +152,7 @@ class Sectors(unittest.TestCase):
         ]
         for name, place, words in faults:
             with self.assertRaises(name) as told:
-                onfi.device_of_page(*words, sector_bytes=132)
+                onfi.device_of_page(*[*words, b""][:3], 132)
             self.assertEqual(told.exception.place, place)
 
 

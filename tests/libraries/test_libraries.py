@@ -11,7 +11,7 @@ import sys
 import tempfile
 import unittest
 from pathlib import Path
-from typing import Dict, List, Sequence, Tuple, Union
+from typing import Dict, List, Optional, Sequence, Tuple
 
 ROOT = Path(__file__).resolve().parent.parent.parent
 sys.dont_write_bytecode = True
@@ -81,7 +81,7 @@ class Headers(unittest.TestCase):
             told = run("nm", "--defined-only", *words).stdout.decode()
             self.assertEqual(sorted(re.findall(r"^\w+ \w (\w+)$", told, re.MULTILINE)), calls, words)
         asked = run("nm", "-u", str(LIBRARY / "libonfi.a")).stdout.decode().split()
-        self.assertEqual(sorted({*asked} - {"U", "onfi.o:"}), ["__udivti3", "free", "malloc", "memcpy", "memmove", "memset", "realloc"])
+        self.assertEqual(sorted({*asked} - {"U", "onfi.o:"}), ["free", "malloc", "memcpy", "memmove", "memset", "realloc"])
 
     def test_shared_library_is_named_by_its_major_version(self) -> None:
         version = (ROOT / "VERSION").read_text().strip()
@@ -304,6 +304,10 @@ def cost_of(channel: onfi.Channel, wants: Sequence[onfi.Want], weights: Sequence
     return cost
 
 
+# The program's status where a command line is refused.
+USAGE = 5
+
+
 class Same(unittest.TestCase):
     """By C, by Python and by onfi_sim there is one answer."""
 
@@ -382,6 +386,10 @@ class Same(unittest.TestCase):
             given = Path(BUILT.name) / "script.onfi"
             given.write_bytes(case.input)
             c = run(by_text, words, str(given))
+            if case.status == USAGE:
+                self.assertEqual((c.stdout, c.returncode, c.stderr), (b"", onfi.BadWords.status, b""), case.place)
+                self.assertRaises(onfi.BadWords, onfi.text, words, case.input)
+                continue
             self.assertEqual((c.stdout, c.returncode, c.stderr), (case.output, case.status, b""), case.place)
             python = onfi.text(words, case.input)
             self.assertEqual((python.text, python.status), (case.output, case.status), case.place)
