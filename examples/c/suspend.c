@@ -212,7 +212,7 @@ static void give(run *r, size_t place, bool any_sleeps)
 {
     r->waits[place].is_held = is_held_back(r, place, any_sleeps);
     if (!r->waits[place].is_held)
-        find_wrong(r, driver_accept(&r->firmware, &r->waits[place].want) != ONFI_DONE, "a request is refused");
+        find_wrong(r, onfi_dispatcher_accept(&r->firmware.dispatcher, &r->waits[place].want) != ONFI_DONE, "a request is refused");
 }
 
 /* What stands for those that sleep has the lengths of the longest of them; erases have their own again where none sleeps. */
@@ -420,8 +420,7 @@ static void run_phase(run *r, const onfi_phase *phase)
     bool goes_on = r->asleep[phase->lun].group.members && phase->want == r->asleep[phase->lun].stands.id;
     if (phase->number == 0)
         note_group(r, phase);
-    bool went = driver_run(&r->firmware, phase, phase->start, &of);
-    r->now = r->mock.bus_free;
+    bool went = drive(&r->firmware, phase, phase->start, &of, &r->now) && went_well(&r->firmware, onfi_dispatcher_ran(&r->firmware.dispatcher, phase->start));
     find_wrong(r, !went || r->mock.wrong, r->mock.wrong ? r->mock.wrong : "a call refuses what has run");
     if (r->wrong)
         return;

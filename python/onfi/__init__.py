@@ -11,7 +11,9 @@ What judges a schedule or a log, whoever made it:
     find_breach       the first condition that a schedule breaks
     audit, audit_phases                 what a log breaks, as a whole or as it comes; `Audit` judges phase by phase
 What drives a channel:
-    Dispatcher        one phase after another, as requests come: `accept`, `next`, `ran`, `ready`; `phases` runs all
+    Dispatcher        one phase after another, as requests come: `accept`, `next`, `ran`, `ready`; `phases` runs all, `run` a trace
+    play, phases_of   a trace over a `Dispatcher`, or a `Scheduler` of one's own; a `Run` has tables and a chart
+    gantt, waveform   phases as SVG
     due, ran          of a plan the phase that is due, and what stands after it; `Driver` keeps all that stands, for a loop
     row, output_of    the row address of a page, and the column and bytes of a data output
 What a device is by its parameter page, and kinds of reads of some sectors:
@@ -86,6 +88,7 @@ from onfi.model import (
     Want,
     kind_by,
 )
+from onfi.pictures import gantt, waveform
 from onfi.refused import (
     # from here on written by tools/make-statuses
     REFUSALS,
@@ -155,6 +158,7 @@ from onfi.refused import (
     ZeroSpan,
     # until here
 )
+from onfi.running import BadStep, Run, Scheduler, Step, phases_of, play
 
 __all__ = [
     "Answer",
@@ -171,6 +175,7 @@ __all__ = [
     "BadPlaneBits",
     "BadSchedule",
     "BadSectors",
+    "BadStep",
     "BadToken",
     "BoundLow",
     "Breach",
@@ -222,7 +227,9 @@ __all__ = [
     "Refused",
     "RowTooWide",
     "Rules",
+    "Run",
     "Schedule",
+    "Scheduler",
     "SheetMissing",
     "SheetNotANumber",
     "SheetRepeated",
@@ -233,6 +240,7 @@ __all__ = [
     "Sooner",
     "Spans",
     "Stand",
+    "Step",
     "StrobeMissing",
     "StrobeNotANumber",
     "StrobeRepeated",
@@ -260,15 +268,18 @@ __all__ = [
     "check_within",
     "due",
     "find_breach",
+    "gantt",
     "kind_by",
     "lengths_of_page",
     "library_version",
     "output_of",
+    "phases_of",
     "plan",
     "plan_early",
     "plan_known",
     "plan_rule",
     "plan_within",
+    "play",
     "ran",
     "row",
     "text_audit",
@@ -276,6 +287,7 @@ __all__ = [
     "text_legal",
     "text_plan",
     "timing_of_page",
+    "waveform",
 ]
 
 __version__ = "1.0.0"

@@ -7,8 +7,10 @@ from typing import Iterable, Iterator, Optional
 
 from onfi.calls import DONE, CProblem, status_text
 from onfi.library import library
+from onfi.logs import Audit
 from onfi.model import Channel, Geometry, Lengths, Lun, Phase, Want
 from onfi.refused import REFUSALS, BadPlace, NothingDue, Refused
+from onfi.running import Arrival, phases_of
 from onfi.structs import CDispatcher, CGeometry, CLengths, CPhase, CWant, number
 
 
@@ -102,6 +104,16 @@ class Dispatcher:
             self.ran(phase.start)
             yield phase
             phase = self.next(phase.end)
+
+    def run(self, trace: Iterable[Arrival], audit: Optional[Audit] = None) -> Iterator[Phase]:
+        """The phases that come of a trace of requests, which come at their times: pairs of a time in ns and a `Want`, by rising times.
+
+            for phase in channel.run([(0, Want(0, Kind.READ, lun=3, block=5)), (2_000, Want(1, Kind.READ, lun=1, block=7))]):
+                print(phase.start, phase.lun, phase.want)
+
+        `play` keeps all that came of one, with tables and a chart.
+        """
+        return phases_of(self, trace, audit)
 
     @staticmethod
     def _done(status: int, lun: Optional[int] = None, request: Optional[int] = None) -> None:

@@ -236,6 +236,15 @@ class Planned:
             raise ValueError("a plan that no call gave has no problem: ask its schedule for the phases of one")
         return self.schedule.phases(self.problem)
 
+    def svg(self) -> str:
+        """A Gantt chart of its phases."""
+        from onfi.pictures import gantt  # what a picture is of stands here
+
+        return gantt(self.phases())
+
+    def _repr_html_(self) -> str:
+        return self.svg()
+
 
 @dataclass(frozen=True)
 class Plan(Planned):

@@ -286,22 +286,6 @@ class Given(unittest.TestCase):
         posts = {it.want: it.end - it.start for it in made.phases() if it.is_post}
         self.assertEqual(posts, {3: 3_080, 5: 11_000, 9: 8_360})
 
-    def test_a_chart_is_three_lines(self) -> None:
-        """Those of the page, with a stand-in for what draws."""
-        lines = re.search(r"^    for start, end.*\n(?:    .*\n)+", (ROOT / "examples/python/README.md").read_text(), re.MULTILINE)
-        assert lines
-        bars: List[Tuple[int, int, int, str]] = []
-
-        class Drawing:
-            def barh(self, lun: int, width: int, left: int, color: str, hatch: str) -> None:
-                bars.append((lun, left, left + width, color + hatch))
-
-            def show(self) -> None:
-                bars.sort()
-
-        exec(textwrap.dedent(lines[0]), {"plt": Drawing(), "made": onfi.plan(CHANNEL, LUNS, WANTS[2:])})
-        self.assertEqual((len(lines[0].splitlines()), bars), (3, [(1, 500, 640, "C0"), (1, 25_740, 36_740, "C0//")]))
-
     def test_help_begins_with_the_functions(self) -> None:
         about = str(onfi.__doc__).partition("from onfi import")[0]
         calls = [name for name in onfi.__all__ if inspect.isfunction(getattr(onfi, name))]

@@ -172,27 +172,28 @@ REMEMBERING = """#!{python} -SI
 import sys
 words = sys.argv[1:]
 sys.stdin.read()
-remembers = "--remember" in words
+remembers = "within" in words
 nodes, finish = ({nodes}, {finish}) if remembers else ({plain_nodes}, 7)
 if words[0] == "check":
     sys.exit(print(f"accepted {accepted}"))
 limit = int(words[words.index("--limit") + 1])
-if limit < nodes:
+if limit < nodes and not remembers:
     print(f"over {{limit}}")
     sys.exit(6)
-print(f"ONFIPLAN 1\\nfinish {{finish}}\\ngroup 0 0 1\\nONFICERT {{'3 remember' if remembers else 1}}\\nB3 U Y1 L")
+below = "below 1\\n" if limit < nodes else ""
+print(f"ONFIPLAN 1\\nfinish {{finish}}\\n{{below}}group 0 0 1\\nONFICERT {{'3 remember' if remembers else 1}}\\nB3 U Y1 L")
 """
 # What it opens and answers, the status, and what is said then.
 REMEMBERED = {
     "nodes are counted by the least limit": (dict(plain_nodes=37, nodes=3, finish=7, accepted=7), 0, [
         "4 finishes of both agree, 4 plans", r"\| all \| `plan` \| 0 \| 37 / 37 / 37 \|.*\| 21 / 21 / 21 \|",
-        r"\| all \| `plan --remember` \| 0 \| 3 / 3 / 3 \|.*\| 30 / 30 / 30 \|", "9 of 9 hard scripts"]),
+        r"\| all \| `plan --by within` \| 0 \| 3 / 3 / 3 \|.*\| 30 / 30 / 30 \|", "9 of 9 hard scripts"]),
     "a search that is over": (dict(plain_nodes=1 << 21, nodes=100_001, finish=7, accepted=7), 0, [
         r"\| all \| `plan` \| 4 \| over / over / over \|", r"\| 0 \| 100,001 / 100,001 / 100,001 \|", "0 of 9 hard scripts"]),
     "another finish": (dict(plain_nodes=37, nodes=3, finish=6, accepted=6), 1, ["finishes 7 and 6"]),
-    "a plan that is refused": (dict(plain_nodes=37, nodes=3, finish=7, accepted=8), 1, ["check --remember: accepted 8"]),
+    "a plan that is refused": (dict(plain_nodes=37, nodes=3, finish=7, accepted=8), 1, ["check --by within: accepted 8"]),
 }
-# Answers by the plain searches: `plan --limit N` is over where theirs is, and `plan --remember` gives their finish, or one ns more.
+# Answers by the plain searches: `plan --limit N` is over where theirs is, and `plan --by within` gives their finish, or one ns more.
 BESIDE = """#!/bin/sh
 script={room}/given.onfi
 cat > $script
@@ -230,7 +231,7 @@ class Searches(unittest.TestCase):
     def test_beside_prototypes(self) -> None:
         run = self.beside_prototypes(0, 1)
         self.assertEqual((run.returncode, run.stderr), (0, ""))
-        plain, remembering = run.stdout.split("plan --remember, beside rem\n")
+        plain, remembering = run.stdout.split("plan --by within, beside rem\n")
         self.assertRegex(plain, r"mixed-on-eight-luns\.onfi: 1,048,576 nodes.*ratio [0-9.]+\n")
         self.assertRegex(remembering, r"programs-on-one-plane\.onfi: 808 nodes, .* ms, other .* ms, ratio [0-9.]+\n")
         self.assertRegex(remembering, r"remembered-1\.onfi: [0-9]+,[0-9]{3} nodes")
@@ -242,7 +243,7 @@ class Searches(unittest.TestCase):
     def test_a_better_plan_that_ends_too_late(self) -> None:
         with tempfile.TemporaryDirectory() as folder:
             program = support.executable(folder, LATE.format(python=sys.executable))
-            said = support.run_tool("bench", "early", program, "--small", "1", "--scripts", "0", "--slack", "0", "--jobs", "1")
+            said = support.run_tool("bench", "early", program, "--small", "1", "--scripts", "0", "--jobs", "1")
         self.assertEqual((said.returncode, said.stdout), (1, ""))
         self.assertTrue(said.stderr.startswith("bench early: "), said.stderr)
 
@@ -258,10 +259,10 @@ class Built(unittest.TestCase):
         self.assertIn("80 schedules of the ways judged legal", self.measured("worth", "--scripts", "20", "--check", "20", "--limit", "20000"))
 
     def test_early(self) -> None:
-        said = self.measured("early", "--small", "3", "--scripts", "2", "--slack", "0", "20")
+        said = self.measured("early", "--small", "3", "--scripts", "2")
         self.assertIn("seed 1, 3 small problems, each against all its schedules", said)
-        self.assertEqual(len(re.findall(r"(?m)^\| (?:0|20) \| \d+ \| \d+ \|", said)), 2)
-        self.assertEqual(len(re.findall(r"(?m)^\| (?:0|20) \|(?: -?\d+\.\d % \|){4}$", said)), 2)
+        self.assertEqual(len(re.findall(r"(?m)^\| \d+ \| \d+ \|", said)), 1)
+        self.assertEqual(len(re.findall(r"(?m)^\|(?: -?\d+\.\d % \|){4}$", said)), 1)
 
     def test_chains_of_batches(self) -> None:
         said = self.measured("remember", "5", "--scripts", "4", "--chains", "2", "--few")

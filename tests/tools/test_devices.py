@@ -152,7 +152,7 @@ BY_PAGE = EXAMPLES / "program-by-page.onfi"
 PAGE, NUMBERS = page_rows(BY_PAGE), page_numbers(BY_PAGE.read_text())
 SHEET = {"tWC": 20, "tRC": 20, "tADL": 100, "tWHR": 80, "tRHW": 100, "tWB": 100, "tPLRBSY": 500, "tPLPBSY": 500, "tPLEBSY": 500}
 DRAWN = 200
-COMMANDS = (["plan"], ["plan", "--remember"], ["plan", "--trace"], ["plan", "--remember", "--requests"], ["device"])
+COMMANDS = (["plan"], ["plan", "--by", "within"], ["plan", "--trace"], ["plan", "--by", "within", "--requests"], ["device"])
 Told = Tuple[Dict[str, int], Dict[str, int]]
 
 

@@ -15,15 +15,15 @@ text = sys.stdin.buffer.read()
 words = sys.argv[1:]
 command = (words + [""])[0]
 traced = "--trace" in words or "--requests" in words
-remembers, split, legal, within = "--remember" in words, "--workers" in words, "--legal" in words, "--within" in words
+split, legal, within = "--workers" in words, "--legal" in words, "within" in words
 def say(text, status):
     sys.stdout.write(text)
     sys.exit(status)
 {body}
 """
 REFUSES = """
-taken = {*"--limit --trace --requests --workers --remember --within --legal --early --slack".split()}
-options = [word for word in words[1:] if not word.isdigit()]
+taken = {*"--limit --trace --requests --workers --by --legal --early".split()}
+options = [word for word in words[1:] if not (word.isdigit() or word in ("within", "rule"))]
 if command not in ("plan", "check", "run") or sorted(options) != sorted(taken.intersection(options)):
     sys.stderr.write("error: a word\\n")
     sys.exit(5)
@@ -31,12 +31,12 @@ if command not in ("plan", "check", "run") or sorted(options) != sorted(taken.in
 ANSWERS = f"""
 if legal:
     say("legal 7\\n", 0)
-if command == "check" and within:
-    say("within 7 6\\n", 8) if text.endswith(b"{NEAR}") else say("refused plan 1\\n", 2)
+if command == "check" and within and text.endswith(b"{NEAR}"):
+    say("within 7 6\\n", 8)
 if command == "check":
-    whole = b"{REMEMBERED}" if remembers else b"{PLAN}"
+    whole = b"{REMEMBERED}" if within else b"{PLAN}"
     say("accepted 7\\n", 0) if text.endswith(whole) else say("refused plan 1\\n", 2)
-plan = "{REMEMBERED}" if remembers else "{NEAR}" if within else "{PLAN}"
+plan = "{NEAR}" if within else "{PLAN}"
 say("closed\\n" if command == "run" else "" if traced else plan, 0)
 """
 RIGHT = REFUSES + ANSWERS
@@ -57,7 +57,6 @@ def fuzzed(body: str, inputs: int = 40) -> "tuple[int, str]":
     return said.returncode, said.stdout
 
 
-OTHER_FINISH = RIGHT.replace(REMEMBERED, REMEMBERED.replace("finish 7", "finish 6"))
 FAR = NEAR.replace("finish 7", "finish 9").replace("below 6", "below 8")
 MESSAGE = 'sys.stderr.write("onfi_sim: row 1\\n  expected: another\\n")\n'
 OTHER_PLAN = "ONFIPLAN 1\\nfinish 7\\nONFICERT 1\\nL\\n"
@@ -69,21 +68,18 @@ MISSES = {
     "a word on standard error": ('sys.stderr.write("oh")\nsay("script refused 0 NoEnd\\n", 1)', "standard error b'oh'", 40),
     "a message beside an answer": (REFUSES + MESSAGE + ANSWERS, "standard error b'onfi_sim: row 1", 40),
     "a plan that is refused": (RIGHT.replace("accepted 7", "refused 1 Illegal").replace(", 0) if", ", 2) if"), "['check'] says b'refused 1 Illegal", 40),
-    "a plan that is refused with the other header": (RIGHT.replace("if remembers", "if 0", 1), "['check', '--remember'] says b'refused plan 1", 40),
-    "another finish of a plan that remembers": (
-        OTHER_FINISH.replace('say("accepted 7\\n", 0)', 'say("accepted 6\\n" if remembers else "accepted 7\\n", 0)'),
-        "['plan'] says that the best plan ends from 7 to 7, and ['plan', '--remember', ", 100),
+    "a plan that is refused with the other header": (RIGHT.replace("if within else", "if 0 else", 1), "['check', '--by', 'within'] says b'refused plan 1", 100),
     "a sooner finish that is accepted": (RIGHT.replace('say("refused plan 1\\n", 2)', 'say("accepted 6\\n", 0)'), "says that the best plan ends from 6 to 6, and ", 40),
     "a time above the optimum": (
         RIGHT.replace(NEAR, FAR).replace("within 7 6", "within 9 8"), "'] from 8 to 9", 100),
-    "a plan that is judged otherwise": (RIGHT.replace("within 7 6", "within 7 5"), "['check', '--within'] says b'within 7 5", 100),
+    "a plan that is judged otherwise": (RIGHT.replace("within 7 6", "within 7 5"), "['check', '--by', 'within'] says b'within 7 5", 100),
     "a legal schedule that ends sooner": (RIGHT.replace("legal 7", "legal 6"), "['check', '--legal'] from 0 to 6", 40),
     "another plan by several workers": (REFUSES + f'if split: say("{OTHER_PLAN}", 0)' + ANSWERS, f"another plan b'{OTHER_PLAN}'", 200),
     "a reply twice": (RIGHT.replace("closed", "reply,0,0,1,done\\nreply,0,0,1,done\\nclosed"), "replies that don't rise", 40),
     "a stopped channel with another status": (RIGHT.replace("closed", "stopped,0,Bus\\nclosed"), "status 0 of the report", 40),
     "a command line that is refused without a word": (RIGHT.replace("error: a word", ""), "status 5", 100),
     "a command line that is refused with an answer": (RIGHT.replace("sys.exit(5)", 'say("refused\\n", 5)'), "status 5", 100),
-    "words that are refused though nothing changed them": (RIGHT.replace("if command", "if remembers or command"), "status 5", 40),
+    "words that are refused though nothing changed them": (RIGHT.replace("if command", "if within or command"), "status 5", 40),
 }
 
 
@@ -91,8 +87,8 @@ class Fuzz(unittest.TestCase):
     def test_a_program_that_answers_rightly_passes(self) -> None:
         status, said = fuzzed(RIGHT, 100)
         self.assertEqual((status, said.splitlines()[-1]), (0, "100 passed, 0 failed"))
-        plans = ("plan plan", "plan --remember recalled", "trace trace", "run ran", "words refused")
-        for told in ("plan --within near", "check --within within", "check accepted", "check --remember accepted", "check --legal legal", *plans):
+        plans = ("plan plan", "trace trace", "run ran", "words refused")
+        for told in ("plan --by within near", "check --by within within", "check accepted", "check --by within accepted", "check --legal legal", *plans):
             self.assertRegex(said, rf"[1-9]\d* {told}\b")
 
     def test_a_message_passes_beside_a_refusal(self) -> None:

@@ -95,6 +95,6 @@ class Remembered(unittest.TestCase):
         tokens, place = every_move(1_048_577)
         for kept, told in ((tokens, f"refused 13 TooMany {place}\n"), (tokens[:-1], "refused 2 Short\n")):
             given = script + plan + "ONFICERT 3 remember\n" + " ".join(kept) + "\n"
-            ran = support.run_program("check", "--remember", given=given)
+            ran = support.run_program("check", "--by", "within", given=given)
             self.assertEqual((ran.stdout, ran.returncode), (told, 2))
-            self.assertIn("doesn't prove it optimal: ", ran.stderr)
+            self.assertIn("doesn't prove that nothing ends before ", ran.stderr)

@@ -52,7 +52,7 @@ class WrongWords(unittest.TestCase):
     WORDS: List[Tuple[str, List[str]]] = [
         ("plna", ["'plna'", "tip:", "'plan'"]), ("chekc", ["'chekc'", "tip:", "'check'"]),
         ("plan --trase", ["'--trase'", "tip:", "'--trace'"]), ("plan --request", ["'--request'", "tip:", "'--requests'"]),
-        ("plan --worker 2", ["'--worker'", "tip:", "'--workers'"]), ("check --remeber", ["'--remeber'", "tip:", "'--remember'"]),
+        ("plan --worker 2", ["'--worker'", "tip:", "'--workers'"]), ("plan --erly", ["'--erly'", "tip:", "'--early'"]),
         ("check --legl", ["'--legl'", "tip:", "'--legal'"]), ("run --limt 2", ["'--limt'", "tip:", "'--limit'"]),
         ("--limit 7 plan", ["'--limit'", "'plan --limit'"]), ("", ["'plan', 'check', 'audit', 'run' or 'device'", "--help"]),
         *((f"{command} --limit={value}", ["'--limit'", "1 to 1048576"]) for command in ("plan", "run")
@@ -61,7 +61,9 @@ class WrongWords(unittest.TestCase):
         ("audit --csv", ["'--csv'", "'--optimum'"]), ("audit --optimum --ready-by-status", ["'--ready-by-status'", "'--optimum'"]),
         *((f"plan --workers {value}", ["'--workers'", "1 to 8"]) for value in ("0", "9", "two")),
         ("plan --limit", ["a value is required", "--limit <N>"]),
-        ("plan --workers 2 --remember", ["'--workers'", "'--remember'"]), ("check --legal --remember", ["'--legal'", "'--remember'"]),
+        ("plan --workers 2 --by within", ["'--workers'", "'--by within'"]), ("check --legal --by within", ["'--legal'", "'--by'"]),
+        ("run --by next --early", ["'--early'", "'--by next'"]), ("run --by rule --limit 7", ["'--limit'", "'--by rule'"]),
+        ("plan --by best", ["'--by'", "'plain', 'within' or 'rule'"]), ("run --by best", ["'plain', 'within', 'rule' or 'next'"]),
         ("plan a b", ["'b'"]), ("check a b c", ["'c'"]), ("plan --trace --trace", ["'--trace'"]),
     ]
 
@@ -94,11 +96,10 @@ class WrongWords(unittest.TestCase):
 class Help(unittest.TestCase):
     """Help is said on standard error with status 5; the version is an answer."""
 
-    OPTIONS = {"plan": ["--limit <N>", "--trace", "--requests", "--workers <N>", "--remember", "--within", "--rule", "--early", "--slack <N>",
-                        "-q, --quiet", "[FILE]"],
-               "check": ["--remember", "--within", "--legal", "-q, --quiet", "[FILE]", "[PLAN]"],
+    OPTIONS = {"plan": ["--by <WAY>", "--early", "--limit <N>", "--workers <N>", "--trace", "--requests", "-q, --quiet", "[FILE]"],
+               "check": ["--by <WAY>", "--legal", "-q, --quiet", "[FILE]", "[PLAN]"],
                "audit": ["--all", "--ready-by-status", "--optimum", "--limit <N>", "--csv", "-q, --quiet", "[FILE]", "[LOG]"],
-               "run": ["--limit <N>", "--remember", "--within", "--slack <N>", "--rule", "--by <WAY>", "--clock <CLOCK>", "-q, --quiet", "[FILE]"],
+               "run": ["--by <WAY>", "--early", "--limit <N>", "--clock <CLOCK>", "--trace <LOG>", "-q, --quiet", "[FILE]"],
                "device": ["-q, --quiet", "[FILE]"]}
 
     def help(self, *words: str) -> str:
@@ -113,7 +114,7 @@ class Help(unittest.TestCase):
         for command in COMMANDS:
             self.assertRegex(text, rf"(?m)^  {command} +[A-Z]")
         for status in range(9):
-            self.assertRegex(text, rf"(?m)^  {status}  \w")
+            self.assertRegex(text, rf"[ \n]{status} \w")
         for part in ("standard input", "standard output", "standard error", "Example:", "docs/FORMATS.md"):
             self.assertIn(part, text)
 
@@ -127,6 +128,11 @@ class Help(unittest.TestCase):
                 self.assertIn(part, text)
             told = set(re.findall(r"(?m)^ +(?:-\w, )?(--\w+)", text.split("Options:")[1].split("\n\n")[0]))
             self.assertEqual(told - {"--help"}, set(re.findall(r"--\w+", " ".join(options))))
+
+    def test_help_fits_a_screen(self) -> None:
+        """Of 24 lines; that of `audit` says more."""
+        for words in ((), *((command,) for command in COMMANDS if command != "audit")):
+            self.assertLessEqual(len(self.help(*words, "--help").splitlines()), 24, words)
 
     def test_lines_of_help_fit_a_wide_terminal_and_its_examples_go_well(self) -> None:
         for words in ((), *((command,) for command in COMMANDS)):
@@ -255,7 +261,7 @@ class Files(unittest.TestCase):
 class Quiet(unittest.TestCase):
     def test_nothing_is_said_of_a_command_line_that_is_refused(self) -> None:
         for words in (["-q"], ["--quiet"], ["plan", "-q", "--limit"], ["plan", "--quiet", "--limit", "0"], ["plna", "--quiet"],
-                      ["plan", "--trase", "-q"], ["check", "-q", "--legal", "--remember"], ["plan", "-q", "/absent/file"],
+                      ["plan", "--trase", "-q"], ["check", "-q", "--legal", "--by", "within"], ["plan", "-q", "/absent/file"],
                       ["check", "--quiet", str(BATCH), "/absent/file"], ["plan", "-q", "\x1b"]):
             self.assertEqual(ran(*words), ("", "", REFUSED_WORDS), words)
 
@@ -271,7 +277,7 @@ class Quiet(unittest.TestCase):
 @unittest.skipUnless(support.program(), "no built program")
 class Streams(unittest.TestCase):
     GIVEN = ((["plan"], b"bsu,0\nend\n"), (["plan", "--limit", "1"], b""), (["check"], BATCH.read_bytes()), (["run"], b"x"))
-    ANSWERED = [(words.split(), given) for words in ("plan", "plan --trace", "check", "check --remember") for given in (b"", BATCH.read_bytes())]
+    ANSWERED = [(words.split(), given) for words in ("plan", "plan --trace", "check", "check --by within") for given in (b"", BATCH.read_bytes())]
 
     def test_nothing_is_said_where_a_read_fails(self) -> None:
         folder = os.open(support.ROOT, os.O_RDONLY)

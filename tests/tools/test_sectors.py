@@ -21,8 +21,8 @@ MOST_OPERATIONS = 10_000
 DRAWN = 250
 LIMIT = ["--limit", "2000"]
 # Each way to plan, and how its plan is checked.
-WAYS = ((["plan", *LIMIT], ["check"]), (["plan", "--remember", *LIMIT], ["check", "--remember"]),
-        (["plan", "--rule"], ["check", "--within"]), (["plan", "--early", *LIMIT], ["check"]))
+WAYS = ((["plan", *LIMIT], ["check"]), (["plan", "--by", "within", *LIMIT], ["check", "--by", "within"]),
+        (["plan", "--by", "rule"], ["check", "--by", "within"]), (["plan", "--early", *LIMIT], ["check"]))
 
 
 def rows_of_reads(lines: List[str], count: int) -> List[str]:

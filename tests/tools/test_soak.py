@@ -99,7 +99,7 @@ DIFFERENCES = {
     "a reply twice": ("lines = lines[:1] + lines", "replies that don't rise", ""),
     "a wrong answer": (every("done", "failed"), "no order of acceptance", ""),
     "a stop reported as a closing": ('lines, status = [line for line in lines if "stopped" not in line], 0', BEHIND, ""),
-    "a channel that plans by the best so far and is over": (over('limit and "--within" in words'), BEHIND, ""),
+    "a channel that plans by the best so far and is over": (over('limit and "within" in words'), BEHIND, ""),
     "another limit": (over("limit", "{int(limit) - 1}"), BEHIND, ""),
     "a channel that is over without a limit": (over("not limit", "1048576"), BEHIND, ""),
     "a channel that must stop and says nothing within a limit": ('lines = [line for line in lines if not limit or "stopped" not in line]', BEHIND, "--seed 2"),
@@ -120,7 +120,7 @@ OTHER_READS = (r"op,\1,read,\2", r"opread,\1,\2,0,\4", r"opread,\1,\2,\3,1")
 class Soak(unittest.TestCase):
     def test_what_is_no_difference(self) -> None:
         """Answers as the program has them, and a channel that is over within a few nodes."""
-        for spoilt in ("", over('limit and "--within" not in words')):
+        for spoilt in ("", over('limit and "within" not in words')):
             status, said = soaked(spoilt)
             self.assertEqual((status, said.splitlines()[-1]), (0, "30 passed, 0 failed"), spoilt)
             self.assertRegex(said, r"\n?[1-9]\d+ operations, 0 differences")

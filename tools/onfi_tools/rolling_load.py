@@ -16,7 +16,7 @@ from onfi_tools.script import lengths_of
 from onfi_tools.workload import MOST_OPERATIONS, Operation, Shape, paged_rows
 
 # How the sequencer runs a load.
-RUN = ("run", "--clock", "simulated", "--rule")
+RUN = ("run", "--clock", "simulated", "--by", "rule")
 # Into how many equal parts the time is cut, from the first arrival to the last end of all ways.
 WINDOWS = 100
 SHARES = {"50 %": 0.5, "95 %": 0.95, "99 %": 0.99, "99.9 %": 0.999}

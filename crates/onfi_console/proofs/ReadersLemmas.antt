@@ -1,9 +1,9 @@
 -- What is read off a command line is what its words name.
 use Rattle.std.proofs.Common.{◌≡◌, ℕ, ◌||◌, Bool, List, codes, Some, None, true, false, sym, ap, ◌∙◌, subst, refl}
-use Rattle.std.specs.Prelude.{Option, IsSomeAnd}
+use Rattle.std.specs.Prelude.{Option, IsSomeAnd, is_some}
 use Rattle.clap.specs.Words.{Row, first_of, subcommand_of}
-use Rattle.onfi_planners.specs.declared.chosen.By.{By}
-use Rattle.onfi_planners.specs.declared.chosen.By.TheVariants as way
+use Rattle.onfi_planners.specs.declared.by.By.{By}
+use Rattle.onfi_planners.specs.declared.by.By.TheVariants as way
 use Rattle.onfi_script.specs.declared.command.Command.TheVariants.{Plan, Check, PlanBy, CheckWithin, Legal}
 use Rattle.onfi_script.specs.declared.command.PlanOptions.{PlanOptions}
 use Rattle.onfi_console.specs.declared.parsed.Named.{Named}
@@ -25,6 +25,10 @@ trace_told false false = refl
 none_taken : (limit : Option (List ℕ)) (n : ℕ) → limit ≡ None → n ≡ 1048576 → IsLimit 1048576 limit n
 none_taken None n none is = is
 none_taken (Some text) n none is = cc
+
+not_given : (limit : Option (List ℕ)) → is_some limit ≡ false → IsLimit 1048576 limit 1048576
+not_given None none = refl
+not_given (Some text) none = cc
 
 limit_read : (text limit : Option (List ℕ)) (by : By) (n : ℕ) → IsBy text by → IsLimitBy by limit n → IsLimit (usual_by text) limit n
 limit_read None limit way.Plain n named is = is
@@ -62,7 +66,7 @@ read (Problem Check workers) name used (e, one, is) = record { command = sym e; 
 read (Problem CheckWithin workers) name used (e, one, is) = record { command = sym e; limit = refl; trace = refl; workers = one }
 read (Problem Legal workers) name used (e, one, is) = record { command = sym e; limit = refl; trace = refl; workers = one }
 read Device name used e = record { command = sym e; limit = refl; trace = refl; workers = refl }
-read (Audit options) name used (e, is) = record { command = sym e; limit = none_taken (first_of (codes "limit") used) 1048576 is.no_limit refl; trace = refl; workers = refl }
+read (Audit options) name used (e, is) = record { command = sym e; limit = not_given (first_of (codes "limit") used) is.no_limit; trace = refl; workers = refl }
 read (Gaps options) name used (e, is) = record { command = sym e; limit = is.is_limit; trace = refl; workers = refl }
 read (Run options) name used (e, is) =
     record { command = sym e; limit = run_limit_read (first_of (codes "by") used) (first_of (codes "limit") used) options.by options.limit is.is_by is.is_limit; trace = refl; workers = refl }

@@ -1,9 +1,9 @@
 -- What the words of a command line ask for.
-use Rattle.std.specs.Prelude.{◌≡◌, ◌≢◌, ◌≤◌, ℕ, ◌||◌, ⊤, List, Bool, true, false, bytes_eq, Option, Some, None, IsErrAnd, IsSomeAnd, Ok, codes, option_map}
+use Rattle.std.specs.Prelude.{◌≡◌, ◌≢◌, ◌≤◌, ℕ, ◌||◌, ⊤, List, Bool, true, false, is_some, bytes_eq, Option, Some, None, IsErrAnd, IsSomeAnd, Ok, codes, option_map}
 use Rattle.clap.specs.Words.{App, Row as Used, Rule, first_of, new_app, new_rule, subcommand_of, with_rule, with_subcommand}
 use Rattle.clap.specs.declared.builder.ArgAction.TheVariants.{Set, SetTrue}
-use Rattle.onfi_planners.specs.declared.chosen.By.{By}
-use Rattle.onfi_planners.specs.declared.chosen.By.TheVariants as way
+use Rattle.onfi_planners.specs.declared.by.By.{By}
+use Rattle.onfi_planners.specs.declared.by.By.TheVariants as way
 use Rattle.onfi_script.specs.declared.auditing.AuditOptions.{AuditOptions}
 use Rattle.onfi_script.specs.declared.auditing.GapOptions.{GapOptions}
 use Rattle.onfi_script.specs.declared.command.Command.{Command}
@@ -209,7 +209,7 @@ pub record IsRun (options : RunOptions) (used : List Used) : Type 0 where
 -- `audit` without `--optimum` is for this: neither a limit nor a table is asked for
 pub record IsAudit (options : AuditOptions) (used : List Used) : Type 0 where
   pub no_optimum : given (codes "optimum") used ≡ false
-  pub no_limit : first_of (codes "limit") used ≡ None
+  pub no_limit : is_some (first_of (codes "limit") used) ≡ false
   pub no_table : given (codes "csv") used ≡ false
   pub is_all : options.all ≡ given (codes "all") used
   pub is_by_status : options.by_status ≡ given (codes "ready-by-status") used

@@ -1,5 +1,5 @@
 //! The command line.
-ghost use Rattle.std.specs.Prelude.{◌≡◌, ◌≤◌, None, Some, false, true, IfErr, IfOk, OnOk, codes, map, option_map, string_bytes};
+ghost use Rattle.std.specs.Prelude.{◌≡◌, ◌≢◌, ◌≤◌, None, Some, false, true, is_some, IfErr, IfOk, OnOk, codes, map, option_map, string_bytes};
 ghost use Rattle.std.specs.List.{list_any};
 ghost use Rattle.clap.specs.Words.{first_value, found_of, kind_of, rows_of, subcommand_of, subcommand_rows_of};
 ghost use Rattle.clap.specs.declared.error.kind.ErrorKind.{ErrorKind};
@@ -24,11 +24,15 @@ enum ValueFault {
     NoCommand,
     /// An option wants another value: what it wants.
     Wants(&'static str, &'static str),
-    /// An option can't be used with another.
-    Beside(&'static str, &'static str),
+    /// An option can't be used with another, and why.
+    Beside(&'static str, &'static str, &'static str),
     /// .. or not without it.
-    Without(&'static str, &'static str),
+    Without(&'static str, &'static str, &'static str),
 }
+
+/// Why options of a search stand beside no such way, and of a plan.
+const SEARCHES_NOTHING: &str = "it searches nothing";
+const PLANS_NOTHING: &str = "it plans nothing";
 
 /// The usual limit of searches whose plans may be other than optimal, the plain one excepted; it bounds their time and memory.
 const USUAL: u32 = 65_536;
@@ -92,6 +96,13 @@ fn is_given(used: &ArgMatches<'_>, flag: &str) -> bool
     }
 }
 
+/// Whether an option is given, with whichever value.
+fn has_value(used: &ArgMatches<'_>, option: &str) -> bool
+    ensures { result ≡ is_some (first_value (found_of used.now) option.now) }
+{
+    used.get_str(option).is_some()
+}
+
 /// Refuses an option with a value where another stands beside it.
 fn leave_out(used: &ArgMatches<'_>, option: &str, fault: ValueFault) -> Result<(), ValueFault>
     ensures { OnOk result (first_value (found_of used.now) option.now ≡ None) }
@@ -138,7 +149,8 @@ fn limit_by(used: &ArgMatches<'_>, by: By) -> Result<u32, ValueFault>
         By::Plain => limit_of(used, MOST),
         By::Within => limit_of(used, USUAL),
         By::Rule => {
-            leave_out(used, "limit", ValueFault::Beside("--limit", "--by rule"))?;
+            let fault = ValueFault::Beside("--limit", "--by rule", SEARCHES_NOTHING);
+            leave_out(used, "limit", fault)?;
             Ok(MOST)
         }
     }
@@ -149,12 +161,13 @@ fn workers_by(used: &ArgMatches<'_>, by: By) -> Result<usize, ValueFault>
     ensures range { IfOk result (λ n. (1 ≤ n) × (n ≤ 8)) }
     ensures value { IfOk result (λ n. spec.IsWorkersBy by (first_value (found_of used.now) (codes "workers")) n) }
 {
-    let way = match by {
+    let (way, reason) = match by {
         By::Plain => return workers_of(used),
-        By::Within => "--by within",
-        By::Rule => "--by rule",
+        By::Within => ("--by within", "that search has one worker"),
+        By::Rule => ("--by rule", SEARCHES_NOTHING),
     };
-    leave_out(used, "workers", ValueFault::Beside("--workers", way))?;
+    let fault = ValueFault::Beside("--workers", way, reason);
+    leave_out(used, "workers", fault)?;
     Ok(1)
 }
 
@@ -187,18 +200,26 @@ fn check_by(used: &ArgMatches<'_>) -> Result<Command, ValueFault>
     }
 }
 
+/// The command to check that the words name.
+fn check_command(used: &ArgMatches<'_>) -> Result<Command, ValueFault>
+    ensures command { IfOk result (λ command. spec.IsProblem command 1 (codes "check") (rows_of (found_of used.now))) }
+    ensures limited { IfOk result IsLimited }
+{
+    let legal = is_given(used, "legal");
+    if !legal {
+        return check_by(used);
+    }
+    let fault = ValueFault::Beside("--by", "--legal", "no certificate is looked at");
+    leave_out(used, "by", fault)?;
+    Ok(Command::Legal)
+}
+
 /// What `check` with these arguments names.
 fn check_of(used: &ArgMatches<'_>) -> Result<Named, ValueFault>
     ensures range { IfOk result (λ named. spec.IsInRange named) }
     ensures named { IfOk result (λ named. spec.IsNamed named (codes "check") (rows_of (found_of used.now))) }
 {
-    let legal = is_given(used, "legal");
-    let command = if legal {
-        leave_out(used, "by", ValueFault::Beside("--by", "--legal"))?;
-        Command::Legal
-    } else {
-        check_by(used)?
-    };
+    let command = check_command(used)?;
     let workers = 1;
     Ok(Named::Problem { command, workers })
 }
@@ -224,9 +245,22 @@ fn run_limit(used: &ArgMatches<'_>, by: RunBy) -> Result<u32, ValueFault>
     match by {
         RunBy::Plans(by) => limit_by(used, by),
         RunBy::Next => {
-            leave_out(used, "limit", ValueFault::Beside("--limit", "--by next"))?;
+            let fault = ValueFault::Beside("--limit", "--by next", PLANS_NOTHING);
+            leave_out(used, "limit", fault)?;
             Ok(MOST)
         }
+    }
+}
+
+/// Whether its plans are made better.
+fn early_of(used: &ArgMatches<'_>, by: RunBy) -> Result<bool, ValueFault>
+    ensures value { IfOk result (λ early. early ≡ spec.is_given (first_value (found_of used.now) (codes "early"))) }
+    ensures plans { IfOk result (λ early. early ≡ true → by ≢ RunBy.Next) }
+{
+    match (by, is_given(used, "early")) {
+        (RunBy::Next, true) => Err(ValueFault::Beside("--early", "--by next", PLANS_NOTHING)),
+        (RunBy::Next, false) => Ok(false),
+        (RunBy::Plans(_), early) => Ok(early),
     }
 }
 
@@ -247,10 +281,7 @@ fn run_of(used: &ArgMatches<'_>) -> Result<Named, ValueFault>
     ensures named { IfOk result (λ named. spec.IsNamed named (codes "run") (rows_of (found_of used.now))) }
 {
     let by = run_by(used)?;
-    let early = is_given(used, "early");
-    if early && by == RunBy::Next {
-        return Err(ValueFault::Beside("--early", "--by next"));
-    }
+    let early = early_of(used, by)?;
     let limit = run_limit(used, by)?;
     let clocked = clock_of(used)?;
     let options = RunOptions { by, early, limit, clocked };
@@ -275,7 +306,8 @@ fn audit_optimum_of(used: &ArgMatches<'_>) -> Result<Named, ValueFault>
 {
     let AuditOptions { all, by_status } = audit_options(used);
     if by_status {
-        return Err(ValueFault::Beside("--ready-by-status", "--optimum"));
+        let reason = "pieces are planned by the stated times";
+        return Err(ValueFault::Beside("--ready-by-status", "--optimum", reason));
     }
     let nodes = limit_of(used, USUAL)?;
     let limit = Limit::of(nodes).unwrap();
@@ -293,9 +325,13 @@ fn audit_of(used: &ArgMatches<'_>) -> Result<Named, ValueFault>
     if optimum {
         return audit_optimum_of(used);
     }
-    leave_out(used, "limit", ValueFault::Without("--limit", "--optimum"))?;
+    if has_value(used, "limit") {
+        let reason = "nothing else of 'audit' searches";
+        return Err(ValueFault::Without("--limit", "--optimum", reason));
+    }
     if is_given(used, "csv") {
-        return Err(ValueFault::Without("--csv", "--optimum"));
+        let reason = "nothing else of 'audit' is a table";
+        return Err(ValueFault::Without("--csv", "--optimum", reason));
     }
     let options = audit_options(used);
     Ok(Named::Audit { options })
@@ -388,11 +424,11 @@ fn describe_fault(alloc: Global, fault: ValueFault) -> Result<String, AllocError
             "a command was expected: 'plan', 'check', 'audit', 'run' or 'device'",
         ),
         ValueFault::Wants(option, what) => format!(in alloc; "'{option}' wants {what}"),
-        ValueFault::Beside(option, other) => {
-            format!(in alloc; "'{option}' can't be used with '{other}'")
+        ValueFault::Beside(option, other, reason) => {
+            format!(in alloc; "'{option}' can't be used with '{other}': {reason}")
         }
-        ValueFault::Without(option, other) => {
-            format!(in alloc; "'{option}' can't be used without '{other}'")
+        ValueFault::Without(option, other, reason) => {
+            format!(in alloc; "'{option}' can't be used without '{other}': {reason}")
         }
     }
 }

@@ -7,8 +7,10 @@ use Rattle.onfi_request.specs.declared.reply.Reply.{Reply}
 use Rattle.onfi_group.specs.Words.{number}
 use Rattle.onfi_problem.specs.Problem.{Problem}
 use Rattle.onfi_problem.specs.Left.{horizon}
+use Rattle.onfi_schedule.specs.Schedule.{Schedule}
 use Rattle.onfi_check.specs.Nodes.{HasMoreNodes}
 use Rattle.onfi_planner.specs.declared.planned.Planned.{Planned}
+use Rattle.onfi_plan.specs.declared.plan.Certificate.{Certificate}
 use Rattle.onfi_plan.specs.declared.plan.Certificate.TheVariants as certificate
 use Rattle.onfi_plan.specs.declared.plan.Plan.{Plan}
 use Rattle.onfi_planner.specs.declared.fault.PlanFault.{PlanFault}
@@ -48,10 +50,25 @@ pub record IsKeptByPhase (old new : HalfView) : Type 0 where
 abbrev pub planning_with : Problem → Plan → Planning
 planning_with problem plan = record { problem = problem; schedule = plan.schedule; finish = plan.finish; below = plan.below; cert = plan.certificate }
 
--- .. and its plan as it is kept
+-- what a plan says as it is kept
+abbrev pub schedule_in : LastPlan → Schedule
+schedule_in (Tokens planned below) = planned.schedule
+schedule_in (Text schedule finish below text) = schedule
+
+abbrev pub finish_in : LastPlan → ℕ
+finish_in (Tokens planned below) = planned.finish
+finish_in (Text schedule finish below text) = finish
+
+abbrev pub below_in : LastPlan → ℕ
+below_in (Tokens planned below) = below
+below_in (Text schedule finish below text) = below
+
+abbrev pub certificate_in : LastPlan → Certificate
+certificate_in (Tokens planned below) = certificate.Tokens planned.cert
+certificate_in (Text schedule finish below text) = certificate.Text text
+
 abbrev pub planning_by : Problem → LastPlan → Planning
-planning_by problem (Tokens planned below) = record { problem = problem; schedule = planned.schedule; finish = planned.finish; below = below; cert = certificate.Tokens planned.cert }
-planning_by problem (Text schedule finish below text) = record { problem = problem; schedule = schedule; finish = finish; below = below; cert = certificate.Text text }
+planning_by problem plan = record { problem = problem; schedule = schedule_in plan; finish = finish_in plan; below = below_in plan; cert = certificate_in plan }
 
 abbrev pub planning_of : Batch → Planning
 planning_of batch = planning_by batch.problem.problem batch.plan

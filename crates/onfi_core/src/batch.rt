@@ -1,7 +1,7 @@
 ghost use Rattle.std.specs.Prelude.{◌≡◌, IfSome, IfNone};
 ghost use Rattle.onfi_problem.specs.Problem.{Problem as AProblem};
 ghost use Rattle.onfi_plan.specs.Certificate.{IsPlain};
-ghost use Rattle.onfi_core.specs.View.{plainly_with, planning_by, planning_with};
+ghost use Rattle.onfi_core.specs.View.{below_in, certificate_in, finish_in, planning_by, planning_with, schedule_in};
 
 use onfi_plan::{Certificate, Plan};
 use onfi_planner::Planned;
@@ -12,7 +12,10 @@ use onfi_schedule::Schedule;
 #[derive(Drop)]
 pub enum LastPlan {
     /// One with tokens; nothing ends before `below`, in ns.
-    Tokens { planned: Planned, below: u64 },
+    Tokens {
+        planned: Planned,
+        below: u64,
+    },
     /// One with the text of tokens that remember states.
     Text {
         schedule: Schedule,
@@ -54,7 +57,7 @@ impl LastPlan {
 
     /// Its schedule.
     pub fn schedule(&self) -> &Schedule
-        ensures { (p : AProblem) → result.now ≡ (planning_by p self.now).schedule }
+        ensures { result.now ≡ schedule_in self.now }
     {
         match self {
             LastPlan::Tokens { planned, .. } => &planned.schedule,
@@ -64,7 +67,7 @@ impl LastPlan {
 
     /// When it ends, in ns.
     pub fn finish(&self) -> u64
-        ensures { (p : AProblem) → result ≡ (planning_by p self.now).finish }
+        ensures { result ≡ finish_in self.now }
     {
         match self {
             LastPlan::Tokens { planned, .. } => planned.finish,
@@ -74,7 +77,7 @@ impl LastPlan {
 
     /// Before what nothing ends, in ns.
     pub fn below(&self) -> u64
-        ensures { (p : AProblem) → result ≡ (planning_by p self.now).below }
+        ensures { result ≡ below_in self.now }
     {
         match self {
             LastPlan::Tokens { below, .. } => *below,
@@ -84,8 +87,8 @@ impl LastPlan {
 
     /// The plan as the plain search gives it: where it has tokens, and nothing ends sooner.
     pub(crate) fn plain(&self) -> Option<&Planned>
-        ensures found { IfSome result (λ planned. (p : AProblem) → planning_by p self.now ≡ plainly_with p planned.now) }
-        ensures none { IfNone result ((p : AProblem) → IsPlain (planning_by p self.now).cert → (planning_by p self.now).below ≡ (planning_by p self.now).finish → ⊥) }
+        ensures found { IfSome result (λ planned. self.now ≡ LastPlan.Tokens planned.now planned.now.finish) }
+        ensures none { IfNone result (IsPlain (certificate_in self.now) → below_in self.now ≡ finish_in self.now → ⊥) }
     {
         match self {
             LastPlan::Tokens { planned, below } if *below == planned.finish => Some(planned),

@@ -7,7 +7,7 @@ ghost use Rattle.onfi_core.specs.State.{Planning};
 ghost use Rattle.onfi_core.specs.Steps.{GoesOut, accepting, IsPlainPlan, IsPlainlyPlanned, IsPromised, accept_refusal, bus_refusal, held_for, taken_next, planned_by, planned_with, Plans};
 ghost use Rattle.onfi_core.specs.Dues.{IsDue, due_outcome};
 ghost use Rattle.onfi_core.specs.Refusals.{fault_outcome};
-ghost use Rattle.onfi_core.specs.View.{IsNext, IsOldest, plainly_with, planning_by, planning_of, PlannedAs, RefusedAs, refusal_of};
+ghost use Rattle.onfi_core.specs.View.{IsNext, IsOldest, finish_in, plainly_with, planning_by, planning_of, schedule_in, PlannedAs, RefusedAs, refusal_of};
 
 use crate::batch::{Batch, LastPlan};
 use crate::finding::find;
@@ -269,9 +269,9 @@ impl Half {
         requires in_order { self.old.state.books ≡ None }
         requires wants { wants.items ≡ self.old.state.now.wants ++ taken_next self.old.setup self.old.state }
         requires plans { Plans self.old.setup self.old.state (planning_of next.batch) }
-        requires left { next.left ≡ (planning_of next.batch).schedule }
+        requires left { next.left ≡ schedule_in next.batch.plan }
         ensures planned { self.new ≡ record self.old { state = planned_by self.old.setup self.old.state (planning_of next.batch) } }
-        ensures finish { result ≡ (planning_of next.batch).finish }
+        ensures finish { result ≡ finish_in next.batch.plan }
     {
         let finish = next.batch.plan.finish();
         self.planned += (wants.len() - self.way.flight().wants().len()) as u64;

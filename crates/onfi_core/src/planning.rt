@@ -3,7 +3,7 @@ ghost use Rattle.onfi_problem.specs.Problem.{IsSmall, IsProblem, HasLengths};
 ghost use Rattle.onfi_problem.specs.Kept.{problem_of};
 ghost use Rattle.onfi_problem.specs.Left.{horizon};
 ghost use Rattle.onfi_core.specs.Steps.{IsPlanned, IsPromised};
-ghost use Rattle.onfi_core.specs.View.{planning_of, StopsBecause, stop_of};
+ghost use Rattle.onfi_core.specs.View.{planning_of, schedule_in, StopsBecause, stop_of};
 
 use crate::batch::{Batch, LastPlan};
 use crate::setup::Setup;
@@ -32,7 +32,6 @@ pub enum PlanStop {
 }
 
 /// Plans these wants on these LUNs.
-#[tactic(auto, using(crate::proofs::Promised::is_promised))]
 pub fn plan_wants<P: Planner>(
     alloc: Global,
     planner: &P,
@@ -48,7 +47,7 @@ pub fn plan_wants<P: Planner>(
     ensures planned { IfOk result (λ next. IsPlanned (planning_of next.batch)) }
     ensures promised { IfOk result (λ next. IsPromised P.exact P.certifies (planning_of next.batch)) }
     ensures in_time { IfOk result (λ next. horizon (problem_of setup.now.timing setup.now.rules bus_free luns.now wants.now) < 2 ^ 62) }
-    ensures left { IfOk result (λ next. next.left ≡ (planning_of next.batch).schedule) }
+    ensures left { IfOk result (λ next. next.left ≡ schedule_in next.batch.plan) }
     ensures stop { IfErr result (λ stop. StopsBecause (problem_of setup.now.timing setup.now.rules bus_free luns.now wants.now) setup.now.limit stop) }
 {
     let problem = match Problem::new(alloc, setup.timing, setup.rules, bus_free, luns, wants) {

@@ -1,6 +1,8 @@
 -- A gap after a walk for its middle.
-use Rattle.std.proofs.Common.{◌≡◌, ℕ, ◌+◌, ◌≤◌, ◌<◌, inl, inr, true, false, List, refl, sym, ap, subst, arith}
+use Rattle.std.proofs.Common.{◌≡◌, ℕ, ◌+◌, ◌≤◌, ◌<◌, inl, inr, Bool, true, false, List, Vec, Global, refl, sym, ap, ◌∙◌, subst, arith}
+use Rattle.std.specs.Prelude.{Result, Ok, Err, IfOk}
 use Rattle.std.proofs.lemmas.Bool.{cases_Bool, cases_lt}
+use Rattle.onfi_problem.specs.Problem.{Problem}
 use Rattle.onfi_problem.specs.Left.{InLimits}
 use Rattle.onfi_problem.specs.Position.{Position}
 use Rattle.onfi_schedule.specs.Runs.{schedule_of}
@@ -10,8 +12,10 @@ use Rattle.onfi_planner.specs.Planning.{run_of}
 use Rattle.onfi_planner.specs.declared.search.Best.{Best}
 use Rattle.onfi_planner.proofs.Halfway.{open_later}
 use Rattle.onfi_planner.proofs.Whole.{legal_plan}
+use Rattle.onfi_plan.specs.declared.plan.Plan.{Plan}
 use Rattle.onfi_known_plan.specs.ByRule.{EndsByRule}
 use Rattle.onfi_known_plan.specs.Searched.{IsSearched}
+use Rattle.onfi_known_plan.specs.Text.{HasNodesIn, nodes_in}
 use Rattle.onfi_known_plan.specs.Walks.{AreMore, HasSoMany, IsBetter, IsProved, IsRunOf}
 use Rattle.onfi_known_plan.specs.Within.{IsGap, IsShownBefore}
 use Rattle.onfi_known_plan.specs.declared.gap.Gap.{Gap}
@@ -30,13 +34,19 @@ shown_first x best tokens e limits run p =
     let le = proved_is_below x.all x.problem tokens e limits.problem limits.small p.proves s l.0 in
     omega arith
 
+-- a walk that opened less than it may wasn't cut
+uncut_below : (cut : Bool) (opened limit : ℕ) → (cut ≡ true → opened ≡ limit) → opened < limit → cut ≡ false
+uncut_below true opened limit full less = let e = full refl in absurd (omega arith)
+uncut_below false opened limit full less = refl
+
 -- before anything is narrowed
-pub gap_searched : (x : Position) (limit : ℕ) (s : Searched) (gap : Gap) → IsSearched x limit s → IsShownBefore x s.best.finish gap.shown → (gap.shown.below < s.best.finish → s.cut ≡ true) → gap.best ≡ s.best → gap.reopened ≡ s.reopened → IsGap x limit gap
-gap_searched x limit s gap is shown whole best again =
+pub gap_searched : (x : Position) (limit : ℕ) (s : Searched) (gap : Gap) → IsSearched x limit s → IsShownBefore x s.best.finish gap.shown → (gap.shown.below < s.best.finish → s.cut ≡ true) → (s.cut ≡ false → gap.shown.tokens ≡ s.tokens)
+    → gap.best ≡ s.best → gap.opened ≡ s.opened → IsGap x limit gap
+gap_searched x limit s gap is shown whole same best opened =
     let ends = ap (λ (z : Best). z.finish) best in
     let small = is.small in
     let sooner = is.sooner in
-    let few = is.reopened in
+    let few = is.opened in
     record {
       limits = is.limits;
       run = subst (IsRunOf x) (sym best) is.run;
@@ -46,8 +56,9 @@ gap_searched x limit s gap is shown whole best again =
       ends = is.ends;
       sooner = omega arith;
       by_rule = subst (EndsByRule x.problem) (sym ends) is.by_rule;
-      reopened = omega arith;
-      nodes = subst (HasSoMany x.problem) (sym again) is.nodes.1;
+      opened = omega arith;
+      counted = λ less. let uncut = uncut_below s.cut s.opened limit is.full (omega arith) in ap (λ (z : Vec Token Global). nodes_in z.items) (same uncut) ∙ (is.counted uncut ∙ sym opened);
+      nodes = subst (HasSoMany x.problem) (sym opened) is.nodes;
       over = λ less. is.over (whole (omega arith));
     }
 
@@ -81,8 +92,9 @@ module _ (x : Position) (limit middle : ℕ) (gap new : Gap) (old aim : Best) (w
       ]
 
   pub narrowed : (walked.cut ≡ false → IsProved x walked.tokens.items aim.finish) → (walked.cut ≡ false → new.shown.below ≡ aim.finish) → (walked.cut ≡ false → new.shown.tokens ≡ walked.tokens) → (walked.cut ≡ true → new.shown ≡ gap.shown)
-      → walked.opened ≤ limit → AreMore x.problem old.finish walked.opened → new.reopened ≡ walked.opened → IsGap x limit new
-  narrowed proved below tokens cut few nodes again =
+      → walked.opened ≤ limit → (walked.cut ≡ true → walked.opened ≡ limit) → (walked.cut ≡ false → nodes_in walked.tokens.items ≡ walked.opened)
+      → AreMore x.problem old.finish walked.opened → new.opened ≡ walked.opened → IsGap x limit new
+  narrowed proved below tokens cut few full counted nodes opened =
       let b = best_now in
       let le = b.1 in
       let small = is.small in
@@ -96,7 +108,14 @@ module _ (x : Position) (limit middle : ℕ) (gap new : Gap) (old aim : Best) (w
         ends = is.ends;
         sooner = omega arith;
         by_rule = ruled_sooner x.problem new.best.finish gap.best.finish is.by_rule le;
-        reopened = omega arith;
-        nodes = subst (HasSoMany x.problem) (sym again) (is.first, is.ends, nodes is.first (omega arith));
+        opened = omega arith;
+        counted = λ less. let uncut = uncut_below walked.cut walked.opened limit full (omega arith) in ap (λ (z : Vec Token Global). nodes_in z.items) (tokens uncut) ∙ (counted uncut ∙ sym opened);
+        nodes = subst (HasSoMany x.problem) (sym opened) (is.first, is.ends, nodes is.first (omega arith));
         over = λ _. is.over low;
       }
+
+-- the certificate has a node for each that the plan says
+pub counted_plan : {E : Type 0} (p : Problem) (limit : ℕ) (gap : Gap) (r : Result Plan E) → (gap.opened < limit → nodes_in gap.shown.tokens.items ≡ gap.opened)
+    → IfOk r (λ plan. plan.opened ≡ gap.opened) → IfOk r (λ plan. HasNodesIn p plan.certificate (nodes_in gap.shown.tokens.items)) → IfOk r (λ plan. plan.opened < limit → HasNodesIn p plan.certificate plan.opened)
+counted_plan p limit gap (Ok plan) counted opened has = λ less. subst (HasNodesIn p plan.certificate) (counted (omega arith) ∙ sym opened) has
+counted_plan p limit gap (Err fault) counted opened has = tt

@@ -1,7 +1,7 @@
 -- What a walk over a whole tree gives, and the plan by it.
-use Rattle.std.proofs.Common.{◌≡◌, ℕ, ◌+◌, ◌-◌, ◌≤◌, ◌<◌, inl, inr, Bool, true, false, List, [], ◌∷◌, ◌++◌, length, sym, ap, ◌∙◌, subst, arith}
+use Rattle.std.proofs.Common.{◌≡◌, ℕ, ◌+◌, ◌-◌, ◌≤◌, ◌<◌, inl, inr, Bool, true, false, List, [], ◌∷◌, ◌++◌, length, Vec, Global, sym, ap, ◌∙◌, subst, arith}
 use Rattle.std.specs.List.{AllByRecursion as Each}
-use Rattle.std.specs.Prelude.{nat_lt, Result, Ok, Err, IfOk}
+use Rattle.std.specs.Prelude.{nat_lt}
 use Rattle.std.proofs.lemmas.Bool.{cases_Bool, cases_lt, lt-ltb, le-ltb, false≢true}
 use Rattle.std.proofs.lemmas.List.Elements.{All-from_recursion}
 use Rattle.onfi_problem.specs.Problem.{Problem}
@@ -15,10 +15,10 @@ use Rattle.onfi_known_check.specs.Text.{InRange, IsCertificate, header, line}
 use Rattle.onfi_known_check.proofs.Sound.{proved_is_optimal}
 use Rattle.onfi_known_check.proofs.Views.{Begin, by_closing, by_again, by_opening, begin_of}
 use Rattle.onfi_planner.specs.Planning.{run_of, AreRising, IsRoot}
-use Rattle.onfi_plan.specs.Certificate.{Remembering, ShowsBelow, certificate_in}
+use Rattle.onfi_plan.specs.Certificate.{ShowsBelow}
+use Rattle.onfi_plan.specs.declared.plan.Certificate.TheVariants.{Text}
 use Rattle.onfi_plan.specs.declared.plan.Plan.{Plan}
-use Rattle.onfi_check.specs.Nodes.{HasMoreNodes, IsOpen}
-use Rattle.onfi_planner.specs.declared.fault.PlanFault.TheVariants.{Over}
+use Rattle.onfi_check.specs.Nodes.{IsOpen}
 use Rattle.onfi_planner.specs.declared.search.Best.{Best}
 use Rattle.onfi_planner.proofs.Paths.{nodes_none}
 use Rattle.onfi_planner.specs.declared.root.Root.{Root}
@@ -32,7 +32,7 @@ use Rattle.onfi_known_plan.specs.declared.search.Shown.{Shown}
 use Rattle.onfi_known_plan.specs.declared.planning.Searched.{Searched}
 use Rattle.onfi_known_plan.specs.Searched.{IsSearched}
 use Rattle.onfi_known_plan.specs.ByRule.{EndsByRule}
-use Rattle.onfi_known_plan.specs.Text.{last_opened, nodes_in}
+use Rattle.onfi_known_plan.specs.Text.{nodes_in}
 use Rattle.onfi_known_plan.specs.Walks.{AreMore, ClosesBy, HasSoMany, IsAt, IsBegun, IsBetter, IsFound, IsProved, IsRunOf, IsShown, IsTree}
 use Rattle.onfi_known_plan.specs.Within.{IsShownBefore, IsSought, IsWithin}
 use Rattle.onfi_known_plan.specs.declared.sought.Sought.{Sought}
@@ -107,8 +107,8 @@ text_is x tokens text e p is =
     record { some = some_begin e x tokens d behind (begin_of e x.all x.problem [] tokens d behind [] proves); in_range = All-from_recursion InRange tokens p.in_range; spelled = is }
 
 -- the plan by a run, where tokens show that nothing ends before a number
-pub within_plan : (x : Position) (best : Best) (shown : ShownBefore) (plan : Plan) (text : List ℕ) → InLimits x.problem → Legal x.problem plan.planned.schedule → finish x.problem plan.planned.schedule ≡ best.finish → AreRising plan.planned.schedule.groups
-    → IsShownBefore x best.finish shown → plan.planned.finish ≡ best.finish → plan.below ≡ shown.below → certificate_in plan ≡ Remembering text → text ≡ header x.problem.rules.strict ++ line shown.tokens.items → IsWithin x plan
+pub within_plan : (x : Position) (best : Best) (shown : ShownBefore) (plan : Plan) (text : Vec ℕ Global) → InLimits x.problem → Legal x.problem plan.schedule → finish x.problem plan.schedule ≡ best.finish → AreRising plan.schedule.groups
+    → IsShownBefore x best.finish shown → plan.finish ≡ best.finish → plan.below ≡ shown.below → plan.certificate ≡ Text text → text.items ≡ header x.problem.rules.strict ++ line shown.tokens.items → IsWithin x plan
 within_plan x best shown plan text limits legal is rising h ends below kind spelled =
     let le = h.within in
     let proved = subst (IsProved x shown.tokens.items) (sym below) h.proved in
@@ -117,10 +117,10 @@ within_plan x best shown plan text limits legal is rising h ends below kind spel
       ends = is ∙ sym ends;
       rising = rising;
       below = omega arith;
-      cert = subst (λ c. ShowsBelow c x.all x.problem plan.below) (sym kind) (shown.tokens.items, text_is x shown.tokens.items text plan.below proved spelled, proved.proves);
+      cert = subst (λ c. ShowsBelow c x.all x.problem plan.below) (sym kind) (shown.tokens.items, text_is x shown.tokens.items text.items plan.below proved spelled, proved.proves);
       kind = (text, kind);
       greatest = λ less. subst (λ n. IsOpen (n + 1) x.problem) (sym below) (h.greatest (omega arith));
-      optimal = λ e. proved_is_optimal x.all x.problem plan.planned.schedule shown.tokens.items limits.problem limits.small legal (subst (ProvesTokens x.all shown.tokens.items x.problem) (e ∙ (ends ∙ sym is)) proved.proves);
+      optimal = λ e. proved_is_optimal x.all x.problem plan.schedule shown.tokens.items limits.problem limits.small legal (subst (ProvesTokens x.all shown.tokens.items x.problem) (e ∙ (ends ∙ sym is)) proved.proves);
     }
 
 -- a token that closes the root shows what it reaches
@@ -188,10 +188,6 @@ better_more x at old mid new e b c =
 pub over_from_none : (p : Problem) (finish limit l o : ℕ) → l ≡ limit → o ≡ 0 → AreMore p finish (l - o + 1) → AreMore p finish (limit + 1)
 over_from_none p finish limit l o e z over = let n : l - o + 1 ≡ limit + 1 = omega arith in subst (AreMore p finish) n over
 
--- a search that reports its limit says that it met it
-pub over_limit : (p : Problem) (limit told opened : ℕ) → Over told ≡ Over opened → told ≡ limit → HasMoreNodes p limit → (opened ≡ limit) × HasMoreNodes p limit
-over_limit p limit told opened e is over = let same : told ≡ opened = cc in (sym same ∙ is, over)
-
 pub nodes_from_none : (p : Problem) (finish n o : ℕ) → o ≡ 0 → AreMore p finish (n - o) → AreMore p finish n
 nodes_from_none p finish n o z nodes = let e : n - o ≡ n = omega arith in subst (AreMore p finish) e nodes
 
@@ -206,11 +202,10 @@ begun_many : (x : Position) (root : Root) (n : ℕ) → IsBegun x root → AreMo
 begun_many x root n b nodes = let s = b.sooner in (b.first, b.ends, (nodes_later root.problem x root.best.finish b.first n b.same s nodes) b.first (omega arith))
 
 -- what the walks from a root have found
-pub is_searched : (x : Position) (root : Root) (limit : ℕ) (s : Searched) → IsBegun x root → IsBetter root.problem root.best s.best → s.loads ≡ root.loads → s.opened ≤ limit → s.reopened ≤ limit
-    → AreMore root.problem.problem root.best.finish s.opened → AreMore root.problem.problem root.best.finish s.reopened → (1 ≤ s.reopened → s.best.finish < root.best.finish)
-    → (s.cut ≡ false → IsProved root.problem s.tokens.items s.best.finish) → (s.cut ≡ false → nodes_in s.tokens.items ≡ last_opened s.opened s.reopened) → (s.cut ≡ false → 1 ≤ s.opened)
-    → (s.cut ≡ true → AreMore root.problem.problem root.best.finish (limit + 1)) → IsSearched x limit s
-is_searched x root limit s b better loads opened reopened nodes more again proved counted some over =
+pub is_searched : (x : Position) (root : Root) (limit : ℕ) (s : Searched) → IsBegun x root → IsBetter root.problem root.best s.best → s.loads ≡ root.loads → s.opened ≤ limit
+    → AreMore root.problem.problem root.best.finish s.opened → (s.cut ≡ false → IsProved root.problem s.tokens.items s.best.finish) → (s.cut ≡ false → nodes_in s.tokens.items ≡ s.opened)
+    → (s.cut ≡ true → s.opened ≡ limit) → (s.cut ≡ true → AreMore root.problem.problem root.best.finish (limit + 1)) → IsSearched x limit s
+is_searched x root limit s b better loads opened nodes proved counted full over =
     let small = b.small in
     let le = better.sooner in
     let first = b.sooner in
@@ -225,15 +220,8 @@ is_searched x root limit s b better loads opened reopened nodes more again prove
       by_rule = ruled_sooner x.problem s.best.finish root.best.finish b.by_rule le;
       proved = λ q. subst (λ z. IsProved z s.tokens.items s.best.finish) b.same (proved q);
       counted = counted;
-      some = some;
+      full = full;
       opened = opened;
-      reopened = reopened;
-      again = λ q. let less = again q in (b.first, b.ends, omega arith);
-      nodes = (begun_many x root s.opened b nodes, begun_many x root s.reopened b more);
+      nodes = begun_many x root s.opened b nodes;
       over = λ q. begun_many x root (limit + 1) b (over q);
     }
-
--- the plan says how many nodes were opened
-pub counts_told : {E : Type 0} (p : Problem) (r : Result Plan E) (opened reopened : ℕ) → IfOk r (λ plan. plan.opened ≡ opened) → IfOk r (λ plan. plan.reopened ≡ reopened) → HasSoMany p opened × HasSoMany p reopened → IfOk r (λ plan. HasSoMany p plan.opened × HasSoMany p plan.reopened)
-counts_told p (Ok plan) opened reopened a b many = (subst (HasSoMany p) (sym a) many.0, subst (HasSoMany p) (sym b) many.1)
-counts_told p (Err fault) opened reopened a b many = tt

@@ -119,7 +119,6 @@ fn walk(
     ensures found { OnOk result (IsBetter at.old best.old best.new) }
     ensures fallen { IfOk result (λ walked. walked.improved ≡ true → best.new.finish < best.old.finish) }
     ensures proved { IfOk result (λ walked. walked.cut ≡ false → walked.improved ≡ false → IsProved at.old walked.tokens.items best.new.finish) }
-    ensures some { IfOk result (λ walked. walked.cut ≡ false → 1 ≤ walked.opened) }
     ensures counted { IfOk result (λ walked. walked.cut ≡ false → walked.improved ≡ false → nodes_in walked.tokens.items ≡ walked.opened) }
     ensures opened { IfOk result (λ walked. walked.opened ≤ limit) }
     ensures full { IfOk result (λ walked. walked.cut ≡ true → walked.opened ≡ limit) }
@@ -153,7 +152,6 @@ pub fn walk_on(
     ensures found { OnOk result (IsBetter at.old best.old best.new) }
     ensures proved { IfOk result (λ walked. walked.cut ≡ false → IsProved at.old walked.tokens.items best.new.finish) }
     ensures counted { IfOk result (λ walked. walked.cut ≡ false → nodes_in walked.tokens.items ≡ walked.opened) }
-    ensures some { IfOk result (λ walked. walked.cut ≡ false → 1 ≤ walked.opened) }
     ensures opened { IfOk result (λ walked. walked.opened ≤ limit) }
     ensures full { IfOk result (λ walked. walked.cut ≡ true → walked.opened ≡ limit) }
     ensures nodes { IfOk result (λ walked. AreMore at.old.problem best.old.finish walked.opened) }

@@ -92,6 +92,7 @@ fn show_before(
     requires proved { cut ≡ false → IsProved problem.now tokens.items finish }
     ensures shown { IfOk result (IsShownBefore problem.now finish) }
     ensures whole { IfOk result (λ shown. shown.below < finish → cut ≡ true) }
+    ensures same { IfOk result (λ shown. cut ≡ false → shown.tokens ≡ tokens) }
 {
     if cut {
         return show_by_bounds(alloc, problem, loads, finish);

@@ -115,10 +115,7 @@ fn a_plan_within_a_small_limit_tells_what_nothing_ends_before(rt: HostRuntime) -
     let problem = six_reads(alloc)?;
     let planned = plan_within(alloc, &problem, Limit::of(100).unwrap())?;
     assert!(rt; legal(&problem, &planned.schedule));
-    assert_eq!(rt;
-        finish(&problem, &planned.schedule),
-        planned.finish
-    );
+    assert_eq!(rt; finish(&problem, &planned.schedule), planned.finish);
     assert!(rt; planned.finish >= 92_120);
     assert_eq!(rt; planned.below, 91_240);
     assert!(rt; text_of(&planned) == Some(b"ONFICERT 3 remember\nL\n".as_slice()));

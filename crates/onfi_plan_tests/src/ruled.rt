@@ -23,7 +23,7 @@ fn the_planner_and_the_certificate(rt: HostRuntime) -> Result<(), Fail> {
     assert!(rt; told(alloc, &plan)?.as_slice() == told(alloc, &by_planner)?.as_slice());
     assert_eq!(rt; by_planner.opened, 0);
     let Certificate::Text(text) = &plan.certificate else {
-        return Err(Fail::of("tokens"));
+        return Err(Fail::from("tokens"));
     };
     let checked = check_known_within(alloc, &problem, &plan.schedule, 100, text.as_slice());
     assert_eq!(rt; checked, Ok(100));

@@ -10,7 +10,7 @@ use Rattle.onfi_steady.specs.Rule.{IsByRule}
 use Rattle.onfi_known_plan.specs.ByRule.{EndsByFirst, EndsByRule}
 use Rattle.onfi_known_plan.specs.Text.{HasNodesIn}
 use Rattle.onfi_planners.specs.Cost.{cost}
-use Rattle.onfi_planners.specs.Weighing.{weights_by}
+use Rattle.onfi_planners.specs.Weighing.{AreWeights}
 use Rattle.onfi_planners.specs.declared.by.By.{By}
 use Rattle.onfi_planners.specs.declared.by.By.TheVariants.{Plain, Within, Rule}
 use Rattle.onfi_planners.specs.declared.chosen.ChosenPlanner.{ChosenPlanner}
@@ -58,9 +58,11 @@ pub record IsMadeFrom (weights : Weights) (x : Position) (first plan : Plan) : T
   pub in_time : plan.finish ≤ first.finish
   pub no_dearer : cost weights x plan.schedule ≤ cost weights x first.schedule
 
--- the plan was made better as was asked: by the weights of the weighing, and with no node it stays
+-- the plan was made better as was asked: by weights of that weighing, and with no node it stays
 pub record IsBetter (early : Early) (x : Position) (first plan : Plan) : Type 0 where
-  pub made : IsMadeFrom (weights_by early.weighing x) x first plan
+  pub weights : Weights
+  pub weighed : AreWeights early.weighing weights
+  pub made : IsMadeFrom weights x first plan
   pub as_is : early.nodes ≡ 0 → plan ≡ first
 
 abbrev pub IsEarly : Option Early → Position → Plan → Plan → Type 0

@@ -1,7 +1,8 @@
 //! How much the requests of a problem count.
 
-ghost use Rattle.std.specs.Prelude.{◌≡◌};
-ghost use Rattle.onfi_planners.specs.Weighing.{weights_by};
+ghost use Rattle.std.specs.Prelude.{◌≤◌};
+ghost use Rattle.std.specs.List.{All};
+ghost use Rattle.onfi_planners.specs.Weighing.{AreWeights};
 
 use crate::weights::Weights;
 use arrayvec::ArrayVec;
@@ -22,7 +23,7 @@ pub enum Weighing {
 impl Weighing {
     /// The weights of a problem's requests.
     pub fn weights_of(self, problem: &Problem) -> Weights
-        ensures { result ≡ weights_by self problem.now }
+        ensures { AreWeights self result }
     {
         match self {
             Weighing::ByAge => weights_by_age(problem),
@@ -34,7 +35,10 @@ impl Weighing {
     }
 }
 
-fn weights_by_age(problem: &Problem) -> Weights {
+fn weights_by_age(problem: &Problem) -> Weights
+    ensures wants { All (λ w. 1 ≤ w) result.wants }
+    ensures running { All (All (λ w. 1 ≤ w)) result.running }
+{
     let ages = Ages::of(ids_of(problem).as_slice());
     Weights {
         wants: ages.weights_of_wants(problem.wants()),
@@ -86,7 +90,9 @@ impl Ages {
     }
 
     // Eight times 1 + 4 (age / mean age)^2, of whole eighths of the mean; there are 40 requests at most.
-    fn weight_of(self, id: u64) -> u16 {
+    fn weight_of(self, id: u64) -> u16
+        ensures { 1 ≤ result }
+    {
         let eighths = age_of(self.newest, id)
             .saturating_mul(self.count)
             .saturating_mul(8);
@@ -95,7 +101,9 @@ impl Ages {
         (8 + square / 2).min(65_535) as u16
     }
 
-    fn weights_of_wants(self, wants: &[Want]) -> [u16; 8] {
+    fn weights_of_wants(self, wants: &[Want]) -> [u16; 8]
+        ensures { All (λ w. 1 ≤ w) result }
+    {
         let mut weights = [1; 8];
         for (at, want) in wants.iter().enumerate() {
             weights[at % 8] = self.weight_of(want.id);
@@ -103,7 +111,9 @@ impl Ages {
         weights
     }
 
-    fn weights_of_members(self, members: &[Want]) -> [u16; 4] {
+    fn weights_of_members(self, members: &[Want]) -> [u16; 4]
+        ensures { All (λ w. 1 ≤ w) result }
+    {
         let mut weights = [1; 4];
         for (at, member) in members.iter().enumerate() {
             weights[at % 4] = self.weight_of(member.id);
@@ -111,7 +121,9 @@ impl Ages {
         weights
     }
 
-    fn weights_of_running(self, problem: &Problem) -> [[u16; 4]; 8] {
+    fn weights_of_running(self, problem: &Problem) -> [[u16; 4]; 8]
+        ensures { All (All (λ w. 1 ≤ w)) result }
+    {
         let mut weights = [[1; 4]; 8];
         for (lun, state) in problem.luns().iter().enumerate() {
             if state.next > 0

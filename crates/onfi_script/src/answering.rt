@@ -248,6 +248,8 @@ pub fn answer_by<T: Threads + Sync>(
             answer_by_workers(rt, alloc, options, workers, input)
         }
         Command::PlanBy(options) => answer_by_workers(rt, alloc, options, workers, input),
-        Command::Check | Command::CheckWithin | Command::Legal => answer(alloc, command, input),
+        Command::Check => answer(alloc, command, input),
+        Command::CheckWithin => answer(alloc, command, input),
+        Command::Legal => answer(alloc, command, input),
     }
 }

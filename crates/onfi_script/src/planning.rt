@@ -64,7 +64,8 @@ pub fn plan_by_workers<R: Threads + Sync>(
             let better = improve_plan(alloc, problem, weights, options, plan)?;
             Ok(better)
         }
-        By::Within | By::Rule => plan_by(alloc, problem, weights, options),
+        By::Within => plan_by(alloc, problem, weights, options),
+        By::Rule => plan_by(alloc, problem, weights, options),
     }
 }
 
@@ -79,10 +80,10 @@ fn improve_plan(
     requires { IsFound options.by options.limit problem.now plan }
     ensures { IfOk result (IsPlan options weights.now problem.now) }
 {
-    if !options.early {
-        return Ok(plan);
+    if options.early {
+        return make_better(alloc, problem, plan, weights, Nodes::usual());
     }
-    make_better(alloc, problem, plan, weights, Nodes::usual())
+    Ok(plan)
 }
 
 /// The trace of a legal schedule; each line names its request where that is asked for.

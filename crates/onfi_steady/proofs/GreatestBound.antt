@@ -1,15 +1,13 @@
 -- The greatest of bounds that are tried one after another.
 use Rattle.std.proofs.Common.{◌≡◌, ℕ, ◌+◌, ◌<◌, ◌≤◌, inl, inr, List, [], ◌∷◌, ◌++◌, length, refl, sym, ap, ◌∙◌, subst, arith}
 use Rattle.std.proofs.lemmas.Bool.{cases_eq, cases_lt, lt-ltb, le-ltb}
-use Rattle.onfi_cert.specs.declared.token.Token.{Token}
 use Rattle.onfi_problem.specs.Problem.{Problem}
 use Rattle.onfi_bound.specs.declared.bound.Bound.{Bound}
 use Rattle.onfi_bound.specs.declared.bound.Bound.TheVariants.{Bus, Lead, Trail, Die}
 use Rattle.onfi_bound.specs.declared.bound.BoundAt.{BoundAt}
 use Rattle.onfi_bound.specs.Bounds.{bus, lead, die}
 use Rattle.onfi_bound.specs.Reaching.{Reaches, ComesTo, place_of}
-use Rattle.onfi_check.specs.Tree.{Closed, ByBus, ByLead, ByTrail, ByDie, AcceptsTokens}
-use Rattle.onfi_steady.specs.Below.{IsGreatestBefore, greater, token_by}
+use Rattle.onfi_steady.specs.Below.{IsGreatestBefore, greater}
 
 through : (a b c : ℕ) → a ≤ b → b ≤ c → a ≤ c
 through a b c h k = omega arith
@@ -84,16 +82,3 @@ pub die_more : (p : Problem) (g : BoundAt) (lun at : ℕ) → lun < length p.lun
 die_more p g lun at there e known =
     let next : 3 + lun + 1 ≡ 3 + (lun + 1) = omega arith in
     subst (λ z. IsGreatestBefore p z (greater g (Die lun) at)) next (greater_more p (3 + lun) g (Die lun) at refl e (there, at_least at (die p lun) e) known)
-
--- its token closes the root
-closed_by : (p : Problem) (b : Bound) (e : ℕ) → Reaches p e b → AcceptsTokens (token_by b ∷ []) p e
-closed_by p Bus e r = (Closed ByBus, refl, r)
-closed_by p Lead e r = (Closed ByLead, refl, r)
-closed_by p Trail e r = (Closed ByTrail, refl, r)
-closed_by p (Die l) e r = (Closed (ByDie l), refl, r)
-
--- .. as the one token of a certificate
-pub one_token : (p : Problem) (b : Bound) (e : ℕ) (t : Token) (none tokens : List Token) → Reaches p e b → none ≡ [] → tokens ≡ none ++ t ∷ [] → t ≡ token_by b → AcceptsTokens tokens p e
-one_token p b e t none tokens r empty whole is =
-    let all : tokens ≡ token_by b ∷ [] = whole ∙ (ap (λ z. z ++ t ∷ []) empty ∙ ap (λ z. z ∷ []) is) in
-    subst (λ z. AcceptsTokens z p e) (sym all) (closed_by p b e r)

@@ -1,7 +1,7 @@
 -- The greatest of a problem's bounds.
 use Rattle.std.specs.Prelude.{ℕ, ◌+◌, ◌<◌, nat_lt, if◌then◌else◌}
-use Rattle.onfi_cert.specs.declared.token.Token.{Token}
-use Rattle.onfi_cert.specs.declared.token.Token.TheVariants as token
+use Rattle.onfi_known_check.specs.declared.token.Token.{Token}
+use Rattle.onfi_known_check.specs.declared.token.Token.TheVariants as token
 use Rattle.onfi_problem.specs.Problem.{Problem}
 use Rattle.onfi_bound.specs.declared.bound.Bound.{Bound}
 use Rattle.onfi_bound.specs.declared.bound.Bound.TheVariants.{Bus, Lead, Trail, Die}
@@ -22,7 +22,7 @@ pub record IsGreatestBefore (p : Problem) (place : ℕ) (greatest : BoundAt) : T
 abbrev pub greater : BoundAt → Bound → ℕ → BoundAt
 greater greatest bound at = if nat_lt greatest.at at then record { bound = bound; at = at } else greatest
 
--- the token of a leaf that the bound closes
+-- the token of a leaf that the bound closes, in a certificate that remembers states
 abbrev pub token_by : Bound → Token
 token_by Bus = token.Bus
 token_by Lead = token.Lead

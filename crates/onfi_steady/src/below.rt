@@ -4,7 +4,8 @@ ghost use Rattle.std.specs.Prelude.{◌≡◌};
 ghost use Rattle.onfi_steady.specs.Below.{IsGreatest, IsGreatestBefore, IsOfLun, greater, token_by};
 
 use onfi_bound::{Bound, BoundAt, bus, die, lead, trail};
-use onfi_cert::{LunNumber, Token};
+use onfi_cert::LunNumber;
+use onfi_known_check::Token;
 use onfi_problem::Problem;
 
 /// The greatest of the bounds of a problem; of equals the first in the order bus, lead, trail, dies by rising LUN.
@@ -44,7 +45,7 @@ fn choose_greater(greatest: BoundAt, bound: Bound, at: u64) -> BoundAt
     }
 }
 
-/// The token of a certificate that is closed by that bound at once.
+/// The token of a certificate that remembers states, and is closed by that bound at once.
 pub fn token_of(bound: Bound) -> Token
     requires { IsOfLun bound }
     ensures { result ≡ token_by bound }

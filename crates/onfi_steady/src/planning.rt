@@ -1,11 +1,9 @@
 //! The plan of the rule.
 
-ghost use Rattle.std.specs.Prelude.{◌≡◌, ◌∷◌, [], ◌+◌, ◌≤◌, IfOk};
+ghost use Rattle.std.specs.Prelude.{◌≡◌, ◌+◌, ◌≤◌, IfOk};
 ghost use Rattle.onfi_problem.specs.Left.{InLimits};
 ghost use Rattle.onfi_schedule.specs.Schedule.{Legal, finish};
-ghost use Rattle.onfi_bound.specs.Reaching.{NoneReaches};
-ghost use Rattle.onfi_check.specs.Tree.{AcceptsTokens};
-ghost use Rattle.onfi_known_check.specs.Word.{of_plain};
+ghost use Rattle.onfi_bound.specs.Reaching.{NoneReaches, Reaches};
 ghost use Rattle.onfi_planner.specs.Planning.{AreRising};
 ghost use Rattle.onfi_plan.specs.Certificate.{IsRemembering, ShowsBelow};
 ghost use Rattle.onfi_plan.specs.declared.plan.Certificate.TheVariants.{Text};
@@ -13,8 +11,8 @@ ghost use Rattle.onfi_steady.specs.Rule.{IsByRule};
 
 use crate::below::{greatest_bound, token_of};
 use crate::dispatch::run_by_rule;
-use onfi_cert::Token as PlainToken;
-use onfi_known_check::{Token, text_of};
+use onfi_bound::Bound;
+use onfi_known_check::text_of;
 use onfi_plan::{Certificate, Plan};
 use onfi_planner::schedule_of;
 use onfi_problem::Problem;
@@ -45,7 +43,7 @@ pub fn plan_by_rule(alloc: Global, problem: &Problem) -> Result<Plan, AllocError
     let best = run_by_rule(alloc, problem)?;
     let schedule = schedule_of(alloc, problem, best.steps.as_slice());
     let greatest = greatest_bound(problem);
-    let text = text_below(alloc, problem, token_of(greatest.bound), greatest.at)?;
+    let text = text_below(alloc, problem, greatest.bound, greatest.at)?;
     Ok(Plan {
         schedule,
         finish: best.finish,
@@ -55,31 +53,16 @@ pub fn plan_by_rule(alloc: Global, problem: &Problem) -> Result<Plan, AllocError
     })
 }
 
-// The text of a certificate that remembers states, of the one token of a plain one.
+// The text of a certificate that remembers states, whose root that bound closes at once.
 fn text_below(
     alloc: Global,
     problem: &Problem,
-    token: PlainToken,
+    bound: Bound,
     below: u64,
 ) -> Result<Vec<u8>, AllocError>
     requires limits { InLimits problem.now.problem }
-    requires accepted { AcceptsTokens (token ∷ []) problem.now.problem below }
+    requires reaches { Reaches problem.now.problem below bound }
     ensures { IfOk result (λ text. ShowsBelow (Text text) problem.now.all problem.now.problem below) }
 {
-    text_of(alloc, problem.rules().strict, &[convert_token(token)])
-}
-
-// The same token of a certificate that remembers states.
-fn convert_token(token: PlainToken) -> Token
-    ensures { result ≡ of_plain token }
-{
-    match token {
-        PlainToken::Branch(width) => Token::Branch(width),
-        PlainToken::Bus => Token::Bus,
-        PlainToken::Lead => Token::Lead,
-        PlainToken::Trail => Token::Trail,
-        PlainToken::Die(lun) => Token::Die(lun),
-        PlainToken::Yield(lun) => Token::Yield(lun),
-        PlainToken::End => Token::End,
-    }
+    text_of(alloc, problem.rules().strict, &[token_of(bound)])
 }

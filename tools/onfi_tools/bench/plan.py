@@ -15,7 +15,7 @@ processor of its own. Beside it stands the work of all workers together, over th
 by several, isn't counted.
 
 --prototypes: PROGRAM beside both plain searches in C++ of bench/, built with `g++ -O3` (or what CXX names): `plan` and the same tree in
-turns, with the ratio of their nodes a second, over 1 where PROGRAM is faster; then `plan --remember` and the search that remembers
+turns, with the ratio of their nodes a second, over 1 where PROGRAM is faster; then `plan --by within` and the search that remembers
 states, on the scripts of examples/hard and on random ones of the sets of `tools/bench remember` for which that search opens at least
 1,000 nodes. Both have to find the same finish.
 """
@@ -113,7 +113,7 @@ def measure(program: str, bnb: Optional[Path], name: str, script: str, rounds: i
 
 def measure_remembering(program: str, rem: Path, name: str, script: str, rounds: int) -> Measured:
     """Prints the line of a script; gives the best times of the two for the whole plan, and the prototype's nodes."""
-    pairs = [(run([program, "plan", "--remember"], script), run_rem(rem, script)) for _ in range(rounds)]
+    pairs = [(run([program, "plan", "--by", "within", "--limit", str(MOST)], script), run_rem(rem, script)) for _ in range(rounds)]
     best, rival = (best_of(runs) for runs in zip(*pairs))
     finish = best.output.split("\n", 2)[1].split()[-1] if best.status == 0 else "none"
     wanted, nodes = walks_of(rival)
@@ -144,7 +144,7 @@ def bench_prototypes(asked: argparse.Namespace, rng: random.Random, folder: str)
     bnb, rem = (built(os.environ.get("CXX", "g++"), [*options, ROOT / "bench" / f"{name}.cpp"], Path(folder) / name) for name in ("bnb", "rem"))
     print("plan, beside bnb", flush=True)
     bench_alone(asked, rng, bnb)
-    print("plan --remember, beside rem", flush=True)
+    print("plan --by within, beside rem", flush=True)
     drawn = (draw(rng) for draw in itertools.cycle(SETS.values()))
     few = drawn_scripts("remembered", asked.random, drawn, lambda script: walks_of(run_rem(rem, script))[1] >= LEAST_REMEMBERED)
     print_all([measure_remembering(asked.program, rem, name, script, asked.rounds) for name, script in {**HARD_SCRIPTS, **few}.items()])

@@ -1,4 +1,4 @@
-"""Plans that remember states beside plain ones: `plan --remember` beside `plan`, each checked.
+"""Plans that remember states beside plain ones: `plan --by within` beside `plan`, each checked.
 
     tools/bench remember [PROGRAM] [SEED] [--scripts N] [--chains N] [--jobs N] [--few]
 
@@ -18,13 +18,13 @@ and each script of examples/hard and examples/hard-states, with --few none. Of e
     bytes              the text of the certificate
 
 of a set the median, the number that 99 of 100 scripts don't pass, and the greatest; over counts as greater than all. A finish that
-differs between the two, a plan that `check --remember` doesn't accept with its finish, and an answer of another form end the run with
+differs between the two, a plan that `check --by within` doesn't accept with its finish, and an answer of another form end the run with
 status 1.
 
-Then N chains (400) of six rolling batches: eight requests on one of those devices, planned by `plan --within`, run to a phase drawn at
-random, filled up to eight again. Of all these: how many are over within a limit, by `plan` and by `plan --remember`; of
-`plan --within` how many plans are proved optimal, and by how much of the time from the free bus to the finish the others may be too
-long at most: the median, nine of ten, the greatest. Each such plan is checked by `check --within`.
+Then N chains (400) of six rolling batches: eight requests on one of those devices, planned by `plan --by within`, run to a phase drawn at
+random, filled up to eight again. Of all these: how many are over within a limit, by `plan` and by `plan --by within`; of
+`plan --by within` how many plans are proved optimal, and by how much of the time from the free bus to the finish the others may be too
+long at most: the median, nine of ten, the greatest. Each such plan is checked by `check --by within`.
 """
 
 import argparse
@@ -36,7 +36,7 @@ import sys
 from typing import Callable, Dict, Iterator, List, NamedTuple, Optional, Sequence, Tuple
 
 from onfi_tools import plans
-from onfi_tools.bench.runs import HARD, MOST, OVER, ROOT, add_words, answered, cells_at, greatest_over, planned, quantile, run, said, table
+from onfi_tools.bench.runs import HARD, MOST, ROOT, add_words, answered, cells_at, greatest_over, is_short, planned, quantile, run, said, table
 from onfi_tools.channel import idle
 from onfi_tools.drawn import DEVICES, MIX, REQUESTS, SETS, device_of, drawn_wants
 
@@ -66,13 +66,13 @@ def plan_of(program: str, options: Sequence[str], script: str) -> Optional[Plan]
     """The plan by these options; None where it is over within the greatest limit."""
     words = [program, "plan", *options, "--limit"]
     ran = run([*words, str(MOST)], script)
-    if (ran.status, ran.output) == (OVER, f"over {MOST}\n"):
+    if is_short(ran):
         return None
     found = PLAN.match(ran.output)
     if ran.status or not found:
         raise ValueError(f"no plan, status {ran.status}: {ran.output[:200]}\n{script}")
     tree = sum(not token.startswith("Y") for token in found[3].split())
-    nodes = nodes_of(lambda limit: run([*words, str(limit)], script).status != 0, tree)
+    nodes = nodes_of(lambda limit: is_short(run([*words, str(limit)], script)), tree)
     return Plan(int(found[1]), nodes, 1000 * ran.processor, len(found[2].encode()), ran.output)
 
 
@@ -84,9 +84,9 @@ class Pair(NamedTuple):
 
 
 def measure(program: str, script: str) -> Pair:
-    pair = Pair(plan_of(program, [], script), plan_of(program, ["--remember"], script))
+    pair = Pair(plan_of(program, [], script), plan_of(program, ["--by", "within"], script))
     if pair.remembered:
-        answered(program, ["check", "--remember"], script + pair.remembered.text, f"accepted {pair.remembered.finish}\n")
+        answered(program, ["check", "--by", "within"], script + pair.remembered.text, f"accepted {pair.remembered.finish}\n")
         if pair.plain and pair.plain.finish != pair.remembered.finish:
             raise ValueError(f"finishes {pair.plain.finish} and {pair.remembered.finish}\n{script}")
     return pair
@@ -99,7 +99,7 @@ def quantiles(plans: Sequence[Optional[Plan]], field: str) -> str:
 
 
 def set_rows(name: str, pairs: Sequence[Pair]) -> List[List[str]]:
-    both = (("plan", [pair.plain for pair in pairs]), ("plan --remember", [pair.remembered for pair in pairs]))
+    both = (("plan", [pair.plain for pair in pairs]), ("plan --by within", [pair.remembered for pair in pairs]))
     return [[name, f"`{word}`", said(plans.count(None)), *(quantiles(plans, field) for field in ("nodes", "ms", "bytes"))] for word, plans in both]
 
 
@@ -125,7 +125,7 @@ def measure_sets(asked: argparse.Namespace, pool: concurrent.futures.Executor) -
         print(f"measured: {name}", file=sys.stderr, flush=True)
     accepted, both = agreed(pairs)
     line = (f"seed {asked.seed}, {len(pairs):,} scripts; {both:,} finishes of both agree, {accepted:,} plans of "
-            f"`plan --remember` accepted by `check --remember`, {len(pairs) - accepted:,} over")
+            f"`plan --by within` accepted by `check --by within`, {len(pairs) - accepted:,} over")
     return [line, "", *table(["scripts", "by", "over", "nodes", "ms", "bytes of the certificate"], [*rows, *set_rows("all", pairs)], 2), ""]
 
 
@@ -134,24 +134,24 @@ def measure_hard(asked: argparse.Namespace, pool: concurrent.futures.Executor) -
     pairs = list(pool.map(lambda path: measure(asked.program, path.read_text()), files))
     few = sum(pair.remembered is not None and pair.remembered.nodes <= HARD_MOST for pair in pairs)
     cells = [[cell for plan in pair for cell in ([said(plan.nodes), said(plan.ms), said(plan.bytes)] if plan else ["over", "", ""])] for pair in pairs]
-    columns = ["hard script", "nodes of `plan`", "ms", "bytes", "nodes of `plan --remember`", "ms", "bytes"]
-    return [f"{few} of {len(files)} hard scripts are answered by `plan --remember` within {HARD_MOST:,} nodes", "",
+    columns = ["hard script", "nodes of `plan`", "ms", "bytes", "nodes of `plan --by within`", "ms", "bytes"]
+    return [f"{few} of {len(files)} hard scripts are answered by `plan --by within` within {HARD_MOST:,} nodes", "",
             *table(columns, [[path.stem, *own] for path, own in zip(files, cells)])]
 
 
 class Batch(NamedTuple):
-    """One of a chain: which searches are over, by option and limit, and by how much of its time the plan of `plan --within` may be too
+    """One of a chain: which searches are over, by option and limit, and by how much of its time the plan of `plan --by within` may be too
     long at most, by limit, in per cent."""
 
     over: Dict[Tuple[str, int], bool]
     gaps: Dict[int, float]
 
 
-SEARCHES = [("plan", limit) for limit in (2_000, MOST)] + [("plan --remember", limit) for limit in (*LIMITS, MOST)]
+SEARCHES = [("plan", limit) for limit in (2_000, MOST)] + [("plan --by within", limit) for limit in (*LIMITS, MOST)]
 
 
 def is_over(program: str, words: str, limit: int, script: str) -> bool:
-    return run([program, *words.split(), "--limit", str(limit)], script).status == OVER
+    return is_short(run([program, *words.split(), "--limit", str(limit)], script))
 
 
 def chain_of(program: str, seed: str) -> List[Batch]:
@@ -160,7 +160,7 @@ def chain_of(program: str, seed: str) -> List[Batch]:
     device = device_of(*rng.choice(DEVICES), rng.choice((2, 4, 8)))
     channel, batches = idle(device, drawn_wants(rng, device.luns, MIX)), []
     for _ in range(BATCHES):
-        found = {limit: planned(program, channel.script(), "--within", "--limit", str(limit)) for limit in LIMITS}
+        found = {limit: planned(program, channel.script(), "--by", "within", "--limit", str(limit)) for limit in LIMITS}
         gaps = {limit: 100 * (plan.finish - plan.below) / max(plan.finish - channel.bus, 1) for limit, plan in found.items()}
         over = {(words, limit): is_over(program, words, limit, channel.script()) for words, limit in SEARCHES}
         batches.append(Batch(over, gaps))
@@ -191,7 +191,7 @@ def measure_chains(asked: argparse.Namespace, pool: concurrent.futures.Executor)
     if not batches:
         return []
     over = [[f"`{words}`", f"{limit:,}", count] for (words, limit), count in zip(SEARCHES, times_over(batches))]
-    columns = ["limit of `plan --within`", "proved optimal", "others too long by at most: median", "nine of ten", "greatest"]
+    columns = ["limit of `plan --by within`", "proved optimal", "others too long by at most: median", "nine of ten", "greatest"]
     return [f"seed {asked.seed}, {asked.chains:,} chains of {BATCHES} rolling batches: {len(batches):,}", "",
             *table(["by", "limit", "over"], over), "", *table(columns, [gaps_row(batches, limit) for limit in LIMITS], 0), ""]
 

@@ -21,7 +21,7 @@ all figures of all runs in a file, each as it comes; a run that the file has isn
 
 --trace takes a load of your own, of bytes or of pages, on the device of SCRIPT in place of all that (docs/WORKLOADS.md has both forms,
 and what --unit to --fresh mean), by `fifo`, `rfirst:all`, with the library `steady`, and your own way, or by those of --ways. Requests come at their
-times, or --closed with answers, at most 64 or --depth of them outstanding. --run adds `run --clock simulated --rule` of onfi_sim, of up
+times, or --closed with answers, at most 64 or --depth of them outstanding. --run adds `run --clock simulated --by rule` of onfi_sim, of up
 to 10,000 operations: there one host sends all as they come. It prints operations and bytes a second, beside the bound,
 and latencies of lines, from arrival to the end of all that a line asks for. --into puts into FOLDER `latencies.csv`, with each line by
 each way, `over-time.csv` and its picture `over-time.svg`, with operations and bytes a second, and the simulator `rolling` with its

@@ -109,14 +109,19 @@ class Planned(NamedTuple):
 
 
 def planned(program: str, script: str, *options: str) -> Planned:
-    """A plan by these options, once `check --within` has judged it as what it says of itself."""
+    """A plan by these options, once `check --by within` has judged it as what it says of itself."""
     ran = run([program, "plan", *options], script)
     finish, below = finish_of(ran.output), below_of(ran.output)
     if ran.status or finish is None or below is None:
         raise ValueError(f"no plan {' '.join(options)}, status {ran.status}: {ran.output[:200]}\n{script}")
     text, status = (f"within {finish} {below}\n", WITHIN) if below < finish else (f"accepted {finish}\n", 0)
-    answered(program, ["check", "--within"], script + ran.output, text, status)
+    answered(program, ["check", "--by", "within"], script + ran.output, text, status)
     return Planned(ran.output, finish, below)
+
+
+def is_short(ran: Run) -> bool:
+    """Whether a limit was too small for a plan that is proved optimal."""
+    return ran.status == OVER or "\nbelow " in ran.output
 
 
 def greatest_over(is_over: Callable[[int], bool]) -> int:

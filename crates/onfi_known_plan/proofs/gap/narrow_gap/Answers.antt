@@ -18,4 +18,4 @@ returns c =
     narrowed x c.args.limit c.middle-half.result c.args.gap _ aim c.walk_on.new.best walked.walked c.requires.gap (c.if-is_done.ensures refl) c.middle-half.ensures.above c.middle-half.ensures.within refl
     (subst (λ (z : Position). IsBetter z aim c.walk_on.new.best) e walked.ensures.found) c.choose_found-best.ensures.found c.choose_found-best.ensures.kept
     (λ q. subst (λ (z : Position). IsProved z walked.walked.tokens.items c.walk_on.new.best.finish) e (walked.ensures.proved q)) c.show_by_walk-shown.ensures.below c.show_by_walk-shown.ensures.tokens c.show_by_walk-shown.ensures.kept
-    walked.ensures.opened (subst (λ (z : Position). AreMore z.problem c.middle-half.result walked.walked.opened) e walked.ensures.nodes) refl
+    walked.ensures.opened walked.ensures.full walked.ensures.counted (subst (λ (z : Position). AreMore z.problem c.middle-half.result walked.walked.opened) e walked.ensures.nodes) refl

@@ -14,9 +14,6 @@ returns-clause-fallen c = λ q. walk_fallen c.search.new.best.finish c.search.ne
 pub returns-clause-proved : goal.returns-clause-proved
 returns-clause-proved c = λ uncut q. walk_stands c.args.at.now c.args.best.now c.search.new.best c.new-notes.result c.search.new.notes _ c.in_ok-search.ensures.shown c.new-notes.ensures.opened (omega (arith, c.new-notes.ensures.few, c.new-notes.ensures.limit)) c.new-notes.ensures.none c.new-notes.ensures.tokens c.new-notes.ensures.finish uncut q
 
-pub returns-clause-some : goal.returns-clause-some
-returns-clause-some c = λ uncut. let a = c.in_ok-search.ensures.shown.opened.some uncut in omega arith
-
 pub returns-clause-counted : goal.returns-clause-counted
 returns-clause-counted c = λ uncut q. walk_counts c.args.at.now c.args.best.now c.search.new.best c.new-notes.result c.search.new.notes _ c.in_ok-search.ensures.shown c.new-notes.ensures.opened c.new-notes.ensures.tokens c.new-notes.ensures.finish uncut q
 
@@ -31,3 +28,6 @@ returns-clause-nodes c = nodes_from_none c.args.at.now.problem c.args.best.now.f
 
 pub returns-clause-over : goal.returns-clause-over
 returns-clause-over c = λ q. over_from_none c.args.at.now.problem c.args.best.now.finish c.args.limit c.search.new.notes.limit c.new-notes.result.opened (c.in_ok-search.ensures.shown.opened.same_limit ∙ c.new-notes.ensures.limit) c.new-notes.ensures.opened (c.in_ok-search.ensures.shown.opened.over q)
+
+pub returns-clause-full : goal.returns-clause-full
+returns-clause-full c = λ q. c.in_ok-search.ensures.shown.opened.full q ∙ (c.in_ok-search.ensures.shown.opened.same_limit ∙ c.new-notes.ensures.limit)

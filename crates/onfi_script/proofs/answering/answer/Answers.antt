@@ -10,9 +10,9 @@ pub returns-in-Ok : goal.returns-in-Ok
 returns-in-Ok c =
     let input = c.args.input.now in
     let p = c.in-Ok.script.problem.problem in
-    IfOk-weaker c.answer_command.result (λ a. AnswersCommand OneTells c.args.command (plan_text_of input) p (answer_of a))
+    IfOk-weaker c.answer_command.result (λ a. AnswersCommand OneTells c.args.command c.in-Ok.script.weights (plan_text_of input) p (answer_of a))
     (λ a. IsAnswerBy OneTells c.args.command input (answer_of a))
-    (λ a h. inr (is_read p c.in-Ok.ensures.told h)) (rw c.plan_text_of.ensures at c.answer_command.ensures)
+    (λ a h. inr (is_read p c.in-Ok.ensures.told (c.in-Ok.script.weights, c.in-Ok.ensures.weighed, h))) (rw c.plan_text_of.ensures at c.answer_command.ensures)
 
 pub returns-in-Err-Refused : goal.returns-in-Err-Refused
 returns-in-Err-Refused c =

@@ -6,8 +6,8 @@ returns-in-Plan-clause-several g c = λ more. rw c.in-Plan.is (rw c.output_of.en
 pub returns-in-Check-clause-several : goal.returns-in-Check-clause-several
 returns-in-Check-clause-several g c = λ more. rw c.in-Check.is (rw c.in-Check.is at c.answer-in-Check.ensures)
 
-pub returns-in-CheckBy-clause-several : goal.returns-in-CheckBy-clause-several
-returns-in-CheckBy-clause-several g c = λ more. rw c.in-CheckBy.is (rw c.in-CheckBy.is at c.answer-in-CheckBy.ensures)
+pub returns-in-CheckWithin-clause-several : goal.returns-in-CheckWithin-clause-several
+returns-in-CheckWithin-clause-several g c = λ more. rw c.in-CheckWithin.is (rw c.in-CheckWithin.is at c.answer-in-CheckWithin.ensures)
 
 pub returns-in-Legal-clause-several : goal.returns-in-Legal-clause-several
 returns-in-Legal-clause-several g c = λ more. rw c.in-Legal.is (rw c.in-Legal.is at c.answer-in-Legal.ensures)

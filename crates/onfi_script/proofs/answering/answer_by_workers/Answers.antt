@@ -10,8 +10,8 @@ pub returns-in-Ok : goal.returns-in-Ok
 returns-in-Ok g c =
     let input = c.args.input.now in
     let p = c.in-Ok.script.problem.problem in
-    IfOk-weaker c.answer_plan_by_workers.result (λ a. AnswersPlan PartsTell c.args.options p (answer_of a)) (λ a. IsAnswerBy PartsTell (PlanBy c.args.options) input (answer_of a))
-    (λ a h. inr (is_read p c.in-Ok.ensures.told h)) c.answer_plan_by_workers.ensures
+    IfOk-weaker c.answer_plan_by_workers.result (λ a. AnswersPlan PartsTell c.args.options c.in-Ok.script.weights p (answer_of a)) (λ a. IsAnswerBy PartsTell (PlanBy c.args.options) input (answer_of a))
+    (λ a h. inr (is_read p c.in-Ok.ensures.told (c.in-Ok.script.weights, c.in-Ok.ensures.weighed, h))) c.answer_plan_by_workers.ensures
 
 pub returns-in-Err-Refused : goal.returns-in-Err-Refused
 returns-in-Err-Refused g c =

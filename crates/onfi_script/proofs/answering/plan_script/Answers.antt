@@ -1,7 +1,7 @@
-use Rattle.std.proofs.Common.{inl}
+use Rattle.std.proofs.Common.{inl, refl}
 use Rattle.std.proofs.lemmas.Result.{IfOk-weaker}
 use Rattle.onfi_script.proofs.answering.plan_script.Goals as goal
 
 pub returns-in-Ok : goal.returns-in-Ok
 returns-in-Ok c =
-    IfOk-weaker c.print_plan.result _ _ (λ a h. inl (record { plan = c.in-Ok.plan; is_plan = c.in-Ok.ensures.plan; by_rule = c.in-Ok.ensures.by_rule; text = h.0; spelled = h.1; printed = h.2 })) c.print_plan.ensures
+    IfOk-weaker c.print_plan.result _ _ (λ a h. inl (record { x = c.args.script.now.problem; of_problem = refl; of_wants = c.requires.begun; plan = c.in-Ok.plan; is_plan = c.in-Ok.ensures; text = h.0; spelled = h.1; printed = h.2 })) c.print_plan.ensures

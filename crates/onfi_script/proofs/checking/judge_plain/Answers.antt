@@ -1,7 +1,7 @@
 use Rattle.std.proofs.Common.{◌≡◌, ◌∙◌}
 use Rattle.std.proofs.lemmas.Result.{IfOk-weaker}
 use Rattle.onfi_schedule.specs.Schedule.{finish}
-use Rattle.onfi_planners.specs.declared.chosen.ChosenPlanner.TheVariants.{Plain}
+use Rattle.onfi_planners.specs.declared.by.By.TheVariants.{Plain}
 use Rattle.onfi_script.specs.Answer.{AnswersSchedule, is_refused}
 use Rattle.onfi_script.specs.AnswerOf.{answer_of}
 use Rattle.onfi_script.specs.Text.{refused_by}

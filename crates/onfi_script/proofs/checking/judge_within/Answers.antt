@@ -1,7 +1,7 @@
 use Rattle.std.proofs.Common.{◌≡◌, ◌∙◌, subst}
 use Rattle.std.proofs.lemmas.Result.{IfOk-weaker}
 use Rattle.onfi_known_check.specs.Faults.{IsTextFault}
-use Rattle.onfi_planners.specs.declared.chosen.ChosenPlanner.TheVariants.{BestSoFar}
+use Rattle.onfi_planners.specs.declared.by.By.TheVariants.{Within}
 use Rattle.onfi_script.specs.Answer.{AnswersSchedule, is_refused}
 use Rattle.onfi_script.specs.AnswerOf.{answer_of}
 use Rattle.onfi_script.specs.Text.{refused_by}
@@ -16,5 +16,5 @@ returns-in-Err c =
     let p = c.args.problem.now.problem in
     let fault = c.in-Err.fault in
     let said = subst (λ all. IsTextFault all p c.args.schedule.now c.args.below c.args.certificate.now fault) c.requires.begun c.in-Err.ensures.fault in
-    IfOk-weaker c.refuse-in-Err.result (λ a. answer_of a ≡ refused_by c.why_known.result) (λ a. AnswersSchedule BestSoFar p c.args.schedule.now c.args.ends c.args.below c.args.certificate.now (answer_of a))
+    IfOk-weaker c.refuse-in-Err.result (λ a. answer_of a ≡ refused_by c.why_known.result) (λ a. AnswersSchedule Within p c.args.schedule.now c.args.ends c.args.below c.args.certificate.now (answer_of a))
     (λ a h. is_refused (fault, said, h ∙ c.why_known.ensures)) c.refuse-in-Err.ensures.answer

@@ -24,3 +24,6 @@ returns-in_err-problem-clause-told c =
 
 pub returns-clause-told : goal.returns-clause-told
 returns-clause-told c = has_rows c.in_ok-rows.rows.items c.in_ok-rows.ensures (rw c.as_slice.ensures.value at c.in_ok-problem.ensures.told)
+
+pub returns-clause-weighed : goal.returns-clause-weighed
+returns-clause-weighed c = (c.in_ok-rows.rows.items, c.in_ok-rows.ensures, rw c.as_slice-2.ensures.value at c.weights-weights.ensures.wants, c.weights-weights.ensures.running)

@@ -4,7 +4,7 @@ use Rattle.onfi_schedule.specs.Schedule.{Schedule}
 use Rattle.onfi_flight.specs.Flight.{Flight}
 use Rattle.onfi_core.specs.State.{Way}
 use Rattle.onfi_core.specs.Steps.{Plans, taken_next}
-use Rattle.onfi_core.specs.View.{HalfView, planning_of}
+use Rattle.onfi_core.specs.View.{HalfView, planning_of, schedule_in}
 use Rattle.onfi_core.proofs.Plan.{few_taken}
 use Rattle.onfi_core.proofs.Window.{fields_planned, places_fit}
 use Rattle.onfi_core.proofs.half.Half.take_over.Goals as goal
@@ -33,6 +33,6 @@ invariant_of-self c =
     let plans = subst (λ (x : HalfView). Plans x.setup x.state (planning_of c.args.next.batch)) v c.requires.plans in
     let wants = subst (λ (x : HalfView). c.args.wants.items ≡ x.state.now.wants ++ taken_next x.setup x.state) v c.requires.wants in
     let way = c.replan.ensures ∙ ap (λ (s : Schedule). let w : Way = record { now = record c.self.inside.way.now { wants = c.args.wants.items }; left = s; books = None } in w) c.requires.left
-    ∙ ap (λ (ws : List Want). let w : Way = record { now = record c.self.inside.way.now { wants = ws }; left = c.args.next.batch.plan.planned.schedule; books = None } in w) wants in
+    ∙ ap (λ (ws : List Want). let w : Way = record { now = record c.self.inside.way.now { wants = ws }; left = schedule_in c.args.next.batch.plan; books = None } in w) wants in
     let more = more_wants _ _ _ _ _ wants c.len.ensures.value (ap length (c.wants.ensures.value ∙ ap (λ (f : Flight). f.now.wants) c.flight.ensures)) in
     fields_planned _ _ _ _ _ _ _ _ (planning_of c.args.next.batch) _ _ c.self.invariant none plans way (ap (λ n. c.self.inside.planned + n) more)
