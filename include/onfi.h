@@ -300,7 +300,7 @@ typedef struct onfi_planned {
     onfi_schedule schedule; /* places that it doesn't fill are 0 */
     uint64_t finish;        /* when its last phase ends, in ns; where there is none, from when on the bus is free */
     uint64_t below;         /* nothing ends before this time, in ns, as the certificate shows; the schedule is optimal where it is the finish */
-    uint32_t opened;        /* how many nodes the search opened that found the plan, at least 1; 0 by the rule */
+    uint32_t opened;        /* how many nodes the search opened, or its last walk where it walks several times; 0 by the rule */
 } onfi_planned;
 
 typedef struct onfi_verdict {
@@ -461,14 +461,14 @@ uint32_t onfi_version(void);
  *                with all that can join it; and of these phases the one goes that may start soonest. plan->below is the greatest time
  *                that a bound shows, by a certificate of one token.
  *
- * With options->early the plan ends as soon and has the same certificate, and the sum over all requests of their weight times the end of
- * their last phase is no greater; that none has a lesser one isn't promised.
+ * With options->early the plan is made better: it ends no later and has the same certificate, and the sum over all requests of their
+ * weight times the end of their last phase is no greater; that none has a lesser one isn't promised.
  *
  * ONFI_DONE, or ONFI_NO_ROOM where 0 < certificate_room < *certificate_bytes: the plan is given, and the room is as it was. Else nothing
  * is given and *certificate_bytes is 0; the answer is the first of: ONFI_BAD_BY; ONFI_BAD_LIMIT, by the rule too; the channel's faults:
- * ONFI_TOO_MANY, where lun_count is above ONFI_LUNS; ONFI_ZERO_SPAN or ONFI_LONG_SPAN of reads, programs, erases; ONFI_LONG_SPAN of the lengths of sectors;
- * ONFI_BAD_PLANE_BITS; ONFI_BAD_MEMBERS; ONFI_BAD_KIND; ONFI_TOO_MANY of wants, or where there is no LUN; ONFI_BAD_LUN; ONFI_NO_LENGTHS; ONFI_CLOCK;
- * and ONFI_OVER by ONFI_PLAIN. ONFI_MEMORY may stand in place of any after ONFI_BAD_KIND.
+ * ONFI_TOO_MANY, where lun_count is above ONFI_LUNS; ONFI_ZERO_SPAN or ONFI_LONG_SPAN of reads, programs, erases; ONFI_LONG_SPAN of the
+ * lengths of sectors; ONFI_BAD_PLANE_BITS; ONFI_BAD_MEMBERS; ONFI_BAD_KIND; ONFI_TOO_MANY of wants, or where there is no LUN;
+ * ONFI_BAD_LUN; ONFI_NO_LENGTHS; ONFI_CLOCK; and ONFI_OVER by ONFI_PLAIN. ONFI_MEMORY may stand in place of any after ONFI_BAD_KIND.
  */
 uint32_t onfi_plan(const onfi_channel *channel, const onfi_want *wants, size_t want_count, const onfi_options *options,
                    onfi_planned *plan, uint8_t *certificate, size_t certificate_room, size_t *certificate_bytes);

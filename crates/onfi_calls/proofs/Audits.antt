@@ -55,12 +55,23 @@ take_stages : (bits : ℕ) (luns : List PlainLun) (ss : List PlainStage) (at : �
 take_stages bits [] ss at d e low fit = absurd (omega (arith, low))
 take_stages bits (lun ∷ luns) [] at d e low fit = absurd (omega (arith, fit))
 take_stages bits (lun ∷ luns) (s ∷ ss) zero d e low fit = refl
-take_stages bits (lun ∷ luns) (s ∷ ss) (suc at) d e low fit = ap (λ xs. stage_of bits lun s ∷ xs) (take_stages bits luns ss at d e (omega (arith, low)) (omega (arith, fit)))
+take_stages bits (lun ∷ luns) (s ∷ ss) (suc at) d e low fit =
+    let next : suc at + 1 ≡ suc (at + 1) = omega arith in
+    ap (λ n. stages_of bits (take n (lun ∷ luns)) (s ∷ ss)) next
+    ∙ ap (λ xs. stage_of bits lun s ∷ xs) (take_stages bits luns ss at d e (omega (arith, low)) (omega (arith, fit)))
 
 count_stages : (bits : ℕ) (luns : List PlainLun) (ss : List PlainStage) → length luns ≤ length ss → length (stages_of bits luns ss) ≡ length luns
 count_stages bits [] ss few = refl
 count_stages bits (lun ∷ luns) [] few = absurd (omega (arith, few))
 count_stages bits (lun ∷ luns) (s ∷ ss) few = ap suc (count_stages bits luns ss (omega (arith, few)))
+
+-- those of the LUNs that are there
+pub stages_front : (bits : ℕ) (luns : List PlainLun) (ss : List PlainStage) (made : List LunStage) → length luns ≤ length ss → made ≡ filled 8 (stage.Free 0) (stages_of bits luns ss)
+    → take (length luns) made ≡ stages_of bits luns ss
+stages_front bits luns ss made few is =
+    let said = stages_of bits luns ss in
+    ap (take (length luns)) is ∙ ap (λ n. take n (filled 8 (stage.Free 0) said)) (sym (count_stages bits luns ss few))
+    ∙ take-append_seam said (drop (length said) (replicate 8 (stage.Free 0)))
 
 pub stages_more : (bits : ℕ) (luns : List PlainLun) (ss : List PlainStage) (at : ℕ) (d : PlainLun) (e : PlainStage) (y : LunStage) (made : List LunStage) → at < length luns → at < length ss
     → length luns ≤ 8 → length ss ≡ 8 → y ≡ stage_of bits (get_or luns at d) (get_or ss at e) → made ≡ filled 8 (stage.Free 0) (stages_of bits (take at luns) ss)

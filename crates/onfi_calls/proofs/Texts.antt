@@ -1,10 +1,14 @@
 -- From what was written to what was answered.
-use Rattle.std.proofs.Common.{◌≡◌, ℕ, List, [], Some, sym, ap, ◌∙◌, ◌++◌, subst, inl, refl}
+use Rattle.std.proofs.Common.{◌≡◌, ℕ, List, [], Option, None, Some, sym, ap, ◌∙◌, ◌++◌, subst, inl, inr, refl}
+use Rattle.std.specs.Prelude.{IfSome}
 use Rattle.onfi_script.specs.Answer.{Answers, IsAnswer}
+use Rattle.onfi_script.specs.Auditing.{AnswersAuditBy}
+use Rattle.onfi_script.specs.declared.auditing.AuditOptions.{AuditOptions}
 use Rattle.onfi_script.specs.Text.{Answer, memory}
 use Rattle.onfi_script.specs.declared.command.Command.{Command}
 use Rattle.onfi_calls.specs.Room.{Gives}
-use Rattle.onfi_calls.specs.Text.{GivesAnswer}
+use Rattle.onfi_calls.specs.Text.{GivesAnswer, IsAnswerTo, answer_of}
+use Rattle.onfi_calls.specs.declared.text.Answered.{Answered}
 use Rattle.onfi_calls.specs.declared.words.Asked.{Asked}
 use Rattle.onfi_calls.specs.declared.words.Asked.TheVariants as asked
 
@@ -22,3 +26,9 @@ written_is_answer command script old text status e (a, is, s, t) = subst (IsAnsw
 pub memory_is_answer : (a : Asked) (input old new : List ℕ) (bytes result : ℕ) → Gives memory.text memory.status old new bytes result → GivesAnswer a input old new bytes result
 memory_is_answer (asked.Answer command) input old new bytes result g = record { answer = memory; is_answer = inl refl; gives = g }
 memory_is_answer (asked.Audit options) input old new bytes result g = record { answer = memory; is_answer = inl refl; gives = g }
+
+-- what is said of a log is the answer that is asked for
+pub log_answered : (options : AuditOptions) (input : List ℕ) (o : Option Answered) → IfSome o (λ a. AnswersAuditBy options input (answer_of a))
+    → IfSome o (λ a. IsAnswerTo (asked.Audit options) input (answer_of a))
+log_answered options input None is = tt
+log_answered options input (Some a) is = inr is

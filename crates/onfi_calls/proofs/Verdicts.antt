@@ -1,7 +1,7 @@
 -- From what is judged of a schedule to what a caller is answered.
-use Rattle.std.proofs.Common.{◌≡◌, ◌≤◌, ◌<◌, ℕ, List, zero, suc, sym, subst, ap, inl, inr, refl, arith, ◌∙◌}
+use Rattle.std.proofs.Common.{◌≡◌, ◌≤◌, ◌<◌, ℕ, List, false, sym, subst, ap, inl, inr, refl, arith, ◌∙◌}
 use Rattle.std.specs.Prelude.{◌==◌, IfOk, IfErr, Result, Ok, Err}
-use Rattle.std.proofs.lemmas.Bool.{ne_eqb}
+use Rattle.std.proofs.lemmas.Bool.{cases_Bool, ne_eqb}
 use Rattle.onfi_cert.specs.declared.token.Token.{Token}
 use Rattle.onfi_cert.specs.Text.{IsCertificate}
 use Rattle.onfi_check.specs.Tree.{AcceptsTokens}
@@ -30,22 +30,20 @@ verdict_given p s below (Err refusal) said shown is told accepted refused = refu
 
 -- the time that is asked about is the one that is named
 pub asked_named : (p : Problem) (s : Schedule) (below : ℕ) → (below ≡ 0 → ⊥) → asked p s below ≡ below
-asked_named p s zero some = absurd (some refl)
-asked_named p s (suc below) some = refl
+asked_named p s below some = let named : (below == 0) ≡ false = ne_eqb below 0 some in rw named refl
 
 -- .. or the schedule's finish, and it is no more than that where the finish is no less than what is named
 pub asked_low : (p : Problem) (s : Schedule) (below : ℕ) → below ≤ finish p s → asked p s below ≤ finish p s
-asked_low p s zero low = omega arith
-asked_low p s (suc below) low = low
+asked_low p s below low = elim (cases_Bool (below == 0)) [ inl none ↦ rw none (omega arith) | inr some ↦ rw some low ]
 
 -- a plain certificate shows it
 pub shown_plain : (p : Problem) (s : Schedule) (below ends : ℕ) (text : List ℕ) → Optimal p s → finish p s ≡ ends → below ≤ ends
     → ((tokens : List Token) × IsCertificate text p.rules.strict tokens × AcceptsTokens tokens p ends) → IsShown p s below text
 shown_plain p s below ends text optimal is low (tokens, certificate, accepted) = record {
-  legal = optimal.0;
+  legal = optimal.legal;
   shown = finish p s;
   certificate = inl (tokens, certificate, subst (AcceptsTokens tokens p) (sym is) accepted);
-  none_before = optimal.1;
+  none_before = optimal.least;
   reaches = asked_low p s below (subst (λ n. below ≤ n) (sym is) low);
   least = omega arith;
 }

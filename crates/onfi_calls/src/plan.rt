@@ -149,7 +149,7 @@ fn give_asked(text: &[u8], room: &mut [u8], bytes: &mut usize) -> u32
 }
 
 /// Plans the wants of a channel as the options say: the schedule, when it ends, before which time nothing ends, how many nodes the
-/// search opened that found it, and where `certificate` has room for any byte, the text of the certificate that shows it. `bytes`
+/// search opened, and where `certificate` has room for any byte, the text of the certificate that shows it. `bytes`
 /// says how many bytes that text has.
 ///
 /// By the plain search nothing ends before the plan, and the certificate is one of tokens. Within the limit, and by the rule of

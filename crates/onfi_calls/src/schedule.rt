@@ -27,7 +27,7 @@ pub struct PlainSchedule {
 }
 
 /// A plan: its schedule, when its last phase ends, and before which time nothing ends, both in ns, and how many nodes the search
-/// opened that found it; 0 where none searched.
+/// opened, or its last walk where it walks several times; 0 by the rule.
 #[repr(C)]
 #[derive(Clone, Copy)]
 pub struct PlainPlanned {

@@ -1,3 +1,4 @@
+pub mod Traces
 pub mod Arriving
 pub mod Requests
 pub mod Setup

@@ -1,5 +1,5 @@
 //! How the channels of a run go.
-ghost use Rattle.std.specs.Prelude.{◌≡◌};
+ghost use Rattle.std.specs.Prelude.{◌≡◌, false, true};
 ghost use Rattle.onfi_core.specs.declared.setup.Choice.TheVariants.{InOrder, NextPhase};
 
 use onfi_core::Choice;
@@ -11,17 +11,30 @@ pub struct Way<P> {
     pub(crate) planner: P,
     pub(crate) limit: Limit,
     pub(crate) choice: Choice,
+    /// Whether a trace is kept of what each bus carries.
+    pub(crate) is_traced: bool,
 }
 
 impl<P> Way<P> {
     /// By plans of `planner`, of requests in order of acceptance, with at most `limit` nodes for one planning.
     pub fn by_plans(planner: P, limit: Limit) -> Way<P>
-        ensures { result ≡ record { planner = planner; limit = limit; choice = InOrder } }
+        ensures { result ≡ record { planner = planner; limit = limit; choice = InOrder; is_traced = false } }
     {
         Way {
             planner,
             limit,
             choice: Choice::InOrder,
+            is_traced: false,
+        }
+    }
+
+    /// The same way, with a trace of what each bus carries.
+    pub fn with_traces(self) -> Way<P>
+        ensures { result ≡ record self { is_traced = true } }
+    {
+        Way {
+            is_traced: true,
+            ..self
         }
     }
 }
@@ -35,6 +48,7 @@ impl Way<PlainPlanner> {
             planner: PlainPlanner,
             limit: Limit::of(1).unwrap(),
             choice: Choice::NextPhase,
+            is_traced: false,
         }
     }
 }

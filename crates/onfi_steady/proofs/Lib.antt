@@ -12,7 +12,6 @@ pub mod Extremes
 pub mod NextFound
 pub mod OneToken
 pub mod EachLun
-pub mod Works
 pub mod Showing
 pub mod Slots
 pub mod Selecting
@@ -20,6 +19,7 @@ pub mod Dispatching
 pub mod KindPlaces
 pub mod LunKept
 pub mod Changing
+pub mod Distinct
 pub mod Fair
 pub mod Beginning
 pub mod Following

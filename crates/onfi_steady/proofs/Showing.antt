@@ -7,15 +7,11 @@ use Rattle.onfi_timing.specs.declared.timing.Timing.{Timing}
 use Rattle.onfi_group.specs.declared.rules.Rules.{Rules}
 use Rattle.onfi_problem.specs.declared.lun_state.LunState.{LunState}
 use Rattle.onfi_steady.specs.declared.waiter.Waiter.{Waiter}
-use Rattle.onfi_steady.specs.declared.offer.Offer.{Offer}
-use Rattle.onfi_steady.specs.declared.next.Candidate.{Candidate}
 use Rattle.onfi_steady.specs.declared.next.NextPhase.{NextPhase}
 use Rattle.onfi_steady.specs.Order.{is_less}
 use Rattle.onfi_steady.specs.Ranks.{numbers_of}
 use Rattle.onfi_steady.specs.Waiting.{Books}
-use Rattle.onfi_steady.specs.Offer.{IsOffer}
-use Rattle.onfi_steady.specs.Next.{IsShown}
-use Rattle.onfi_steady.specs.Kept.{AreKnown, IsBeginOf, IsHeldAt, IsOfferOn, IsOfferedTo, NoneBelow, first_of, held_group}
+use Rattle.onfi_steady.specs.Kept.{IsHeldAt, NoneBelow, held_group}
 use Rattle.onfi_steady.proofs.Leaving.{same_offer}
 
 pub known_by : (books : Books) (luns : List LunState) (rules : Rules) (waiting : List Waiter) (newest : Option ℕ) (offers : List Offer) →

@@ -81,7 +81,7 @@ impl Dispatcher {
     ghost use Rattle.onfi_problem.specs.declared.lun_state.LunState.TheVariants.{Free};
     ghost use Rattle.onfi_steady.specs.Waiting.{Books, accepted, channel};
     ghost use Rattle.onfi_steady.specs.Next.{IsIdle, IsNextPhase};
-    ghost use Rattle.onfi_steady.specs.Dispatcher.{HasRun, IsBut, IsCancelled, IsDue, IsOf, IsPhaseOn, StandsFirst, accept_refusal, accepted_again, again_refusal, has_due, luns_of, ran_refusal, ready_refusal, states_of};
+    ghost use Rattle.onfi_steady.specs.Dispatcher.{AreDistinct, HasRun, IsBut, IsCancelled, IsDue, IsOf, IsPhaseOn, StandsFirst, accept_refusal, accepted_again, again_refusal, has_due, luns_of, ran_refusal, ready_refusal, states_of};
     ghost use Rattle.onfi_steady.specs.Selecting.{IsChoice, IsHolder, IsNextChoice, IsPhaseOf};
     ghost use Rattle.onfi_flight.specs.Flight.{luns_ready_by};
 
@@ -171,10 +171,11 @@ impl Dispatcher {
     ///
     /// # Errors
     /// `BadLun` where the channel has no such LUN; else `Full` where 64 requests wait for it; else `BadOrder` where its number
-    /// isn't above that of the last of these. Nothing is changed then.
+    /// isn't above that of the last of these; else `Waits` where one of that number waits before it. Nothing is changed then.
     pub fn accept(&mut self, want: Want) -> Result<(), AcceptFault>
         requires plane { want.plane ≤ 3 }
         ensures accepted { (timing : AnyTiming) (books : Books) → IsOf timing books self.old → IfOk result (λ _. IsOf timing (accepted books want) self.new) }
+        ensures distinct { (timing : AnyTiming) (books : Books) → IsOf timing books self.old → IfOk result (λ _. AreDistinct (accepted books want)) }
         ensures over { IfOk result (λ _. has_due self.new ≡ false) }
         ensures refused { MatchResult result (λ _. accept_refusal self.old want ≡ None) (λ fault. accept_refusal self.old want ≡ Some fault) }
         ensures states { states_of self.new ≡ states_of self.old }
@@ -213,8 +214,18 @@ impl Dispatcher {
         self.lun[usize::from(want.lun)].accept(&self.rules, &self.spans, want);
     }
 
-    /// The phase that is next where it is `now`, in ns: what goes first of that which LUNs give, as [`next_phase`](crate::next_phase)
-    /// says it. None only where nothing runs and nothing waits. Nothing is due for it: [`Dispatcher::next`] is for what is to run.
+    /// The phase that is next where it is `now`, in ns: of what LUNs give the one that goes first. None only where nothing runs and
+    /// nothing waits. Nothing is due for it: [`Dispatcher::next`] is for what is to run.
+    ///
+    /// A LUN that runs a group goes on with it. Another one begins the oldest of its requests that is due, else its oldest read,
+    /// else its oldest program, else its oldest erase, each the first on its block, with the mates that may join it. A request is
+    /// due once 128 groups with a later one began on its LUN, an erase once 512 did. A group of programs that lacks its last plane
+    /// waits for mates while it holds the newest accepted program and a LUN has work; its LUN begins its oldest erase meanwhile.
+    ///
+    /// Of these phases the one goes that may start soonest; of equals what goes on with its commands, then a status, a read's
+    /// command, an erase's command, a data output, a program's data; then what begins the larger group, then the one with the
+    /// older request. But a command of a group that is in its commands, and may start within the gap, keeps the bus: before it
+    /// goes only what ends by then. Where nothing runs and each group waits for mates, that of the lowest LUN begins.
     pub fn look(&self, now: u64) -> Option<NextPhase>
         ensures next { (timing : AnyTiming) (books : Books) → IsOf timing books self.now
             → MatchOption result (IsIdle (channel timing (max self.now.bus_free now) (states_of self.now) books)) (IsNextPhase books (channel timing (max self.now.bus_free now) (states_of self.now) books)) }
@@ -327,6 +338,7 @@ impl Dispatcher {
     pub fn accept_again(&mut self, want: Want) -> Result<(), AcceptFault>
         requires plane { want.plane ≤ 3 }
         ensures accepted { (timing : AnyTiming) (books : Books) → IsOf timing books self.old → IfOk result (λ _. IsOf timing (accepted_again books want) self.new) }
+        ensures distinct { (timing : AnyTiming) (books : Books) → IsOf timing books self.old → IfOk result (λ _. AreDistinct (accepted_again books want)) }
         ensures over { IfOk result (λ _. has_due self.new ≡ false) }
         ensures first { (books : Books) → StandsFirst (accepted_again books want) want }
         ensures refused { MatchResult result (λ _. again_refusal self.old want ≡ None) (λ fault. again_refusal self.old want ≡ Some fault) }

@@ -11,11 +11,14 @@ returns-then-finish-below-clause-refused c =
     let stand = c.args.stand.now in
     let ends = e.optimal.1 in
     let sooner = c.if-finish-below.true in
-    is_sooner e.accepted.0 e.accepted.1.0 (subst (AcceptsTokens e.accepted.0 stand.problem.problem) (sym ends) e.accepted.1.1) (omega (arith, ends, sooner)) c.whole.ensures
+    is_sooner e.accepted.0 e.accepted.1 (subst (AcceptsTokens e.accepted.0 stand.problem.problem) (sym ends) e.accepted.2) (omega (arith, ends, sooner)) c.whole.ensures
 
-pub returns-clause-shown : goal.returns-clause-shown
-returns-clause-shown c =
+pub returns-else-finish-below-clause-shown : goal.returns-else-finish-below-clause-shown
+returns-else-finish-below-clause-shown c =
     let e = c.in-Ok.ensures in
     let stand = c.args.stand.now in
     let later = c.if-finish-below.false in
     shown_plain stand.problem.problem stand.schedule c.args.below c.in-Ok.finish c.args.certificate.now e.optimal.0 e.optimal.1 (omega (arith, later)) e.accepted
+
+pub returns-in-Err-clause-refused : goal.returns-in-Err-clause-refused
+returns-in-Err-clause-refused c = ?

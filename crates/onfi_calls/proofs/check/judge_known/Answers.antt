@@ -13,8 +13,8 @@ returns-in-Ok-clause-shown c =
     let s = c.args.stand.now.schedule in
     let none = c.if-below-eq0.true in
     let is : asked x.problem s c.args.below ≡ finish x.problem s = ap (asked x.problem s) none in
-    shown_known x s c.args.below c.in-Ok.finish c.in-Ok.finish c.args.certificate.now c.requires.begun (is ∙ e.optimal.1) e.optimal.0.0 e.optimal.1 (omega arith)
-    (λ other legal. subst (λ n. n ≤ finish x.problem other) e.optimal.1 (e.optimal.0.1 other legal)) e.accepted
+    shown_known x s c.args.below c.in-Ok.finish c.in-Ok.finish c.args.certificate.now c.requires.begun (is ∙ e.optimal.1) e.optimal.0.legal e.optimal.1 (omega arith)
+    (λ other legal. subst (λ n. n ≤ finish x.problem other) e.optimal.1 (e.optimal.0.least other legal)) e.accepted
 
 pub returns-in-Err-clause-refused : goal.returns-in-Err-clause-refused
 returns-in-Err-clause-refused c =

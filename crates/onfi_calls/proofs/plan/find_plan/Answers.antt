@@ -35,3 +35,10 @@ returns-in-Err-clause-none c =
     let some : 1 ≤ options.limit = search rules in
     let few : options.limit ≤ 1048576 = search rules in
     is_refused c.in-Some.by is some few c.in-Err.ensures.refused
+
+pub returns-in_default-of-clause-none : goal.returns-in_default-of-clause-none
+returns-in_default-of-clause-none c =
+    let options = c.args.options.now in
+    let is : by_of options.by ≡ Some c.in-Some.by = search rules in
+    let bad : IsBadLimit options.limit = search rules in
+    is_limit c.in-Some.by is bad refl

@@ -4,8 +4,8 @@ use Rattle.onfi_calls.specs.declared.channel.PlainWant.{PlainWant}
 use Rattle.onfi_calls.proofs.StepTaken.{step_given, step_there}
 use Rattle.onfi_calls.proofs.ran.run_due.Goals as goal
 
-pub bounds-lun-from : goal.bounds-lun-from
-bounds-lun-from c =
+pub bounds-channel-from : goal.bounds-channel-from
+bounds-channel-from c =
     let channel = c.args.channel.now in
     let there = step_there channel (take c.args.count.now c.args.wants.now) c.args.schedule.now c.args.lun c.args.number c.args.started c.in-Some.step c.from.result c.in-Some.ensures c.from.ensures in
     let taken = length-take channel.lun_count channel.lun in

@@ -13,6 +13,7 @@ returns-clause-is c = record {
   newest = refl;
   planes = tt;
   there = tt;
+  distinct = tt;
   luns = record {
     each = all_taken (IsLun c.args.timing.now c.args.rules) c.books_of.result (c.books_of.ensures.luns c.args.timing.now c.of-spans.ensures) _;
     waiting = all_taken (λ (l : LunBooks). waiters_in (slots_in l.line) ≡ []) c.books_of.result c.books_of.ensures.none _;
