@@ -71,7 +71,7 @@ enum onfi_status {
     ONFI_BAD_LIMIT = 5, /* A search may open no node, or more than 1,048,576. */
     ONFI_OVER = 6, /* As many nodes were opened as may be, and the search isn't over. */
     ONFI_BAD_BY = 7, /* A plan is to be found in another way than by ONFI_PLAIN, ONFI_WITHIN or ONFI_RULE. */
-    ONFI_BAD_WORDS = 8, /* Words that ask for nothing that this call answers. */
+    ONFI_BAD_WORDS = 9, /* Words that ask for nothing that this call answers. */
     /* what a caller says of a channel */
     ONFI_ZERO_SPAN = 10, /* A command or a post takes no time. */
     ONFI_LONG_SPAN = 11, /* A length or a wait is 2^50 ns or more. */
@@ -144,7 +144,7 @@ enum onfi_status {
 };
 
 /* What onfi_text answers besides ONFI_DONE, ONFI_NO_ROOM, ONFI_MEMORY, ONFI_OVER and ONFI_BAD_WORDS. */
-enum { ONFI_SCRIPT_REFUSED = 1, ONFI_PLAN_REFUSED = 2 };
+enum { ONFI_SCRIPT_REFUSED = 1, ONFI_PLAN_REFUSED = 2, ONFI_NOT_SHOWN_OPTIMAL = 8 };
 
 /* Kinds of requests. */
 enum onfi_kind { ONFI_READ = 0, ONFI_PROGRAM = 1, ONFI_ERASE = 2 };
@@ -713,8 +713,8 @@ uint32_t onfi_device_of_page(const uint8_t *page, size_t page_bytes, const char 
  *     check [--by plain|within] [--legal]
  *     audit [--all] [--ready-by-status]
  *
- * ONFI_DONE where there is a plan, or where plan or log is accepted, ONFI_SCRIPT_REFUSED, ONFI_PLAN_REFUSED, ONFI_MEMORY and ONFI_OVER,
- * the program's status, with the answer; ONFI_NO_ROOM where it is longer than the room, which is then as it was; ONFI_BAD_WORDS with no
+ * ONFI_DONE where there is a plan, or where plan or log is accepted, ONFI_NOT_SHOWN_OPTIMAL where a plan is accepted that ends after the
+ * time before which nothing does, ONFI_SCRIPT_REFUSED, ONFI_PLAN_REFUSED, ONFI_MEMORY and ONFI_OVER, the program's status, with the answer; ONFI_NO_ROOM where it is longer than the room, which is then as it was; ONFI_BAD_WORDS with no
  * answer, where the words are none of these.
  */
 uint32_t onfi_text(const char *words, size_t words_bytes, const char *script, size_t script_bytes, char *answer, size_t answer_room,

@@ -62,7 +62,7 @@ class BadBy(Refused):
 class BadWords(Refused):
     """Words that ask for nothing that this call answers."""
 
-    status = 8
+    status = 9
 
 
 class ZeroSpan(Refused):

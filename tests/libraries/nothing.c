@@ -70,8 +70,8 @@ static void devices(const uint8_t *page, size_t bytes)
     expect("no page", onfi_device_of_page(NOTHING(uint8_t), 0, SHEET, sizeof SHEET - 1, NOTHING(char), 0, 1, &device, &place), ONFI_PAGE_SHORT);
     expect("no sheet", onfi_device_of_page(page, bytes, NOTHING(char), 0, NOTHING(char), 0, 0, &device, &place), ONFI_SHEET_MISSING);
     expect("tells its first parameter", place, 1);
-    expect("no strobe", onfi_device_of_page(page, bytes, BESIDE, sizeof BESIDE - 1, "\n", 1, 0, &device, &place), ONFI_STROBE_UNKNOWN);
-    expect("tells its row", place, 1);
+    expect("no strobe", onfi_device_of_page(page, bytes, BESIDE, sizeof BESIDE - 1, "\n", 1, 0, &device, &place), ONFI_STROBE_MISSING);
+    expect("tells their first parameter", place, 1);
     expect("sectors without strobes", onfi_device_of_page(page, bytes, SHEET, sizeof SHEET - 1, NOTHING(char), 0, 1, &device, &place), ONFI_DONE);
     expect("of a byte each", device.lengths.sectors[6] - device.lengths.sectors[0], 120);
     expect("no sectors", onfi_device_of_page(page, bytes, SHEET, sizeof SHEET - 1, NOTHING(char), 0, 0, &device, &place), ONFI_DONE);

@@ -249,7 +249,7 @@ class Nothing(unittest.TestCase):
         for compiler in (C11, CXX):
             told = run(build(ROOT / "tests/libraries/nothing.c", compiler), str(page))
             self.assertEqual((told.returncode, told.stderr), (0, b""), told.stdout.decode())
-            self.assertEqual(told.stdout, b"93 tried, 0 failed\n")
+            self.assertEqual(told.stdout, b"91 tried, 0 failed\n")
 
 
 def said(script: str) -> Tuple[onfi.Channel, List[onfi.Want]]:

@@ -223,7 +223,7 @@ impl Status {
             Status::BadLimit => 5,
             Status::Over => 6,
             Status::BadBy => 7,
-            Status::BadWords => 8,
+            Status::BadWords => 9,
             Status::ZeroSpan => 10,
             Status::LongSpan => 11,
             Status::BadPlaneBits => 12,
