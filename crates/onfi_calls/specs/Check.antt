@@ -1,5 +1,5 @@
 -- What a caller is answered of a schedule with its certificate.
-use Rattle.std.specs.Prelude.{◌≡◌, ◌≢◌, ◌⊎◌, ◌==◌, ◌<◌, ◌≤◌, ℕ, if◌then◌else◌, List}
+use Rattle.std.specs.Prelude.{◌≡◌, ◌⊎◌, ◌==◌, ◌<◌, ◌≤◌, ℕ, if◌then◌else◌, Bool, true, false, List}
 use Rattle.onfi_problem.specs.Problem.{Problem}
 use Rattle.onfi_schedule.specs.Schedule.{Schedule, Legal, finish}
 use Rattle.onfi_cert.specs.declared.fault.CertTextFault.{CertTextFault}
@@ -48,11 +48,19 @@ pub record IsShown (p : Problem) (s : Schedule) (below : ℕ) (text : List ℕ) 
   pub reaches : asked p s below ≤ shown
   pub least : shown ≤ finish p s
 
+-- its header line is none of a plain certificate
+abbrev pub is_header : TextFault CertFault CertTextFault → Bool
+is_header (Text Header) = true
+is_header _ = false
+
+abbrev pub IsOtherKind : Problem → Schedule → List ℕ → Type 0
+IsOtherKind p s text = (fault : TextFault CertFault CertTextFault) × IsTextFault p s text fault × (is_header fault ≡ true)
+
 -- why it isn't shown: what is wrong with a certificate whose header is the plain one, or else with one that remembers states; or a plain
 -- one shows that none ends sooner than the schedule, which ends before the time that is named
 pub data IsUnshown (p : Problem) (s : Schedule) (below : ℕ) (text : List ℕ) (refusal : Refusal) : Type 0 where
-  is_plain : (fault : TextFault CertFault CertTextFault) → IsTextFault p s text fault → fault ≢ Text Header → refusal ≡ text_refusal fault → IsUnshown p s below text refusal
-  is_known : (fault : TextFault KnownFault KnownTextFault) → IsTextFault p s text (Text Header) → IsKnownTextFault p.wants p s (asked p s below) text fault
+  is_plain : (fault : TextFault CertFault CertTextFault) → IsTextFault p s text fault → is_header fault ≡ false → refusal ≡ text_refusal fault → IsUnshown p s below text refusal
+  is_known : (fault : TextFault KnownFault KnownTextFault) → IsOtherKind p s text → IsKnownTextFault p.wants p s (asked p s below) text fault
       → refusal ≡ known_text_refusal fault → IsUnshown p s below text refusal
   is_sooner : (tokens : List Token) → IsCertificate text p.rules.strict tokens → AcceptsTokens tokens p (finish p s) → finish p s < below → refusal ≡ whole EndsBefore
       → IsUnshown p s below text refusal

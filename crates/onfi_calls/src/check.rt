@@ -1,9 +1,6 @@
 //! Checks of schedules that plain structs say.
 ghost use Rattle.std.specs.Prelude.{◌≡◌, IfOk, IfErr};
 ghost use Rattle.onfi_schedule.specs.Schedule.{finish};
-ghost use Rattle.onfi_cert.specs.declared.fault.CertTextFault.TheVariants.{Header as NoHeader};
-ghost use Rattle.onfi_check.specs.Faults.{IsTextFault};
-ghost use Rattle.onfi_check.specs.declared.fault.TextFault.TheVariants.{Text as OfText};
 ghost use Rattle.onfi_calls.specs.Check as spec;
 
 use crate::channel::{PlainChannel, PlainWant};
@@ -19,7 +16,7 @@ use std::alloc::Global;
 /// When the schedule ends, in ns, where a certificate that remembers states shows what is asked.
 fn judge_known(alloc: Global, stand: &Stand, below: u64, certificate: &[u8]) -> Result<u64, Refusal>
     requires begun { stand.now.problem.all ≡ stand.now.problem.problem.wants }
-    requires other { IsTextFault stand.now.problem.problem stand.now.schedule certificate.now (OfText NoHeader) }
+    requires other { spec.IsOtherKind stand.now.problem.problem stand.now.schedule certificate.now }
     ensures shown { IfOk result (λ ends. spec.IsShown stand.now.problem.problem stand.now.schedule below certificate.now) }
     ensures finish { IfOk result (λ ends. finish stand.now.problem.problem stand.now.schedule ≡ ends) }
     ensures refused { IfErr result (spec.IsUnshown stand.now.problem.problem stand.now.schedule below certificate.now) }
@@ -33,6 +30,20 @@ fn judge_known(alloc: Global, stand: &Stand, below: u64, certificate: &[u8]) -> 
     match check_known_within(alloc, &stand.problem, &stand.schedule, below, certificate) {
         Ok(finish) => Ok(finish),
         Err(fault) => Err(Refusal::of_known_text(fault)),
+    }
+}
+
+/// Whether a text is no plain certificate by its header line.
+fn is_header(fault: TextFault) -> bool
+    ensures { result ≡ spec.is_header fault }
+{
+    match fault {
+        TextFault::Text(CertTextFault::Header) => true,
+        TextFault::Text(CertTextFault::BadToken(_)) => false,
+        TextFault::Text(CertTextFault::TooLong) => false,
+        TextFault::Text(CertTextFault::Memory) => false,
+        TextFault::Cert(_) => false,
+        TextFault::Option => false,
     }
 }
 
@@ -50,13 +61,12 @@ fn judge(alloc: Global, stand: &Stand, below: u64, certificate: &[u8]) -> Result
             }
             Ok(finish)
         }
-        Err(TextFault::Text(CertTextFault::Header)) => judge_known(
-            alloc,
-            stand,
-            below,
-            certificate,
-        ),
-        Err(fault) => Err(Refusal::of_text(fault)),
+        Err(fault) => {
+            if is_header(fault) {
+                return judge_known(alloc, stand, below, certificate);
+            }
+            Err(Refusal::of_text(fault))
+        }
     }
 }
 

@@ -19,6 +19,3 @@ returns-else-finish-below-clause-shown c =
     let stand = c.args.stand.now in
     let later = c.if-finish-below.false in
     shown_plain stand.problem.problem stand.schedule c.args.below c.in-Ok.finish c.args.certificate.now e.optimal.0 e.optimal.1 (omega (arith, later)) e.accepted
-
-pub returns-in-Err-clause-refused : goal.returns-in-Err-clause-refused
-returns-in-Err-clause-refused c = ?
