@@ -36,7 +36,7 @@ bool went_well(driver *d, uint32_t status)
 /* Nothing waits; LUNs do what the channel says, and mostly that is nothing. */
 bool driver_begin(driver *d)
 {
-    return went_well(d, onfi_dispatcher_begin(&d->dispatcher, &d->lengths, &d->channel, d->lun, d->luns, &d->geometry));
+    return went_well(d, onfi_dispatcher_begin(&d->dispatcher, &d->channel, &d->geometry));
 }
 
 /* What waits. */
@@ -87,7 +87,7 @@ static size_t number_of(const driver *d, unsigned lun, unsigned block)
 /* A bad block is only read. */
 static bool is_of_bad_block(const driver *d, const onfi_want *want)
 {
-    bool is_there = want->lun < d->luns && want->block < d->geometry.blocks_per_lun;
+    bool is_there = want->lun < d->channel.lun_count && want->block < d->geometry.blocks_per_lun;
     size_t block = number_of(d, want->lun, want->block);
     return d->bad && is_there && (want->kind & 31) != ONFI_READ && d->bad[block / 8] >> block % 8 & 1;
 }
@@ -124,7 +124,7 @@ static const onfi_spans *spans_of_kind(const driver *d, unsigned kind)
 /* A command's request waits no more: it is a member of its LUN's group. */
 static void note_member(driver *d, const onfi_phase *command)
 {
-    onfi_lun *lun = &d->lun[command->lun];
+    onfi_lun *lun = &d->channel.lun[command->lun];
     size_t at = place_of(d, command->lun, command->want);
     lun->members = command->members;
     if (at < d->queued)
@@ -134,7 +134,7 @@ static void note_member(driver *d, const onfi_phase *command)
 /* A phase has ended: its LUN goes on, or is free. */
 static void note_phase(driver *d, const onfi_phase *phase, uint64_t end)
 {
-    onfi_lun *lun = &d->lun[phase->lun];
+    onfi_lun *lun = &d->channel.lun[phase->lun];
     const onfi_spans *spans = spans_of_kind(d, phase->kind);
     if (!phase->is_post)
         note_member(d, phase);
@@ -149,7 +149,7 @@ static void note_phase(driver *d, const onfi_phase *phase, uint64_t end)
 /* R/B# of a LUN has risen. Where its array worked it is ready from then on, whatever was stated; else nothing changes. */
 void driver_ready(driver *d, unsigned number, uint64_t since)
 {
-    onfi_lun *lun = &d->lun[number];
+    onfi_lun *lun = &d->channel.lun[number];
     if (onfi_dispatcher_ready(&d->dispatcher, (uint8_t)number, since) == ONFI_DONE && since < lun->since)
         lun->since = since;
 }
@@ -168,16 +168,16 @@ bool driver_next(driver *d, uint64_t now, onfi_phase *phase)
 static bool lacks_members(const driver *d, const uint8_t *known)
 {
     bool any = false;
-    for (size_t lun = 0; lun < d->luns; lun++)
-        any = any || known[lun] < d->lun[lun].members;
+    for (size_t lun = 0; lun < d->channel.lun_count; lun++)
+        any = any || known[lun] < d->channel.lun[lun].members;
     return any;
 }
 
 /* How many members of its group the books know. */
 static void count_members(const driver *d, uint8_t *known)
 {
-    for (size_t lun = 0; lun < d->luns; lun++)
-        known[lun] = d->lun[lun].next < d->lun[lun].members ? d->lun[lun].next : d->lun[lun].members;
+    for (size_t lun = 0; lun < d->channel.lun_count; lun++)
+        known[lun] = d->channel.lun[lun].next < d->channel.lun[lun].members ? d->channel.lun[lun].next : d->channel.lun[lun].members;
 }
 
 /* Members whose commands are to come leave the queue for their groups: a copy of the dispatcher runs ahead until each group is whole. */
@@ -190,7 +190,7 @@ static bool note_mates(driver *d)
     count_members(d, known);
     while (status == ONFI_DONE && lacks_members(d, known)) {
         status = onfi_dispatcher_next(&d->ahead, 0, &phase);
-        bool is_mate = status == ONFI_DONE && phase.number == known[phase.lun] && known[phase.lun] < d->lun[phase.lun].members;
+        bool is_mate = status == ONFI_DONE && phase.number == known[phase.lun] && known[phase.lun] < d->channel.lun[phase.lun].members;
         if (is_mate) {
             note_member(d, &phase);
             known[phase.lun]++;
@@ -227,7 +227,7 @@ static bool wait_longer(driver *d, unsigned lun, uint64_t now)
     if (!note_mates(d))
         return false;
     d->late[lun]++;
-    d->lun[lun].since = now + LATE_WAIT;
+    d->channel.lun[lun].since = now + LATE_WAIT;
     d->channel.bus_free = now;
     return begin_anew(d);
 }
@@ -301,7 +301,7 @@ bool driver_reset(driver *d, unsigned number, uint64_t now, uint64_t *end)
     uint32_t row;
     if (!note_mates(d) || !went_well(d, onfi_row(&d->geometry, (uint8_t)number, 0, 0, &row)))
         return false;
-    onfi_lun *lun = &d->lun[number], was = *lun;
+    onfi_lun *lun = &d->channel.lun[number], was = *lun;
     *end = d->bus->reset(d->bus->board, now > d->channel.bus_free ? now : d->channel.bus_free, row);
     memset(lun, 0, sizeof *lun);
     lun->since = *end + RESET_TIME;
@@ -328,8 +328,8 @@ static uint64_t poll_lun(driver *d, unsigned number, uint64_t now)
 /* Each LUN whose array works is asked, one after another. */
 uint64_t driver_poll(driver *d, uint64_t now)
 {
-    for (unsigned number = 0; number < d->luns; number++) {
-        const onfi_lun *lun = &d->lun[number];
+    for (unsigned number = 0; number < d->channel.lun_count; number++) {
+        const onfi_lun *lun = &d->channel.lun[number];
         if (lun->members && lun->next == lun->members && lun->since > now)
             now = poll_lun(d, number, now);
     }

@@ -57,7 +57,6 @@ typedef struct {
     uint8_t planner;
     bool by_age;    /* the older a request, the more it counts */
     uint8_t reads;  /* how many times as much a read counts then */
-    uint16_t slack; /* by how many thousandths a plan may end later for that */
     uint32_t limit; /* of nodes in a search */
 } planning;
 
@@ -65,11 +64,8 @@ typedef struct {
 typedef struct {
     const struct onfi_bus *bus;
     onfi_geometry geometry;
-    onfi_channel channel;
-    onfi_lengths lengths; /* the posts of reads of some sectors */
+    onfi_channel channel; /* as it stands */
     uint16_t sector_bytes;
-    size_t luns;
-    onfi_lun lun[ONFI_LUNS];
     uint8_t status;   /* the last status byte; of a read whose LUN isn't asked it says ready */
     uint32_t refused; /* the status of a call that refused; ONFI_DONE: none did */
     size_t queued;

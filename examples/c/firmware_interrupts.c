@@ -63,7 +63,7 @@ bool loop_ended(loop *l, onfi_phase *phase)
 
 static void say_ready(loop *l)
 {
-    for (unsigned lun = 0; lun < l->of->luns; lun++)
+    for (unsigned lun = 0; lun < l->of->channel.lun_count; lun++)
         if (l->is_ready[lun]) {
             l->is_ready[lun] = false;
             driver_ready(l->of, lun, l->ready_since[lun]);

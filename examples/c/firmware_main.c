@@ -29,7 +29,6 @@
  *             rule: without a search
  *   weights   age, equal; reads: by age, 20 times theirs age
  *   limit     nodes that a search may open               2000
- *   slack     thousandths that an early plan ends later  20
  *   ends      yes prints when each request ends; no      no
  *
  * Reads of `..-4k` want one sector of four: 4 KiB of tlc and qlc, 1 KiB of slc. The first tenth isn't measured. The exit status is 0, 1 where a call refuses or the board is misused, 2 where a word can't be
@@ -144,10 +143,8 @@ static void open_run(run *r, const simulation *of, const way *has)
     r->bus = board_bus(&r->mock);
     r->firmware.bus = &r->bus;
     r->firmware.plans = of->plans;
-    r->firmware.luns = of->luns;
-    onfi_channel channel = channel_for(&of->made_of, of->byte, of->workload);
-    r->firmware.channel = has == &WAY_OF[GREEDY] ? channel : channel_of(&of->made_of, of->byte);
-    r->firmware.lengths = lengths_of(&of->made_of, of->byte);
+    onfi_channel channel = channel_for(&of->made_of, of->byte, of->luns, of->workload);
+    r->firmware.channel = has == &WAY_OF[GREEDY] ? channel : channel_of(&of->made_of, of->byte, of->luns);
     r->firmware.sector_bytes = sector_bytes_of(&of->made_of);
     r->firmware.geometry = board_geometry(of);
     host_open(&r->sender, of->workload, of->luns, &channel, of->load, of->seed);
@@ -476,7 +473,7 @@ static bool run_way(run *r, const simulation *of, const way *has)
 
 /* The words. */
 
-enum { BYTE, LUNS, DEPTH, LOAD, LATE, SLOW, BAD, REQUESTS, SECONDS, SEED, LIMIT, SLACK, NUMBERS };
+enum { BYTE, LUNS, DEPTH, LOAD, LATE, SLOW, BAD, REQUESTS, SECONDS, SEED, LIMIT, NUMBERS };
 enum { DEVICE, WORKLOAD, TOLD, WAY, PLAN, WEIGHTS, ENDS, CHOICES };
 
 static const struct {
@@ -488,7 +485,7 @@ static const struct {
     {"load", 0, 100, 0, false},      {"late", 0, 1e9, 0, false},          {"slow", 0, 1e9, 0, false},
     {"bad", 0, 1e9, 0, true},        {"requests", 1, 1e9, 2000, true},    {"seconds", 0, 1000, 0, false},
     {"seed", 1, 1e15, 1, true},
-    {"limit", 1, ONFI_NODES, 2000, true}, {"slack", 0, 1000, 20, true},
+    {"limit", 1, ONFI_NODES, 2000, true},
 };
 
 /* The first value is the usual one; of a name with fewer the others are null. */
@@ -629,7 +626,6 @@ static planning planning_of(const words *w)
     made.planner = PLANNER_OF[w->chosen[PLAN]];
     made.by_age = w->chosen[WEIGHTS] != 1;
     made.reads = w->chosen[WEIGHTS] == 2 ? 20 : 1;
-    made.slack = (uint16_t)w->number[SLACK];
     made.limit = (uint32_t)w->number[LIMIT];
     return made;
 }

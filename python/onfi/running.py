@@ -9,7 +9,7 @@ from typing import Dict, Iterable, Iterator, List, Optional, Protocol, Sequence,
 from onfi import pictures
 from onfi.calls import row
 from onfi.logs import Audit
-from onfi.model import Channel, Geometry, Kind, Lengths, Lun, Phase, Spans, Want
+from onfi.model import Channel, Geometry, Kind, Phase, Spans, Want
 from onfi.refused import Refused, TooMany
 
 Arrival = Tuple[int, Want]
@@ -223,16 +223,19 @@ class Scheduler:
             def choose(self, steps):
                 return min(steps, key=lambda step: step.want.id)
 
-        run = play(Oldest(channel, luns, geometry), trace, Audit(channel, luns))
+        run = play(Oldest(channel, geometry), trace, Audit(channel))
     """
 
-    def __init__(self, channel: Channel, luns: Iterable[Lun], geometry: Geometry, lengths: Optional[Lengths] = None) -> None:
-        self.channel, self.geometry, self.lengths = channel, geometry, lengths
+    def __init__(self, channel: Channel, geometry: Geometry) -> None:
+        self.channel, self.geometry = channel, geometry
         self.waiting: List[Want] = []
         """What waits, in order."""
         self._bus = channel.bus_free
         self._step: Optional[Step] = None
-        self._luns: List[Tuple[int, int, Tuple[Want, ...]]] = [(it.since, it.next, tuple(it.members)) for it in luns]
+        self._luns: List[Tuple[int, int, Tuple[Want, ...]]] = [(it.since, it.next, tuple(it.members)) for it in channel.luns]
+
+    def __repr__(self) -> str:
+        return f"{type(self).__name__}({len(self._luns)} LUNs, {len(self.waiting)} wait)"
 
     def choose(self, steps: Sequence[Step]) -> Step:
         """The one that is next; it may begin a group with fewer of its requests."""
@@ -308,10 +311,10 @@ class Scheduler:
 
     def length(self, step: Step) -> int:
         """How long its phase has the bus, in ns."""
-        spans, sectors = self.spans(step.kind), step.want.kind.sectors
+        spans, sectors, lengths = self.spans(step.kind), step.want.kind.sectors, self.channel.lengths
         if not step.is_post:
             return spans.cmd
-        return self.lengths.sectors[sectors] if sectors and self.lengths else spans.post
+        return lengths.sectors[sectors] if sectors and lengths else spans.post
 
     def phase(self, step: Step) -> Phase:
         """It as a phase, with the bytes and the address of ONFI."""

@@ -116,7 +116,7 @@ static uint64_t run_phase(const onfi_phase *phase, uint64_t now)
 /* R/B# of LUNs, or where that shows nothing their statuses. */
 static uint64_t look_at_luns(uint64_t now)
 {
-    for (unsigned lun = 0; lun < d.luns; lun++)
+    for (unsigned lun = 0; lun < d.channel.lun_count; lun++)
         if (mock.lun[lun].rises <= now) {
             driver_ready(&d, lun, mock.lun[lun].rises);
             mock.lun[lun].rises = NEVER;
@@ -133,7 +133,7 @@ static bool is_reset_due(const trial *t, uint64_t phases, unsigned lun)
 
 static void reset_luns(const trial *t, uint64_t phases, uint64_t *now)
 {
-    for (unsigned lun = 0; lun < d.luns; lun++)
+    for (unsigned lun = 0; lun < d.channel.lun_count; lun++)
         if (is_reset_due(t, phases, lun))
             find_wrong(!driver_reset(&d, lun, *now, now), "a reset is refused");
 }
@@ -171,8 +171,7 @@ static void open_trial(const trial *t)
     board_open(&mock, &t->of);
     bus = board_bus(&mock);
     d.bus = &bus;
-    d.luns = t->of.luns;
-    d.channel = channel_of(&t->of.made_of, t->of.byte);
+    d.channel = channel_of(&t->of.made_of, t->of.byte, t->of.luns);
     d.geometry = board_geometry(&t->of);
     d.bad = bad;
     d.give_back = take_back;

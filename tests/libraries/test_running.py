@@ -31,19 +31,19 @@ LUNS = 4
 TIMING = onfi.Timing(onfi.Spans(175, 600, 75_100, 37_639), onfi.Spans(37_439, 600, 800_100, 305), onfi.Spans(125, 600, 10_000_100, 305))
 GEOMETRY = onfi.Geometry(1_024, 11, 10, 2, 1_152, 16_384, 2_048, LUNS, 2, 2, 3, False, True, True)
 LENGTHS = onfi.Lengths({1: 9_991, 2: 19_207})
-CHANNEL = onfi.Channel(TIMING, onfi.Rules(True, True, False, 2))
+CHANNEL = onfi.Channel(TIMING, onfi.Rules(True, True, False, 2), [onfi.Lun()] * LUNS, LENGTHS)
 
 
 def dispatcher() -> onfi.Dispatcher:
-    return onfi.Dispatcher(CHANNEL, [onfi.Lun()] * LUNS, GEOMETRY, LENGTHS)
+    return onfi.Dispatcher(CHANNEL, GEOMETRY)
 
 
 def audit() -> onfi.Audit:
-    return onfi.Audit(CHANNEL, [onfi.Lun()] * LUNS, LENGTHS)
+    return onfi.Audit(CHANNEL)
 
 
 def scheduler(by: "type[Scheduler]") -> Scheduler:
-    return by(CHANNEL, [onfi.Lun()] * LUNS, GEOMETRY, LENGTHS)
+    return by(CHANNEL, GEOMETRY)
 
 
 def trace_of(count: int, seed: int) -> List[Tuple[int, Want]]:
@@ -190,7 +190,7 @@ class Pictures(unittest.TestCase):
         self.assertEqual(self.rows_of(run.svg(0, 800))["bus"], 2)
 
     def test_a_plan_is_a_chart_too(self) -> None:
-        made = onfi.plan(CHANNEL, [onfi.Lun()] * LUNS, [Want(0, Kind.READ, 0, 0), Want(1, Kind.ERASE, 1, 0)])
+        made = onfi.plan(CHANNEL, [Want(0, Kind.READ, 0, 0), Want(1, Kind.ERASE, 1, 0)])
         self.assertEqual(self.rows_of(made.svg()), {"bus": 4, "LUN 0": 3, "LUN 1": 3})
         self.assertEqual(made._repr_html_(), made.svg())
 

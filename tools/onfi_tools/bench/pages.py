@@ -48,7 +48,7 @@ LOADS = ("", " workload erases")
 HERE = "x86-64"
 CELL = r"([\d,]+(?:\.\d+)?)"
 WAYS = ("greedy", "phase by phase", "plans by the rule", "plans within", "plans early")
-CALLS = {"plan": "plain", "plan --by within": "known", "plan --by within --early": "early"}
+CALLS = {"plan": "plain", "plan --by within": "within", "plan --by within --early": "early"}
 
 
 class Lacking(Exception):
@@ -195,7 +195,7 @@ class Measured:
     def nodes(self) -> List[str]:
         """Instructions of a node of the two searches with their certificates, and of a token of their checks."""
         scripts = whole_plans.drawn_batches(1000, 8)
-        plain, known = self.library().long("plain", [scripts], 12, 30_000), self.library().long("known", whole_plans.drawn_sets(500).values(), 6, 14_000)
+        plain, known = self.library().long("plain", [scripts], 12, 30_000), self.library().long("within", whole_plans.drawn_sets(500).values(), 6, 14_000)
         return [thousands(it) for it in (whole_plans.a_node(plain), whole_plans.a_node(known), whole_plans.a_token(plain), whole_plans.a_token(known))]
 
     def stack_of(self, calls: Sequence[str]) -> List[str]:
