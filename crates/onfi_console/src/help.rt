@@ -1,6 +1,6 @@
 //! The texts of help. Times are ns, statuses are those that the program ends with.
 
-pub const VERSION: &str = "1.0.0";
+pub const VERSION: &str = "0.9.0";
 
 pub const PROGRAM: &str =
     "Plans a channel of NAND dies on one ONFI bus, checks such plans, and runs hosts' operations.";
