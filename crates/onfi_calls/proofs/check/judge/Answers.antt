@@ -1,5 +1,4 @@
-use Rattle.std.proofs.Common.{◌≡◌, ◌≤◌, ◌<◌, rules, sym, subst, arith}
-use Rattle.onfi_schedule.specs.Schedule.{finish}
+use Rattle.std.proofs.Common.{◌≡◌, sym, subst, ◌∙◌, arith}
 use Rattle.onfi_check.specs.Tree.{AcceptsTokens}
 use Rattle.onfi_calls.specs.Check.{is_plain, is_sooner}
 use Rattle.onfi_calls.proofs.Verdicts.{shown_plain}
@@ -19,3 +18,6 @@ returns-else-finish-below-clause-shown c =
     let stand = c.args.stand.now in
     let later = c.if-finish-below.false in
     shown_plain stand.problem.problem stand.schedule c.args.below c.in-Ok.finish c.args.certificate.now e.optimal.0 e.optimal.1 (omega (arith, later)) e.accepted
+
+pub returns-else-is_header-clause-refused : goal.returns-else-is_header-clause-refused
+returns-else-is_header-clause-refused c = is_plain c.in-Err.fault c.in-Err.ensures.fault (sym c.is_header.ensures ∙ c.if-is_header.false) c.of_text.ensures
