@@ -23,26 +23,20 @@
  * Stack: below its caller a call takes at most so much, as measured on these two, also of a certificate as deep as it can be; on a
  * 32-bit Arm an eighth more:
  *
- *     468,000 bytes: onfi_text_check_known
- *     443,000 bytes: onfi_check_known, onfi_check_within, onfi_check_within_by
- *     214,000 bytes: onfi_plan_early, onfi_plan_early_by
- *     175,000 bytes: onfi_text_plan_known, onfi_text_trace, onfi_plan_within, onfi_plan_within_by
- *     133,000 bytes: onfi_text_plan, onfi_text_check
- *     134,000 bytes: onfi_plan_known
- *     92,000 bytes: onfi_plan, onfi_check
- *     74,000 bytes: onfi_text_audit, onfi_text_legal
- *     132,000 bytes: onfi_plan_rule, onfi_plan_rule_by
+ *     468,000 bytes: onfi_text, onfi_check
+ *     214,000 bytes: onfi_plan
  *     110,000 bytes: onfi_dispatcher_begin
- *     48,000 bytes: onfi_timing_of_page, onfi_timing_of_strobes, onfi_lengths_of_page
- *     23,000 bytes: onfi_breach, onfi_breach_by, onfi_audit_phase, onfi_audit_ready
- *     11,400 bytes: onfi_ran, onfi_ran_by, onfi_audit_begin, onfi_audit_begin_by
- *     6,900 bytes: onfi_due, onfi_due_by, onfi_dispatcher_accept, onfi_dispatcher_accept_again, onfi_dispatcher_cancel,
- *         onfi_dispatcher_ran
+ *     48,000 bytes: onfi_device_of_page
+ *     23,000 bytes: onfi_breach, onfi_audit_phase, onfi_audit_ready
+ *     11,400 bytes: onfi_ran, onfi_audit_begin
+ *     6,900 bytes: onfi_due, onfi_dispatcher_accept, onfi_dispatcher_accept_again, onfi_dispatcher_cancel, onfi_dispatcher_ran
  *     770 bytes: onfi_dispatcher_next, onfi_dispatcher_ready, onfi_output_of, onfi_row, onfi_status_text, onfi_version
  *
- * The shared library is libonfi.so.MAJOR. Within a MAJOR no call, struct or number changes its meaning or goes, and no call
- * asks its caller for more. What may come or change: further calls and numbers of refusals, the texts of numbers, how many
- * nodes a search opens, which of several optimal schedules is given, and which certificate.
+ * The shared library is libonfi.so.MAJOR. Until a first release, 1.0, MAJOR is 0, and each version whose second number is another may
+ * change any call, struct or number; CHANGELOG.md says what stands in the place of what went. From then on no call, struct or number
+ * changes its meaning or goes within a MAJOR, and no call asks its caller for more. What may come or change even then: further calls
+ * and numbers of refusals, the texts of numbers, how many nodes a search opens, which of several optimal schedules is given, and which
+ * certificate.
  */
 #ifndef ONFI_H
 #define ONFI_H
@@ -56,11 +50,11 @@ extern "C" {
 #endif
 
 /* The version of this header. */
-#define ONFI_VERSION_MAJOR 1
-#define ONFI_VERSION_MINOR 0
+#define ONFI_VERSION_MAJOR 0
+#define ONFI_VERSION_MINOR 9
 #define ONFI_VERSION_PATCH 0
-#define ONFI_VERSION "1.0.0"
-#define ONFI_VERSION_NUMBER UINT32_C(10000) /* 10,000 times the first number, 100 times the second, and the third */
+#define ONFI_VERSION "0.9.0"
+#define ONFI_VERSION_NUMBER UINT32_C(900) /* 10,000 times the first number, 100 times the second, and the third */
 
 /* The greatest counts. */
 enum { ONFI_LUNS = 8, ONFI_WANTS = 8, ONFI_MEMBERS = 4, ONFI_STARTS = 8, ONFI_WAITERS = 64, ONFI_SECTORS = 7, ONFI_DISPATCHER_WORDS = 2048 };
@@ -76,6 +70,8 @@ enum onfi_status {
     ONFI_MEMORY = 4, /* Memory was refused. */
     ONFI_BAD_LIMIT = 5, /* A search may open no node, or more than 1,048,576. */
     ONFI_OVER = 6, /* As many nodes were opened as may be, and the search isn't over. */
+    ONFI_BAD_BY = 7, /* A plan is to be found in another way than by ONFI_PLAIN, ONFI_WITHIN or ONFI_RULE. */
+    ONFI_BAD_WORDS = 9, /* Words that ask for nothing that this call answers. */
     /* what a caller says of a channel */
     ONFI_ZERO_SPAN = 10, /* A command or a post takes no time. */
     ONFI_LONG_SPAN = 11, /* A length or a wait is 2^50 ns or more. */
@@ -147,13 +143,18 @@ enum onfi_status {
     /* until here */
 };
 
-/* What the calls onfi_text_.. answer besides ONFI_DONE, ONFI_NO_ROOM, ONFI_MEMORY, ONFI_BAD_LIMIT and ONFI_OVER. */
-enum { ONFI_SCRIPT_REFUSED = 1, ONFI_PLAN_REFUSED = 2 };
+/* What onfi_text answers besides ONFI_DONE, ONFI_NO_ROOM, ONFI_MEMORY, ONFI_OVER and ONFI_BAD_WORDS. */
+enum { ONFI_SCRIPT_REFUSED = 1, ONFI_PLAN_REFUSED = 2, ONFI_NOT_SHOWN_OPTIMAL = 8 };
 
 /* Kinds of requests. */
 enum onfi_kind { ONFI_READ = 0, ONFI_PROGRAM = 1, ONFI_ERASE = 2 };
 
-/* The kind of a read that puts out so many sectors of its page, 1 to ONFI_SECTORS; only calls onfi_.._by and onfi_dispatcher_.. take it. With 0 it is the onfi_kind. */
+/*
+ * The kind of a read that puts out so many sectors of its page, 1 to ONFI_SECTORS (ONFI 4.2, Change Read Column Enhanced); with 0 it is
+ * the onfi_kind. Its post is what the channel's lengths state of as many; command, gap and array are those of other reads, with which it
+ * may run as one group. Which sectors they are isn't said: whoever asked for the read knows the first, and onfi_output_of makes the
+ * column of it.
+ */
 #define ONFI_KIND(operation, sectors) ((uint8_t)((operation) | (sectors) << 5))
 
 /*
@@ -204,7 +205,7 @@ typedef struct onfi_timing {
     onfi_spans erase;
 } onfi_timing;
 
-/* How long an output of some sectors of a page holds the bus; all else is as for other reads. For calls onfi_.._by and onfi_dispatcher_begin. */
+/* How long an output of some sectors of a page holds the bus; all else is as for other reads. All 0 where no read puts out some. */
 typedef struct onfi_lengths {
     uint64_t sectors[ONFI_SECTORS]; /* the post of a read of 1 to 7 sectors, in ns, below 2^50; 0 where none is stated */
 } onfi_lengths;
@@ -217,28 +218,32 @@ typedef struct onfi_rules {
     uint8_t plane_bits; /* how many low bits of a block number name its plane, 0 to 2 */
 } onfi_rules;
 
-typedef struct onfi_channel {
-    onfi_timing timing;
-    onfi_rules rules;
-    uint64_t bus_free; /* from when on the bus is free, in ns */
-} onfi_channel;
-
 /* A request. Its plane is the one that the low bits of its block name. */
 typedef struct onfi_want {
     uint64_t id;    /* a number of the caller's; each want of a list has a greater one than that before it */
-    uint8_t kind;   /* an onfi_kind; for calls onfi_.._by and onfi_dispatcher_.. also an ONFI_KIND */
+    uint8_t kind;   /* an onfi_kind or an ONFI_KIND */
     uint8_t lun;    /* from 0 */
     uint16_t block; /* from 0 */
     uint16_t page;  /* from 0; an erase names page 0 */
 } onfi_want;
 
-/* What a LUN does as the planning begins. The place in the list of LUNs is its number. */
+/* What a LUN does as the planning begins. Its place among the LUNs of a channel is its number. */
 typedef struct onfi_lun {
     uint64_t since;  /* from when on a group may begin, or the next phase of the running group may start, in ns */
     uint8_t members; /* how many wants its running group has, 1 to 4, planes rising; 0 where it is free */
     uint8_t next;    /* which phase of the running group comes next: its commands are 0 .., its posts follow */
     onfi_want member[ONFI_MEMBERS]; /* the wants of the running group; their ids are not looked at */
 } onfi_lun;
+
+/* A channel as it stands: its device's lengths, its rules, its bus and its LUNs. */
+typedef struct onfi_channel {
+    onfi_timing timing;
+    onfi_lengths lengths;
+    onfi_rules rules;
+    uint64_t bus_free; /* from when on the bus is free, in ns */
+    uint8_t lun_count;       /* 1 to ONFI_LUNS */
+    onfi_lun lun[ONFI_LUNS]; /* what is past the count isn't looked at */
+} onfi_channel;
 
 /* The starts of the phases that are left of a LUN's running group. */
 typedef struct onfi_rest {
@@ -260,23 +265,43 @@ typedef struct onfi_schedule {
     onfi_group group[ONFI_WANTS]; /* in a plan, by rising first start */
 } onfi_schedule;
 
-typedef struct onfi_planned {
-    onfi_schedule schedule; /* places that it doesn't fill are 0 */
-    uint64_t finish;        /* when its last phase ends, in ns; where there is none, from when on the bus is free */
-    uint32_t opened;        /* how many nodes the search opened, at least 1 */
-} onfi_planned;
-
-typedef struct onfi_within {
-    onfi_schedule schedule; /* places that it doesn't fill are 0 */
-    uint64_t finish;        /* when its last phase ends, in ns; where there is none, from when on the bus is free */
-    uint64_t below;         /* nothing ends before this time, in ns; the schedule is optimal where it is the finish */
-} onfi_within;
-
 /* How much each request counts: one of weight 2 counts as two of weight 1, and one of weight 0 doesn't. */
 typedef struct onfi_weights {
     uint16_t want[ONFI_WANTS];                  /* by the place in the list of wants; others mean nothing */
     uint16_t running[ONFI_LUNS][ONFI_MEMBERS];  /* of each LUN's running group, by the place of the member; others mean nothing */
 } onfi_weights;
+
+/* How a plan is found. */
+enum onfi_by {
+    ONFI_PLAIN = 0,  /* by a search: the plan is optimal, and its certificate a plain one; or ONFI_OVER after as many nodes as may be */
+    ONFI_WITHIN = 1, /* by a search that remembers states, as its certificate does: after as many nodes as may be the best that it found */
+    ONFI_RULE = 2    /* by a rule, in one pass and without a search, so in microseconds */
+};
+
+/* How a batch is planned. ONFI_OPTIONS is what a caller begins with that wants nothing else. */
+typedef struct onfi_options {
+    uint32_t limit;       /* how many nodes a search opens at most, 1 to ONFI_NODES */
+    uint8_t by;           /* an onfi_by */
+    bool early;           /* whether the plan is made better: requests end early, by their weights, and the last phase no later */
+    onfi_weights weights; /* looked at where early is true */
+} onfi_options;
+
+/* By the plain search of at most ONFI_NODES nodes, and not early: onfi_options options = ONFI_OPTIONS; each request counts as much as another. */
+#define ONFI_OPTIONS \
+    {                                                                                                                                  \
+        ONFI_NODES, ONFI_PLAIN, false,                                                                                                 \
+        {                                                                                                                              \
+            {1, 1, 1, 1, 1, 1, 1, 1},                                                                                                  \
+            {{1, 1, 1, 1}, {1, 1, 1, 1}, {1, 1, 1, 1}, {1, 1, 1, 1}, {1, 1, 1, 1}, {1, 1, 1, 1}, {1, 1, 1, 1}, {1, 1, 1, 1}}            \
+        }                                                                                                                              \
+    }
+
+typedef struct onfi_planned {
+    onfi_schedule schedule; /* places that it doesn't fill are 0 */
+    uint64_t finish;        /* when its last phase ends, in ns; where there is none, from when on the bus is free */
+    uint64_t below;         /* nothing ends before this time, in ns, as the certificate shows; the schedule is optimal where it is the finish */
+    uint32_t opened;        /* how many nodes the search opened, or its last walk where it walks several times; 0 by the rule */
+} onfi_planned;
 
 typedef struct onfi_verdict {
     uint64_t finish; /* when the schedule ends, in ns, where it is accepted; else 0 */
@@ -331,6 +356,7 @@ typedef struct onfi_geometry {
  */
 typedef struct onfi_device {
     onfi_timing timing;
+    onfi_lengths lengths; /* as of a channel: a channel of this device begins with these three */
     onfi_rules rules;
     onfi_geometry geometry;
 } onfi_device;
@@ -366,11 +392,10 @@ typedef struct onfi_log_broken {
     bool is_post;
 } onfi_log_broken;
 
-/* What a LUN does by a log. */
+/* What a log has of a LUN besides what the channel says of it. */
 typedef struct onfi_stage {
-    onfi_lun lun;    /* as in the list of LUNs; while is_open isn't 0 since is from when on the first post may start, and next means nothing */
     uint64_t more;   /* while is_open isn't 0: from when on a further command may join its group, in ns */
-    uint8_t is_open; /* not 0 while it has had commands alone, so that its group may get more members */
+    uint8_t is_open; /* not 0 while it has had commands alone, so that its group may get more members: since is when the first post may start */
 } onfi_stage;
 
 /*
@@ -378,11 +403,9 @@ typedef struct onfi_stage {
  * it has, no call goes wrong: what is out of its range is refused.
  */
 typedef struct onfi_audit {
-    onfi_channel channel; /* as it stands */
-    onfi_lengths lengths; /* 0 where the log began without */
-    uint64_t accepted;    /* how many requests began: the id of the next one */
-    uint8_t luns;
-    onfi_stage lun[ONFI_LUNS]; /* what is past the count means nothing */
+    onfi_channel channel;       /* as it stands; while a LUN's group is open its next means nothing */
+    uint64_t accepted;          /* how many requests began: the id of the next one */
+    onfi_stage stage[ONFI_LUNS]; /* what is past the channel's count means nothing */
 } onfi_audit;
 
 /* A phase on the bus: a command with its address and data, or a post, which is a data output or a status byte. */
@@ -394,7 +417,7 @@ typedef struct onfi_phase {
     uint16_t block;
     uint16_t page;
     uint8_t lun;
-    uint8_t kind;       /* an onfi_kind; by onfi_due_by and onfi_dispatcher_next that of the want */
+    uint8_t kind;       /* that of its request, as onfi_output_of takes it */
     uint8_t number;     /* its number in its group: commands are 0 .., posts follow */
     uint8_t members;    /* how many requests its group has */
     uint8_t opener;     /* the first command byte (ONFI 4.2): 00h, 80h, 60h; of a data output 06h, of a status 78h */
@@ -425,101 +448,49 @@ typedef struct onfi_dispatcher {
 uint32_t onfi_version(void);
 
 /*
- * Plans the wants of a channel.
+ * Plans the wants of a channel, as the options say.
  *
- * Gives the plan, and where there is room for any byte the text of its certificate; *certificate_bytes says how many
- * bytes that text has, without a final NUL. The search opens at most `limit` nodes, 1 to ONFI_NODES. Eight wants have
- * certificates of some hundred bytes mostly, and of megabytes at worst.
+ * Gives the plan, and where there is room for any byte the text of its certificate, for onfi_check; *certificate_bytes says how many
+ * bytes that text has, without a final NUL: some hundred mostly, and megabytes at worst.
  *
- * ONFI_DONE, or ONFI_NO_ROOM where 0 < certificate_room < *certificate_bytes: the plan is given, and the room is as it
- * was. Else nothing is given and *certificate_bytes is 0; the answer is the first of: ONFI_BAD_LIMIT; ONFI_ZERO_SPAN or
- * ONFI_LONG_SPAN of reads, programs, erases; ONFI_BAD_PLANE_BITS; ONFI_BAD_MEMBERS; ONFI_BAD_KIND; ONFI_TOO_MANY;
- * ONFI_BAD_LUN; ONFI_CLOCK; ONFI_OVER. ONFI_MEMORY may stand in place of any after ONFI_BAD_KIND.
+ *   ONFI_PLAIN   nothing ends before plan->finish, which is plan->below.
+ *   ONFI_WITHIN  nothing ends before plan->below. It is less than plan->finish only where the search tree has more nodes than the limit;
+ *                then it is the greatest time that is shown of all that the search left open, and the plan ends no later than that by
+ *                the rule. 65,536 nodes were enough in nearly all batches that were tried.
+ *   ONFI_RULE    again and again each LUN gives its next phase, or a group that may start, its oldest read, else program, else erase,
+ *                with all that can join it; and of these phases the one goes that may start soonest. plan->below is the greatest time
+ *                that a bound shows, by a certificate of one token.
+ *
+ * With options->early the plan is made better: it ends no later and has the same certificate, and the sum over all requests of their
+ * weight times the end of their last phase is no greater; that none has a lesser one isn't promised.
+ *
+ * ONFI_DONE, or ONFI_NO_ROOM where 0 < certificate_room < *certificate_bytes: the plan is given, and the room is as it was. Else nothing
+ * is given and *certificate_bytes is 0; the answer is the first of: ONFI_BAD_BY; ONFI_BAD_LIMIT, by the rule too; the channel's faults:
+ * ONFI_TOO_MANY, where lun_count is above ONFI_LUNS; ONFI_ZERO_SPAN or ONFI_LONG_SPAN of reads, programs, erases; ONFI_LONG_SPAN of the
+ * lengths of sectors; ONFI_BAD_PLANE_BITS; ONFI_BAD_MEMBERS; ONFI_BAD_KIND; ONFI_TOO_MANY of wants, or where there is no LUN;
+ * ONFI_BAD_LUN; ONFI_NO_LENGTHS; ONFI_CLOCK; and ONFI_OVER by ONFI_PLAIN. ONFI_MEMORY may stand in place of any after ONFI_BAD_KIND.
  */
-uint32_t onfi_plan(const onfi_channel *channel, const onfi_lun *luns, size_t lun_count, const onfi_want *wants, size_t want_count,
-                   uint32_t limit, onfi_planned *plan, uint8_t *certificate, size_t certificate_room, size_t *certificate_bytes);
+uint32_t onfi_plan(const onfi_channel *channel, const onfi_want *wants, size_t want_count, const onfi_options *options,
+                   onfi_planned *plan, uint8_t *certificate, size_t certificate_room, size_t *certificate_bytes);
 
 /*
- * Plans as onfi_plan does, by a search that remembers states, and gives a certificate that does so too, for
- * onfi_check_known. It answers in practice where onfi_plan is over, with certificates of some kilobytes, and promises
- * neither. The search that finds the plan and the one that writes the certificate open at most `limit` nodes each;
- * plan->opened says how many the first opened.
+ * Checks by the text of a certificate that no legal schedule of the wants ends before `below`, in ns, and that this one is legal and
+ * doesn't either; where `below` is 0, that none ends sooner than this one. Whoever made them need not be trusted. The header line says
+ * which kind of certificate it is. Of one that remembers states 80 bytes are kept of each open node until the call returns, so who bounds
+ * the text bounds the memory. A plain one shows that none ends sooner, whatever `below` is.
  *
- * The same is answered.
+ * ONFI_DONE: verdict->finish says when the schedule ends, which is optimal where that is `below`, or `below` is 0. Else the answer is the
+ * first of the channel's faults as by onfi_plan; ONFI_BAD_SCHEDULE; a fault of the text (40 ..), ONFI_ILLEGAL, ONFI_ENDS_BEFORE where the
+ * schedule ends before `below`, a fault of the tokens (51 .., 90 ..), with verdict->place; of a plain certificate ONFI_ENDS_BEFORE comes
+ * last. An id that no want has makes a schedule illegal; onfi_breach says which condition of ONFI_ILLEGAL is broken. ONFI_MEMORY may
+ * stand in place of any after ONFI_BAD_KIND.
  */
-uint32_t onfi_plan_known(const onfi_channel *channel, const onfi_lun *luns, size_t lun_count, const onfi_want *wants, size_t want_count,
-                         uint32_t limit, onfi_planned *plan, uint8_t *certificate, size_t certificate_room, size_t *certificate_bytes);
+uint32_t onfi_check(const onfi_channel *channel, const onfi_want *wants, size_t want_count, const onfi_schedule *schedule,
+                    uint64_t below, const uint8_t *certificate, size_t certificate_bytes, onfi_verdict *verdict);
 
 /*
- * Plans as onfi_plan_known does, and always gives a plan: where a search opened `limit` nodes and isn't over, the best that
- * was found, with the text of a certificate that nothing ends before plan->below, for onfi_check_within. plan->below is
- * less than plan->finish only where the search tree has more nodes than the limit. 65,536 nodes were enough in nearly all
- * batches that were tried.
- *
- * The same is answered, and never ONFI_OVER.
- */
-uint32_t onfi_plan_within(const onfi_channel *channel, const onfi_lun *luns, size_t lun_count, const onfi_want *wants, size_t want_count,
-                          uint32_t limit, onfi_within *plan, uint8_t *certificate, size_t certificate_room, size_t *certificate_bytes);
-
-/*
- * Plans by a rule, in one pass and without a search, so in microseconds: again and again each LUN gives its next phase, or a group
- * that may start, its oldest read, else program, else erase, with all that can join it; and of these phases the one that may start
- * soonest goes. plan->below is the greatest time that a bound shows before which nothing ends, plan->finish is no less, and the
- * schedule is optimal where the two are one. The certificate shows plan->below by one token, for onfi_check_within.
- *
- * The same is answered as by onfi_plan_within, and never ONFI_BAD_LIMIT.
- */
-uint32_t onfi_plan_rule(const onfi_channel *channel, const onfi_lun *luns, size_t lun_count, const onfi_want *wants, size_t want_count,
-                        onfi_within *plan, uint8_t *certificate, size_t certificate_room, size_t *certificate_bytes);
-
-/*
- * Plans as onfi_plan_within does, and makes the plan better: requests end early. What counts is the sum over all requests of
- * their weight times the end of their last phase. With `slack` the plan may end after plan->below by so many thousandths, 1,000
- * at most (a greater number counts as 1,000), of what lies between channel->bus_free and plan->below; it ends later only where the
- * search tree has more nodes than the limit. onfi_check_within judges it.
- *
- * That the plan counts for no more than the one it was made from is proved of the function that makes it better (`improve` of
- * onfi_early), and shown of this call by tests; that none counts for less isn't promised.
- *
- * It answers what onfi_plan_within does.
- */
-uint32_t onfi_plan_early(const onfi_channel *channel, const onfi_lun *luns, size_t lun_count, const onfi_want *wants, size_t want_count,
-                         uint32_t limit, const onfi_weights *weights,
-                         onfi_within *plan, uint8_t *certificate, size_t certificate_room, size_t *certificate_bytes);
-
-/*
- * Checks by the text of a certificate that no legal schedule of the wants ends sooner than this one. Whoever made the two
- * need not be trusted.
- *
- * ONFI_DONE: the schedule is optimal, and verdict->finish says when it ends. Else the answer is the first of the channel's
- * faults as by onfi_plan; ONFI_BAD_SCHEDULE; a fault of the text (40 ..), ONFI_ILLEGAL, a fault of the tokens (51 ..) with
- * verdict->place. An id that no want has makes a schedule illegal; onfi_breach says which condition of ONFI_ILLEGAL is broken.
- * ONFI_MEMORY may stand in place of any after ONFI_BAD_KIND.
- */
-uint32_t onfi_check(const onfi_channel *channel, const onfi_lun *luns, size_t lun_count, const onfi_want *wants, size_t want_count,
-                    const onfi_schedule *schedule, const uint8_t *certificate, size_t certificate_bytes, onfi_verdict *verdict);
-
-/*
- * The same by the text of a certificate that remembers states; a plain one is ONFI_BAD_HEADER here, as one of these is
- * there. Of each open node 80 bytes are kept until the call returns, so who bounds the text bounds the memory.
- *
- * The same is answered, a fault of the tokens by the numbers from 90 on too, and never ONFI_TOO_MANY_TOKENS.
- */
-uint32_t onfi_check_known(const onfi_channel *channel, const onfi_lun *luns, size_t lun_count, const onfi_want *wants, size_t want_count,
-                          const onfi_schedule *schedule, const uint8_t *certificate, size_t certificate_bytes, onfi_verdict *verdict);
-
-/*
- * Checks by the text of a certificate that remembers states that no legal schedule of the wants ends before `below`, in ns,
- * and that this one is legal and doesn't either. verdict->finish says when it ends; it is optimal where it ends then.
- *
- * It answers what onfi_check_known does, and after ONFI_ILLEGAL ONFI_ENDS_BEFORE where the schedule ends before `below`.
- */
-uint32_t onfi_check_within(const onfi_channel *channel, const onfi_lun *luns, size_t lun_count, const onfi_want *wants, size_t want_count,
-                           const onfi_schedule *schedule, uint64_t below, const uint8_t *certificate, size_t certificate_bytes, onfi_verdict *verdict);
-
-/*
- * Whether a schedule is legal, and which condition it breaks first where it isn't: the reason of ONFI_ILLEGAL of the calls onfi_check_..
- * No certificate is looked at. broken->condition says which, and of which requests, LUNs, phases and times.
+ * Whether a schedule is legal, and which condition it breaks first where it isn't: the reason of ONFI_ILLEGAL of onfi_check. No
+ * certificate is looked at. broken->condition says which, and of which requests, LUNs, phases and times.
  *
  * ONFI_DONE where the schedule is legal, and *broken is all 0: ONFI_BREACH_NONE. ONFI_ILLEGAL where it isn't, with the condition. Else
  * *broken is as it was, and the answer is the first of the channel's faults as by onfi_plan; ONFI_BAD_SCHEDULE. ONFI_MEMORY may stand in
@@ -528,21 +499,21 @@ uint32_t onfi_check_within(const onfi_channel *channel, const onfi_lun *luns, si
  * Proved: the condition is broken, and what is said of requests, LUNs, phases, counts and times is so. Shown by tests alone: that none
  * is that is looked at before it.
  */
-uint32_t onfi_breach(const onfi_channel *channel, const onfi_lun *luns, size_t lun_count, const onfi_want *wants, size_t want_count,
-                     const onfi_schedule *schedule, onfi_broken *broken);
+uint32_t onfi_breach(const onfi_channel *channel, const onfi_want *wants, size_t want_count, const onfi_schedule *schedule,
+                     onfi_broken *broken);
 
 /*
  * Gives the phase that is due: the undone one of least start, with its address and its command bytes. `schedule` is what is
  * left of a plan of these LUNs and wants, or any other legal schedule of them. Of the schedule only this phase is looked at:
  * that the bus is free and its LUN ready by then, and that a new group may start. So of a schedule that isn't legal a phase may
- * be given, one that may run; a check of the whole is onfi_check_within's. No memory is asked for.
+ * be given, one that may run; a check of the whole is onfi_check's. No memory is asked for.
  *
  * ONFI_DONE; else nothing is given, and the answer is the first of the channel's and the problem's faults as by onfi_plan;
  * ONFI_BAD_SCHEDULE; ONFI_ILLEGAL, where the phase of least start may not run, or none has a start and something waits or runs;
  * ONFI_BAD_GEOMETRY; ONFI_NOTHING_DUE; ONFI_BAD_PLACE, where the device doesn't have the page. ONFI_MEMORY is never answered.
  */
-uint32_t onfi_due(const onfi_channel *channel, const onfi_lun *luns, size_t lun_count, const onfi_want *wants, size_t want_count,
-                  const onfi_geometry *geometry, const onfi_schedule *schedule, onfi_phase *phase);
+uint32_t onfi_due(const onfi_channel *channel, const onfi_want *wants, size_t want_count, const onfi_geometry *geometry,
+                  const onfi_schedule *schedule, onfi_phase *phase);
 
 /*
  * Makes of all that is said what stands after the phase that is due, once it ran from `started` on, in ns: the bus is free
@@ -551,24 +522,25 @@ uint32_t onfi_due(const onfi_channel *channel, const onfi_lun *luns, size_t lun_
  * *want_count of the wants wait, of ONFI_WANTS places; what is past them stays as it is. `lun` and `number` are those of
  * the phase, as onfi_due gives them.
  *
- * A phase may start late, and the rest waits for it: a legal schedule stays legal, so channel->bus_free and the LUNs stay what
- * this call made of them until a new plan is made. A lesser `since` may say that a LUN is ready early. As by onfi_due
+ * A phase may start late, and the rest waits for it: a legal schedule stays legal, so the channel stays what this call made of
+ * it until a new plan is made. A lesser `since` may say that a LUN is ready early. As by onfi_due
  * only the phase is looked at, and no memory is asked for.
  *
  * ONFI_DONE; else all is as it was, and the answer is the first of: ONFI_TOO_MANY, where *want_count is above ONFI_WANTS; the
  * channel's and the problem's faults as by onfi_plan; ONFI_BAD_SCHEDULE; ONFI_ILLEGAL, as by onfi_due; ONFI_NOTHING_DUE;
  * ONFI_NOT_DUE, where another phase is due; ONFI_TOO_SOON, where `started` is before its start; ONFI_CLOCK, where a phase would
- * start at 2^62 ns or later, or what is left could last until then: so no later call answers ONFI_CLOCK of what this one made.
+ * start at 2^62 ns or later, or what is left could last until then: so no later call answers ONFI_CLOCK or ONFI_NO_LENGTHS of what this
+ * one made.
  * ONFI_MEMORY is never answered.
  */
-uint32_t onfi_ran(onfi_channel *channel, onfi_lun *luns, size_t lun_count, onfi_want wants[ONFI_WANTS], size_t *want_count,
-                  onfi_schedule *schedule, uint8_t lun, uint8_t number, uint64_t started);
+uint32_t onfi_ran(onfi_channel *channel, onfi_want wants[ONFI_WANTS], size_t *want_count, onfi_schedule *schedule, uint8_t lun,
+                  uint8_t number, uint64_t started);
 
 /*
  * A channel that goes phase by phase, without batches and plans: a dispatcher takes requests as they come, and gives one phase after
  * another, of what each LUN goes on with and of all that waits. It keeps its books from call to call. No memory is asked for.
  *
- *     status = onfi_dispatcher_begin(&dispatcher, &lengths, &channel, luns, lun_count, &geometry);
+ *     status = onfi_dispatcher_begin(&dispatcher, &channel, &geometry);
  *     for (;;) {
  *         .. onfi_dispatcher_accept(&dispatcher, &want) each request that has come; one that is refused changes nothing ..
  *         status = onfi_dispatcher_next(&dispatcher, now, &phase);
@@ -581,15 +553,13 @@ uint32_t onfi_ran(onfi_channel *channel, onfi_lun *luns, size_t lun_count, onfi_
  */
 
 /*
- * Has a dispatcher begin with a channel, what its LUNs do, the lengths of reads of some sectors, and the device, as they are said:
- * nothing waits. All of them are looked at here, and by no later call. Where no read puts out sectors, *lengths is all 0.
+ * Has a dispatcher begin with a channel and its device as they are said: nothing waits. Both are looked at here, and by no later call.
  *
- * ONFI_DONE; else *dispatcher is as it was, and the answer is the first of: the channel's faults as by onfi_audit_begin_by, of which
+ * ONFI_DONE; else *dispatcher is as it was, and the answer is the first of: the channel's faults as by onfi_audit_begin, of which
  * ONFI_BAD_LUN is that of a running group with a member of another LUN; ONFI_BAD_GEOMETRY; ONFI_BAD_PLACE, where the device lacks a
  * page of what a LUN runs.
  */
-uint32_t onfi_dispatcher_begin(onfi_dispatcher *dispatcher, const onfi_lengths *lengths, const onfi_channel *channel, const onfi_lun *luns,
-                               size_t lun_count, const onfi_geometry *geometry);
+uint32_t onfi_dispatcher_begin(onfi_dispatcher *dispatcher, const onfi_channel *channel, const onfi_geometry *geometry);
 
 /*
  * Takes a request in, after the others that wait for its LUN. Its id is one that none had before, its kind an onfi_kind or an ONFI_KIND.
@@ -652,15 +622,15 @@ uint32_t onfi_dispatcher_ready(onfi_dispatcher *dispatcher, uint8_t lun, uint64_
  * Logs: whether each phase that a channel had was legal after those before it, one at a time and of any number. What a log has left stands
  * in an onfi_audit of the caller's.
  *
- *     status = onfi_audit_begin(&channel, luns, lun_count, &audit);
+ *     status = onfi_audit_begin(&channel, &audit);
  *     .. each phase that the bus had, in order ..
  *         status = onfi_audit_phase(&audit, &phase, &broken);
  *
- * Has an audit begin with the channel and what its LUNs do as they are said.
+ * Has an audit begin with the channel as it is said.
  *
  * ONFI_DONE; else *audit is as it was, and the answer is the first of the channel's faults as by onfi_plan. No memory is asked for.
  */
-uint32_t onfi_audit_begin(const onfi_channel *channel, const onfi_lun *luns, size_t lun_count, onfi_audit *audit);
+uint32_t onfi_audit_begin(const onfi_channel *channel, onfi_audit *audit);
 
 /*
  * Judges the next phase of a log. Of the phase start, lun, kind, block, page and is_post are looked at, and nothing else: it may be one of
@@ -671,8 +641,8 @@ uint32_t onfi_audit_begin(const onfi_channel *channel, const onfi_lun *luns, siz
  * ONFI_DONE: it is legal, and *broken is all 0. ONFI_ILLEGAL: it breaks a condition, which *broken names. Then it counts as run where it
  * only came too soon (ONFI_LOG_BUS_NOT_FREE, .._LUN_NOT_FREE, .._NOT_READY and nothing else), and holds the bus beside what held it before;
  * and else as not there, so that the next phase can be judged, as by `onfi_sim audit --all`. In both cases *audit goes on. Else *audit and *broken are as they were, and the answer
- * is the first of: ONFI_TOO_MANY, where audit->luns is above eight; ONFI_ZERO_SPAN or ONFI_LONG_SPAN, ONFI_BAD_PLANE_BITS,
- * ONFI_BAD_MEMBERS, ONFI_BAD_KIND of *audit; ONFI_BAD_KIND, where the phase has no kind, or a program or an erase has sectors; ONFI_CLOCK, where it
+ * is the first of: ONFI_TOO_MANY, where audit->channel.lun_count is above eight; ONFI_ZERO_SPAN or ONFI_LONG_SPAN, ONFI_BAD_PLANE_BITS, ONFI_BAD_MEMBERS, ONFI_BAD_KIND of
+ * audit->channel; ONFI_BAD_KIND, where the phase has no kind, or a program or an erase has sectors; ONFI_CLOCK, where it
  * starts at 2^62 ns or later; and where it begins a request: ONFI_BAD_LUN, where it is an erase of another page than 0; ONFI_NO_LENGTHS,
  * where it is a read of so many sectors that no length is stated of them; ONFI_TOO_MANY, where 2^64 - 1 requests began; ONFI_MEMORY. Only a
  * command that begins a request asks for memory, and gives it back.
@@ -688,57 +658,13 @@ uint32_t onfi_audit_phase(onfi_audit *audit, const onfi_phase *phase, onfi_log_b
 uint32_t onfi_audit_ready(onfi_audit *audit, uint8_t lun, uint64_t moment);
 
 /*
- * Reads of some sectors (ONFI 4.2, Change Read Column Enhanced). Each call onfi_.._by does what the call without _by does, where reads
- * may put out 1 to 7 sectors of their pages: a want or a member of a running group has the kind ONFI_KIND(ONFI_READ, n), and its post is
- * lengths->sectors[n - 1]. Command, gap and array are those of other reads, with which it may run as one group. Which sectors they are
- * isn't said: whoever asked for the read knows the first, and onfi_output_of makes the column of it.
- *
- * What the call without _by answers is answered, and of sectors: ONFI_LONG_SPAN of the lengths of 1 to 7 of them, after those of
- * channel->timing; ONFI_BAD_KIND where the five low bits of a kind are above 2; and after ONFI_BAD_LUN, before ONFI_CLOCK, ONFI_NO_LENGTHS,
- * where a read puts out so many sectors that none is stated of them, or where a program or an erase has sectors.
- */
-
-/* As onfi_plan_within. At ONFI_NODES it stands for onfi_plan_known too: the plan is optimal where plan->below is plan->finish. */
-uint32_t onfi_plan_within_by(const onfi_lengths *lengths, const onfi_channel *channel, const onfi_lun *luns, size_t lun_count, const onfi_want *wants,
-                             size_t want_count, uint32_t limit, onfi_within *plan, uint8_t *certificate, size_t certificate_room, size_t *certificate_bytes);
-
-/* As onfi_plan_early. */
-uint32_t onfi_plan_early_by(const onfi_lengths *lengths, const onfi_channel *channel, const onfi_lun *luns, size_t lun_count, const onfi_want *wants,
-                            size_t want_count, uint32_t limit, const onfi_weights *weights,
-                            onfi_within *plan, uint8_t *certificate, size_t certificate_room, size_t *certificate_bytes);
-
-/* As onfi_plan_rule. */
-uint32_t onfi_plan_rule_by(const onfi_lengths *lengths, const onfi_channel *channel, const onfi_lun *luns, size_t lun_count, const onfi_want *wants,
-                           size_t want_count, onfi_within *plan, uint8_t *certificate, size_t certificate_room, size_t *certificate_bytes);
-
-/* As onfi_check_within. */
-uint32_t onfi_check_within_by(const onfi_lengths *lengths, const onfi_channel *channel, const onfi_lun *luns, size_t lun_count, const onfi_want *wants,
-                              size_t want_count, const onfi_schedule *schedule, uint64_t below, const uint8_t *certificate, size_t certificate_bytes,
-                              onfi_verdict *verdict);
-
-/* As onfi_breach. */
-uint32_t onfi_breach_by(const onfi_lengths *lengths, const onfi_channel *channel, const onfi_lun *luns, size_t lun_count, const onfi_want *wants,
-                        size_t want_count, const onfi_schedule *schedule, onfi_broken *broken);
-
-/* As onfi_due. */
-uint32_t onfi_due_by(const onfi_lengths *lengths, const onfi_channel *channel, const onfi_lun *luns, size_t lun_count, const onfi_want *wants,
-                     size_t want_count, const onfi_geometry *geometry, const onfi_schedule *schedule, onfi_phase *phase);
-
-/* As onfi_ran: no later call answers ONFI_CLOCK or ONFI_NO_LENGTHS of what this one made. */
-uint32_t onfi_ran_by(const onfi_lengths *lengths, onfi_channel *channel, onfi_lun *luns, size_t lun_count, onfi_want wants[ONFI_WANTS],
-                     size_t *want_count, onfi_schedule *schedule, uint8_t lun, uint8_t number, uint64_t started);
-
-/* As onfi_audit_begin; a command of onfi_audit_phase may then be of a read of some sectors. */
-uint32_t onfi_audit_begin_by(const onfi_lengths *lengths, const onfi_channel *channel, const onfi_lun *luns, size_t lun_count, onfi_audit *audit);
-
-/*
  * The column and the count of bytes of a data output, for its 06h .. E0h (ONFI 4.2, Change Read Column Enhanced): what a phase of
- * onfi_due, onfi_due_by or onfi_dispatcher_next puts out of its page. Of the phase its kind and is_post are looked at, and nothing else. No memory
+ * onfi_due or onfi_dispatcher_next puts out of its page. Of the phase its kind and is_post are looked at, and nothing else. No memory
  * is asked for.
  *
  * The post of a read puts out all of its page, data bytes and spare bytes from column 0 on, where its kind names no sectors. Where it
  * names 1 to 7, they are those from sector `first` on, counted from 0, with sector_bytes bytes each, spare bytes among them as the
- * caller lays them out: what onfi_lengths_of_page was given, and which sector the request asks for first. The two mean nothing where no
+ * caller lays them out: what onfi_device_of_page was given, and which sector the request asks for first. The two mean nothing where no
  * sectors are named. Every other phase, a command or a status, puts out no byte of a page: column 0, bytes 0. That is no refusal, so
  * that a driver may ask of each phase alike.
  *
@@ -760,83 +686,39 @@ uint32_t onfi_row(const onfi_geometry *geometry, uint8_t lun, uint16_t block, ui
  * Reads a device from the bytes of its parameter page, with as many redundant copies as there are, and from the text of a
  * timing sheet: rows NAME,VALUE for tWC, tRC, tADL, tWHR, tRHW, tWB, tPLRBSY, tPLPBSY and tPLEBSY, in ns, digits alone.
  *
- * ONFI_DONE and *place 0; else nothing is given, and the answer is the first fault of the page (60 ..), of the device (70 ..), of
- * the sheet (80 ..), or ONFI_MEMORY. Where bit 1 of byte 114 of the page is clear, device->rules.strict = 1 is the caller's to set
- * (onfi_device says why). *place is the row that ONFI_SHEET_UNKNOWN and ONFI_SHEET_NOT_A_NUMBER speak of,
- * counted from 1, the parameter of ONFI_SHEET_MISSING and ONFI_SHEET_REPEATED, from 1 in the order above, else 0.
- */
-uint32_t onfi_timing_of_page(const uint8_t *page, size_t page_bytes, const char *sheet, size_t sheet_bytes, onfi_device *device, uint64_t *place);
-
-/*
- * The same of a device whose data and status bytes go by strobes, NV-DDR2 or NV-DDR3, two in a cycle: the text of its strobes has
- * rows NAME,VALUE for tRPRE, tRC, tRPST, tRPSTH, tWPRE, tDSC, tWPST and tWPSTH, in ps, digits alone, 0 for one that the device
- * doesn't have. Each length is its sum in ps, rounded up to whole ns once; docs/DEFINITIONS.md has the sums. tRC of the sheet may be
- * missing, and isn't looked at.
+ * Where strobes_bytes isn't 0, its data and status bytes go by strobes, NV-DDR2 or NV-DDR3, two in a cycle: the text of its strobes has
+ * rows NAME,VALUE for tRPRE, tRC, tRPST, tRPSTH, tWPRE, tDSC, tWPST and tWPSTH, in ps, digits alone, 0 for one that the device doesn't
+ * have. Each length is its sum in ps, rounded up to whole ns once; docs/DEFINITIONS.md has the sums. tRC of the sheet may be missing
+ * then, and isn't looked at.
  *
- * The answer is as by onfi_timing_of_page: the first fault of the page, of the device, of the text of the sheet, of the text of the
- * strobes (86 .., where the place is that of its row or parameter too), of what the sheet lacks, of what the strobes lack.
- * ONFI_SHEET_TOO_LONG also says that a value of the strobes is 2^32 ps or more, ONFI_SHEET_ZERO_CYCLE that their tRC or tDSC is 0.
- */
-uint32_t onfi_timing_of_strobes(const uint8_t *page, size_t page_bytes, const char *sheet, size_t sheet_bytes, const char *strobes,
-                                size_t strobes_bytes, onfi_device *device, uint64_t *place);
-
-/*
- * The same device with the lengths of its sectors: as by onfi_timing_of_page where strobes_bytes is 0, else as by onfi_timing_of_strobes.
- * The post of 1 to 7 sectors of sector_bytes bytes each is that of a read whose page has their bytes; none is stated of more than a page has
- * bytes for, spare bytes among them, and none at all where sector_bytes is 0.
+ * device->lengths has the posts of 1 to 7 sectors of sector_bytes bytes each: that of a read whose page has their bytes. None is stated of
+ * more than a page has bytes for, spare bytes among them, and none at all where sector_bytes is 0.
  *
- * The same is answered; where it isn't ONFI_DONE, *lengths too is as it was.
+ * ONFI_DONE and *place 0; else *device is as it was, and the answer is the first fault of the page (60 ..), of the device (70 ..), of
+ * the text of the sheet (80 ..), of that of the strobes (86 ..), of what the sheet lacks, of what the strobes lack, or ONFI_MEMORY.
+ * *place is the row that ONFI_SHEET_UNKNOWN, ONFI_SHEET_NOT_A_NUMBER, ONFI_STROBE_UNKNOWN and ONFI_STROBE_NOT_A_NUMBER speak of, counted
+ * from 1, the parameter of .._MISSING and .._REPEATED, from 1 in the order above, else 0. ONFI_SHEET_TOO_LONG also says that a value of
+ * the strobes is 2^32 ps or more, ONFI_SHEET_ZERO_CYCLE that their tRC or tDSC is 0. Where bit 1 of byte 114 of the page is clear,
+ * device->rules.strict = 1 is the caller's to set (onfi_device says why).
  */
-uint32_t onfi_lengths_of_page(const uint8_t *page, size_t page_bytes, const char *sheet, size_t sheet_bytes, const char *strobes, size_t strobes_bytes,
-                              uint16_t sector_bytes, onfi_device *device, onfi_lengths *lengths, uint64_t *place);
+uint32_t onfi_device_of_page(const uint8_t *page, size_t page_bytes, const char *sheet, size_t sheet_bytes, const char *strobes,
+                             size_t strobes_bytes, uint16_t sector_bytes, onfi_device *device, uint64_t *place);
 
 /*
- * What `onfi_sim plan` writes for a script (docs/FORMATS.md), or with `trace` what `onfi_sim plan --trace` writes; the
- * search opens at most `limit` nodes. *answer_bytes says how many bytes there are, without a final NUL.
+ * What the program `onfi_sim` writes for a script (docs/FORMATS.md) where it is asked so: the words are those of its command line after
+ * its name, with one space between two of them, as "plan --by within --limit 65536". The script is what it would read, with the plan
+ * text or the log after it. *answer_bytes says how many bytes the answer has, without a final NUL.
  *
- * ONFI_DONE, ONFI_SCRIPT_REFUSED, ONFI_MEMORY and ONFI_OVER with the answer; ONFI_NO_ROOM where it is longer than the room,
- * which is then as it was; ONFI_BAD_LIMIT with no answer.
- */
-uint32_t onfi_text_plan(const char *script, size_t script_bytes, uint32_t limit, bool trace, char *answer, size_t answer_room, size_t *answer_bytes);
-
-/*
- * The same by a search that remembers states: what `onfi_sim plan --remember` writes, or with `trace` what
- * `onfi_sim plan --remember --trace` writes. Its certificate is one for onfi_text_check_known.
- */
-uint32_t onfi_text_plan_known(const char *script, size_t script_bytes, uint32_t limit, bool trace, char *answer, size_t answer_room, size_t *answer_bytes);
-
-/*
- * What `onfi_sim plan --requests` writes: the trace of the plan, whose lines name their requests in a last column; with
- * `remember` what `onfi_sim plan --remember --requests` writes. The same is answered.
- */
-uint32_t onfi_text_trace(const char *script, size_t script_bytes, uint32_t limit, bool remember, char *answer, size_t answer_room, size_t *answer_bytes);
-
-/*
- * What `onfi_sim check` writes for a script with a plan text after it. *answer_bytes says how many bytes there are.
+ *     plan [--by plain|within|rule] [--early] [--limit N] [--trace] [--requests]
+ *     check [--by plain|within] [--legal]
+ *     audit [--all] [--ready-by-status]
  *
- * ONFI_DONE where the plan is accepted, ONFI_SCRIPT_REFUSED, ONFI_PLAN_REFUSED and ONFI_MEMORY with the answer;
- * ONFI_NO_ROOM as above.
+ * ONFI_DONE where there is a plan, or where plan or log is accepted, ONFI_NOT_SHOWN_OPTIMAL where a plan is accepted that ends after the
+ * time before which nothing does, ONFI_SCRIPT_REFUSED, ONFI_PLAN_REFUSED, ONFI_MEMORY and ONFI_OVER, the program's status, with the answer; ONFI_NO_ROOM where it is longer than the room, which is then as it was; ONFI_BAD_WORDS with no
+ * answer, where the words are none of these.
  */
-uint32_t onfi_text_check(const char *script, size_t script_bytes, char *answer, size_t answer_room, size_t *answer_bytes);
-
-/* What `onfi_sim check --remember` writes: the same by a certificate that remembers states. The same is answered. */
-uint32_t onfi_text_check_known(const char *script, size_t script_bytes, char *answer, size_t answer_room, size_t *answer_bytes);
-
-/*
- * What `onfi_sim check --legal` writes: whether the schedule of the plan text is legal and when it ends. Its certificate
- * may be missing, and isn't looked at. ONFI_DONE where the schedule is legal; the same is answered.
- */
-uint32_t onfi_text_legal(const char *script, size_t script_bytes, char *answer, size_t answer_room, size_t *answer_bytes);
-
-/*
- * What `onfi_sim audit` writes for a script with a log after it (docs/FORMATS.md), of any length: that the log is legal, or the first
- * line that breaks a condition, which one, and from when on its phase could start; with `all` each such line, as `onfi_sim audit --all`
- * writes them. *answer_bytes says how many bytes there are.
- *
- * ONFI_DONE where the log is legal, ONFI_SCRIPT_REFUSED, ONFI_PLAN_REFUSED where it isn't or a line is none, and ONFI_MEMORY with the
- * answer; ONFI_NO_ROOM as above.
- */
-uint32_t onfi_text_audit(const char *script, size_t script_bytes, bool all, char *answer, size_t answer_room, size_t *answer_bytes);
+uint32_t onfi_text(const char *words, size_t words_bytes, const char *script, size_t script_bytes, char *answer, size_t answer_room,
+                   size_t *answer_bytes);
 
 /*
  * The text of an onfi_status, without a final NUL; of any other number there is none. *text_bytes says how many bytes

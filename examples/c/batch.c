@@ -24,8 +24,9 @@ int main(void)
             .erase = {100, 600, 1500100, 280},
         },
         .rules = {.read = true, .write = true, .plane_bits = 1},
+        .lun_count = 2,
     };
-    const onfi_lun luns[2] = {{0}, {0}};
+    const onfi_options options = ONFI_OPTIONS;
     const onfi_want wants[3] = {
         {.id = 0, .kind = ONFI_READ, .lun = 0, .block = 0, .page = 5},
         {.id = 1, .kind = ONFI_READ, .lun = 0, .block = 1, .page = 5},
@@ -36,7 +37,7 @@ int main(void)
     uint8_t certificate[4096];
     size_t bytes;
 
-    uint32_t status = onfi_plan(&channel, luns, 2, wants, 3, ONFI_NODES, &plan, certificate, sizeof certificate, &bytes);
+    uint32_t status = onfi_plan(&channel, wants, 3, &options, &plan, certificate, sizeof certificate, &bytes);
     if (status != ONFI_DONE)
         return refused("plan", status);
 
@@ -49,7 +50,7 @@ int main(void)
     }
     printf("%.*s", (int)bytes, (const char *)certificate);
 
-    status = onfi_check(&channel, luns, 2, wants, 3, &plan.schedule, certificate, bytes, &verdict);
+    status = onfi_check(&channel, wants, 3, &plan.schedule, plan.below, certificate, bytes, &verdict);
     if (status != ONFI_DONE)
         return refused("check", status);
     printf("accepted %" PRIu64 "\n", verdict.finish);

@@ -29,10 +29,8 @@ static uint32_t read_device(const char *page_name, const char *sheet_name, const
 {
     static uint8_t page[8192], sheet[8192], strobes[8192];
     size_t page_bytes = contents(page_name, page, sizeof page), sheet_bytes = contents(sheet_name, sheet, sizeof sheet);
-    if (!strobes_name)
-        return onfi_timing_of_page(page, page_bytes, (const char *)sheet, sheet_bytes, device, place);
-    size_t strobes_bytes = contents(strobes_name, strobes, sizeof strobes);
-    return onfi_timing_of_strobes(page, page_bytes, (const char *)sheet, sheet_bytes, (const char *)strobes, strobes_bytes, device, place);
+    size_t strobes_bytes = strobes_name ? contents(strobes_name, strobes, sizeof strobes) : 0;
+    return onfi_device_of_page(page, page_bytes, (const char *)sheet, sheet_bytes, (const char *)strobes, strobes_bytes, 0, device, place);
 }
 
 static void print_spans(const char *kind, const onfi_spans *spans)

@@ -6,6 +6,9 @@
 
 #include <string.h>
 
+/* How long a LUN isn't ready after a reset, in ns. */
+enum { RESET_LASTS = 500000 };
+
 void board_open(board *b, const simulation *of)
 {
     memset(b, 0, sizeof *b);
@@ -57,7 +60,19 @@ static chip *chip_at(board *b, uint64_t start, const onfi_phase *phase)
         return NULL;
     if (finds(b, start < b->bus_free, "the bus isn't free"))
         return NULL;
-    return finds(b, start < b->lun[lun].may, "the LUN isn't ready") ? NULL : &b->lun[lun];
+    return &b->lun[lun];
+}
+
+static bool is_faulty(const fault *f, uint64_t id)
+{
+    return f->of && id % f->of == f->at;
+}
+
+/* The chip where it is ready. */
+static chip *ready_chip_at(board *b, uint64_t start, const onfi_phase *phase)
+{
+    chip *c = chip_at(b, start, phase);
+    return !c || finds(b, start < c->may, "the LUN isn't ready") ? NULL : c;
 }
 
 /* The bus is in use from `start` on for so long, or somewhat longer, and the LUN's next phase may start so long after that. */
@@ -66,7 +81,7 @@ static uint64_t pass(board *b, chip *c, uint64_t start, uint64_t length, uint64_
     length += (uint64_t)(next_share(&b->delays) * b->of->slow);
     b->bus_free = start + length;
     b->busy += length;
-    c->may = b->bus_free + wait;
+    c->may = c->said = b->bus_free + wait;
     return b->bus_free;
 }
 
@@ -96,7 +111,7 @@ static const char *breach_of_joining(const board *b, const chip *c, const onfi_p
 /* A command: it begins a group or joins one, and where it closes it the array works. Gives its end. */
 static uint64_t run_command(board *b, uint64_t start, const onfi_phase *phase, const uint8_t closers[2], uint64_t length)
 {
-    chip *c = chip_at(b, start, phase);
+    chip *c = ready_chip_at(b, start, phase);
     if (!c || finds(b, phase->closer != closers[0] && phase->closer != closers[1], "a closer that its opener doesn't have"))
         return start;
     const char *breach = c->members ? breach_of_joining(b, c, phase) : NULL;
@@ -111,14 +126,17 @@ static uint64_t run_command(board *b, uint64_t start, const onfi_phase *phase, c
         return pass(b, c, start, length, 600);
     uint64_t stated = 100 + b->of->made_of.array[phase->opener == 0x00 ? 0 : phase->opener == 0x80 ? 1 : 2];
     uint64_t end = pass(b, c, start, length, array_time(b, c, stated));
-    c->rises = b->of->told && c->may < end + stated ? c->may : NEVER;
+    c->said = end + stated;
+    if (is_faulty(&b->of->hangs, c->first))
+        c->may = c->said + b->of->hangs_by;
+    c->rises = b->of->told && c->may < c->said ? c->may : NEVER;
     return end;
 }
 
 /* A post: it answers the commands of a closed group in their order. Gives its end. */
 static uint64_t run_post(board *b, uint64_t start, const onfi_phase *phase, bool is_right, uint64_t length)
 {
-    chip *c = chip_at(b, start, phase);
+    chip *c = ready_chip_at(b, start, phase);
     if (!c || finds(b, !is_right, "the bytes of no post"))
         return start;
     if (finds(b, !c->is_closed, "a post before its group is closed") || finds(b, (c->opener == 0x00) != (phase->opener == 0x06), "a post of another kind"))
@@ -164,6 +182,17 @@ static uint64_t time_of(const board *b, unsigned bytes)
     return (uint64_t)(bytes * b->of->byte + 0.5);
 }
 
+/* How many pages of its block are programmed. */
+static uint16_t *programmed_of(board *b, uint32_t row)
+{
+    return &b->programmed[row >> (PAGE_BITS + BLOCK_BITS)][block_of(row)];
+}
+
+static bool *is_erased_at(board *b, uint32_t row)
+{
+    return &b->is_erased[row >> (PAGE_BITS + BLOCK_BITS)][block_of(row)];
+}
+
 static uint64_t board_command(void *self, uint64_t start, const onfi_phase *phase)
 {
     static const uint8_t READ[2] = {0x32, 0x30}, ERASE[2] = {0xD1, 0xD0};
@@ -171,8 +200,11 @@ static uint64_t board_command(void *self, uint64_t start, const onfi_phase *phas
     if (finds(b, phase->opener != 0x00 && phase->opener != 0x60, "no command begins so"))
         return start;
     bool is_read = phase->opener == 0x00;
-    if (!is_read && phase->row >> (PAGE_BITS + BLOCK_BITS) < ONFI_LUNS)
-        b->programmed[phase->row >> (PAGE_BITS + BLOCK_BITS)][block_of(phase->row)] = 0;
+    if (!is_read && phase->row >> (PAGE_BITS + BLOCK_BITS) < ONFI_LUNS) {
+        finds(b, *programmed_of(b, phase->row) == LOST, "an erase of a bad block");
+        *programmed_of(b, phase->row) = 0;
+        *is_erased_at(b, phase->row) = true;
+    }
     return run_command(b, start, phase, is_read ? READ : ERASE, (is_read ? 7 : 5) * b->cycle);
 }
 
@@ -185,7 +217,10 @@ static uint64_t board_data_in(void *self, uint64_t start, const onfi_phase *phas
     bool is_page = are_bytes_of_page(page, phase->row, 0, b->page);
     if (finds(b, phase->opener != 0x80, "no program begins so") || finds(b, !is_page, "the data of another page") || b->wrong)
         return end;
-    uint16_t *programmed = &b->programmed[phase->row >> (PAGE_BITS + BLOCK_BITS)][block_of(phase->row)];
+    uint16_t *programmed = programmed_of(b, phase->row);
+    if (finds(b, *programmed >= HALF, "a program of a block whose last one failed or was reset"))
+        return end;
+    *is_erased_at(b, phase->row) = false;
     finds(b, phase->row % (1u << PAGE_BITS) != *programmed % PAGES, "pages of a block aren't programmed in order");
     *programmed = (uint16_t)(*programmed % PAGES + 1);
     return end;
@@ -201,6 +236,16 @@ static const char *breach_of_output(const board *b, const onfi_output *output)
     return output->column + output->bytes > b->page ? "bytes past the end of a page" : NULL;
 }
 
+/* Of a weak page the first read puts out what can't be corrected. */
+static bool is_weak_now(board *b, uint64_t id)
+{
+    uint64_t *once = &b->weak_once[id % WEAK];
+    bool is_now = is_faulty(&b->of->weak, id) && *once != id + 1;
+    if (is_now)
+        *once = id + 1;
+    return is_now;
+}
+
 /* Puts out just the bytes that are asked for, from the column on. */
 static uint64_t board_data_out(void *self, uint64_t start, const onfi_phase *phase, const onfi_output *output, uint8_t *bytes)
 {
@@ -209,15 +254,79 @@ static uint64_t board_data_out(void *self, uint64_t start, const onfi_phase *pha
     if (finds(b, breach != NULL, breach))
         return start;
     put_bytes_of_page(bytes, phase->row, output->column, output->bytes);
+    if (*is_erased_at(b, phase->row))
+        memset(bytes, 0xFF, output->bytes);
+    if (is_weak_now(b, phase->want))
+        bytes[0] ^= 1;
     return run_post(b, start, phase, phase->opener == 0x06 && phase->closer == 0xE0, 7 * b->cycle + 500 + time_of(b, output->bytes) + 100);
 }
 
-/* Ready, not protected, and no failure. */
+static uint64_t status_time(const board *b)
+{
+    return 4 * b->cycle + 80 + b->cycle + 100;
+}
+
+/* The bus has a status that is no post. */
+static uint64_t run_poll(board *b, uint64_t start)
+{
+    b->bus_free = start + status_time(b);
+    b->busy += status_time(b);
+    return b->bus_free;
+}
+
+/* Ready, not protected, and mostly no failure: then the block is lost. A LUN whose array takes longer than is stated says not ready. */
 static uint64_t board_status(void *self, uint64_t start, const onfi_phase *phase, uint8_t *byte)
 {
     board *b = (board *)self;
-    *byte = 0xE0;
-    return run_post(b, start, phase, phase->opener == 0x78 && phase->closer == 0, 4 * b->cycle + 80 + b->cycle + 100);
+    chip *c = chip_at(b, start, phase);
+    if (c && c->is_closed && start >= c->said && start < c->may) {
+        *byte = 0x80;
+        return run_poll(b, start);
+    }
+    bool fails = phase->kind == ONFI_PROGRAM && is_faulty(&b->of->fails, phase->want);
+    if (fails)
+        *programmed_of(b, phase->row) = LOST;
+    *byte = fails ? 0xE1 : 0xE0;
+    return run_post(b, start, phase, phase->opener == 0x78 && phase->closer == 0, status_time(b));
+}
+
+/* Whether a LUN is ready. */
+static uint64_t board_poll(void *self, uint64_t start, uint32_t row, uint8_t *byte)
+{
+    board *b = (board *)self;
+    if (finds(b, start < b->bus_free, "the bus isn't free") || finds(b, row >> (PAGE_BITS + BLOCK_BITS) >= b->of->luns, "a row that no page has"))
+        return start;
+    *byte = start < b->lun[row >> (PAGE_BITS + BLOCK_BITS)].may ? 0x80 : 0xE0;
+    return run_poll(b, start);
+}
+
+/* What a reset leaves of the blocks that a LUN's array was working on. */
+static void leave_half(board *b, const chip *c, uint64_t start)
+{
+    for (unsigned at = 0; c->is_closed && c->opener != 0x00 && start < c->may && at < c->members; at++)
+        *programmed_of(b, c->row[at]) = HALF;
+}
+
+/* Nor has a program begun whose group isn't closed: its page isn't programmed. */
+static void leave_undone(board *b, const chip *c)
+{
+    for (unsigned at = 0; !c->is_closed && c->opener == 0x80 && at < c->members; at++)
+        --*programmed_of(b, c->row[at]);
+}
+
+/* A LUN is reset: it forgets what it was at. */
+static uint64_t board_reset(void *self, uint64_t start, uint32_t row)
+{
+    board *b = (board *)self;
+    if (finds(b, start < b->bus_free, "the bus isn't free") || finds(b, row >> (PAGE_BITS + BLOCK_BITS) >= b->of->luns, "a row that no page has"))
+        return start;
+    chip *c = &b->lun[row >> (PAGE_BITS + BLOCK_BITS)];
+    leave_half(b, c, start);
+    leave_undone(b, c);
+    memset(c, 0, sizeof *c);
+    c->rises = NEVER;
+    pass(b, c, start, (1 + ROW_CYCLES) * b->cycle, RESET_LASTS);
+    return b->bus_free;
 }
 
 /* When R/B# of a LUN rises next before its stated time. */
@@ -238,5 +347,7 @@ struct onfi_bus board_bus(board *b)
     bus.data_in = board_data_in;
     bus.data_out = board_data_out;
     bus.status = board_status;
+    bus.poll = b->of->polled ? board_poll : NULL;
+    bus.reset = board_reset;
     return bus;
 }

@@ -10,8 +10,16 @@ enum {
     BLOCKS = 16384,
     BLOCK_BITS = 14,
     ROW_CYCLES = 4,
-    PAGE_BYTES = 18432 /* of the largest page */
+    PAGE_BYTES = 18432, /* of the largest page */
+    WEAK = 4096,
+    LOST = 0xFFFF, /* a program of the block failed */
+    HALF = 0xFFFE  /* a program or an erase of it was reset */
 };
+
+/* What goes wrong in truth: of so many requests the one whose number has this remainder; 0: none. */
+typedef struct {
+    uint64_t of, at;
+} fault;
 
 typedef struct {
     device made_of;
@@ -22,6 +30,9 @@ typedef struct {
     double least_array;        /* how long arrays take in truth, in shares of what is stated */
     double most_array;
     bool told;                 /* R/B# shows when they are ready */
+    bool polled;               /* they show it by a status alone */
+    fault fails, weak, hangs;  /* a program fails; a read puts out what can't be corrected, once; an array takes longer than is stated */
+    uint64_t hangs_by;         /* in ns */
     bool ends;                 /* when each request ends is printed, in place of figures */
     double late, slow;         /* by how many ns phases start later, and take longer, at most */
     uint64_t bad;              /* one of so many requests is also asked for on a block that isn't there; 0: none */
@@ -38,6 +49,7 @@ typedef struct {
     unsigned members, posts; /* no members: it is free */
     uint32_t row[ONFI_MEMBERS];
     uint64_t may;   /* from when on its next phase may start */
+    uint64_t said;  /* .. by what is stated */
     uint64_t rises; /* when R/B# rises before the stated time; NEVER: it doesn't, or was reported */
     uint64_t first; /* the number of its first member's request, by which its array time is drawn */
 } chip;
@@ -47,7 +59,9 @@ typedef struct {
     uint64_t cycle; /* how long a command or address cycle takes */
     unsigned page, sector; /* bytes */
     chip lun[ONFI_LUNS];
-    uint16_t programmed[ONFI_LUNS][BLOCKS]; /* how many pages of each block */
+    uint16_t programmed[ONFI_LUNS][BLOCKS]; /* how many pages of each block; LOST where nobody may program or erase, HALF where nobody may program */
+    bool is_erased[ONFI_LUNS][BLOCKS];      /* and since then not programmed */
+    uint64_t weak_once[WEAK];               /* numbers of reads that put out what can't be corrected, by their remainders */
     uint64_t bus_free, busy;
     uint64_t delays;   /* a state of random numbers */
     const char *wrong; /* what was wrong first; null: nothing */

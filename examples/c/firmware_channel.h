@@ -36,12 +36,10 @@ typedef struct {
 
 /* The device of that name: tlc, slc or qlc; null where there is none. */
 const device *device_of(const char *name);
-/* What is stated of it at so many ns a byte. */
-onfi_channel channel_of(const device *of, double byte);
-/* The same of reads that all put out what those of a workload do: for calls that take no lengths of sectors. */
-onfi_channel channel_for(const device *of, double byte, unsigned workload);
-/* How long reads of 1 to PAGE_SECTORS sectors put out. */
-onfi_lengths lengths_of(const device *of, double byte);
+/* What is stated of it at so many ns a byte, also of reads of 1 to PAGE_SECTORS sectors; of so many LUNs, on which nothing runs. */
+onfi_channel channel_of(const device *of, double byte, unsigned luns);
+/* The same of reads that all put out what those of a workload do: for what knows no lengths of sectors. */
+onfi_channel channel_for(const device *of, double byte, unsigned luns, unsigned workload);
 uint16_t sector_bytes_of(const device *of);
 /* The onfi_kind of an ONFI_KIND. */
 static inline uint8_t operation_of(unsigned kind)
@@ -103,8 +101,7 @@ typedef struct {
 } candidate;
 
 /* What has the bus next by a rule, of LUNs from the one that has its turn on; false where there is nothing to do. */
-bool find_next(const onfi_channel *channel, const onfi_lun *lun, unsigned luns, const onfi_want *want, size_t count, const rule *by, unsigned turn,
-               candidate *best);
+bool find_next(const onfi_channel *channel, const onfi_want *want, size_t count, const rule *by, unsigned turn, candidate *best);
 
 /* Puts the bytes that begin and end a phase (ONFI 4.2) of that kind and number, of so many members. */
 void put_bytes(onfi_phase *phase);

@@ -24,7 +24,7 @@ static void put_member(const driver *d, const onfi_want *want, onfi_lun *lun)
 /* The LUN that goes on, with the members of a new group; they stay in the queue until their command runs. */
 static onfi_lun lun_of(const driver *d, const candidate *c)
 {
-    onfi_lun lun = d->lun[c->lun];
+    onfi_lun lun = d->channel.lun[c->lun];
     for (size_t at = 0; at < c->members; at++)
         put_member(d, &d->queue[c->place[at]], &lun);
     return lun;
@@ -56,7 +56,7 @@ bool greedy_next(driver *d, uint64_t now, onfi_phase *phase)
 {
     candidate best;
     d->channel.bus_free = later_of(d->channel.bus_free, now);
-    if (!find_next(&d->channel, d->lun, (unsigned)d->luns, d->queue, d->queued, &READS_FIRST, 0, &best))
+    if (!find_next(&d->channel, d->queue, d->queued, &READS_FIRST, 0, &best))
         return false;
     d->goes_on = lun_of(d, &best);
     return put_phase(d, &d->goes_on, best.start, phase);
@@ -67,7 +67,7 @@ bool greedy_run(driver *d, const onfi_phase *phase, uint64_t start, const transf
     uint64_t end;
     if (!drive(d, phase, start, of, &end))
         return false;
-    onfi_lun *lun = &d->lun[phase->lun];
+    onfi_lun *lun = &d->channel.lun[phase->lun];
     const onfi_spans *spans = spans_of(&d->channel.timing, operation_of(phase->kind));
     *lun = d->goes_on;
     if (phase->number == 0)

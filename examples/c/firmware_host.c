@@ -50,7 +50,18 @@ static uint64_t output_of(double bytes, double byte)
     return 7 * cycle_at(byte) + COLUMN_CHANGE + time_of(bytes, byte) + TURN;
 }
 
-onfi_channel channel_of(const device *of, double byte)
+uint16_t sector_bytes_of(const device *of)
+{
+    return (uint16_t)(of->bytes / PAGE_SECTORS);
+}
+
+static void put_lengths(const device *of, double byte, onfi_lengths *lengths)
+{
+    for (unsigned count = 1; count <= PAGE_SECTORS; count++)
+        lengths->sectors[count - 1] = output_of(count * sector_bytes_of(of), byte);
+}
+
+onfi_channel channel_of(const device *of, double byte, unsigned luns)
 {
     uint64_t cycle = cycle_at(byte), status = 4 * cycle + STATUS + cycle + TURN;
     onfi_channel channel;
@@ -58,23 +69,11 @@ onfi_channel channel_of(const device *of, double byte)
     channel.timing.read = spans_by(7 * cycle, of->array[ONFI_READ], output_of(of->bytes, byte));
     channel.timing.program = spans_by(7 * cycle + ADDRESS_TO_DATA + time_of(of->bytes, byte), of->array[ONFI_PROGRAM], status);
     channel.timing.erase = spans_by(5 * cycle, of->array[ONFI_ERASE], status);
+    put_lengths(of, byte, &channel.lengths);
     channel.rules.read = channel.rules.write = true;
     channel.rules.plane_bits = of->plane_bits;
+    channel.lun_count = (uint8_t)luns;
     return channel;
-}
-
-uint16_t sector_bytes_of(const device *of)
-{
-    return (uint16_t)(of->bytes / PAGE_SECTORS);
-}
-
-onfi_lengths lengths_of(const device *of, double byte)
-{
-    onfi_lengths lengths;
-    memset(&lengths, 0, sizeof lengths);
-    for (unsigned count = 1; count <= PAGE_SECTORS; count++)
-        lengths.sectors[count - 1] = output_of(count * sector_bytes_of(of), byte);
-    return lengths;
 }
 
 unsigned sectors_of(unsigned workload)
@@ -82,11 +81,11 @@ unsigned sectors_of(unsigned workload)
     return workload == READS_4K || workload == MIXED_4K;
 }
 
-onfi_channel channel_for(const device *of, double byte, unsigned workload)
+onfi_channel channel_for(const device *of, double byte, unsigned luns, unsigned workload)
 {
-    onfi_channel channel = channel_of(of, byte);
+    onfi_channel channel = channel_of(of, byte, luns);
     if (sectors_of(workload))
-        channel.timing.read.post = lengths_of(of, byte).sectors[sectors_of(workload) - 1];
+        channel.timing.read.post = channel.lengths.sectors[sectors_of(workload) - 1];
     return channel;
 }
 

@@ -13,7 +13,8 @@
  *   depth     requests outstanding, 1 to 256             64
  *   load      share of the bus that arrivals ask for     0: a new request comes with each answer
  *   array     real array times, in shares of the stated  1-1
- *   told      yes: R/B# shows when a LUN is ready; no    yes
+ *   told      yes: R/B# shows when a LUN is ready; no;   yes
+ *             polled: its status alone does, by phases
  *   late      ns by which phases start later at most     0
  *   slow      ns by which they take longer at most       0
  *   bad       one of so many requests is also asked      0: none is
@@ -21,18 +22,20 @@
  *   requests  answered before it ends                    2000
  *   seconds   of simulated time, in place of requests    0: as many as are asked for
  *   seed      of all that is random                      1
- *   way       phases, plans, greedy, both, all           phases; both: plans and greedy
+ *   way       phases, plans, greedy, both, all,          phases; both: plans and greedy
+ *             interrupts: by phases, whose transfers end
+ *             by interrupts
  *   plan      early: requests end early; within: no;     early
  *             rule: without a search
  *   weights   age, equal; reads: by age, 20 times theirs age
  *   limit     nodes that a search may open               2000
- *   slack     thousandths that an early plan ends later  20
  *   ends      yes prints when each request ends; no      no
  *
  * Reads of `..-4k` want one sector of four: 4 KiB of tlc and qlc, 1 KiB of slc. The first tenth isn't measured. The exit status is 0, 1 where a call refuses or the board is misused, 2 where a word can't be
  * read. Devices, workloads and the greedy way are those of examples/simulator/rolling too.
  */
 #include "firmware_board.h"
+#include "firmware_interrupts.h"
 
 #include <inttypes.h>
 #include <math.h>
@@ -50,10 +53,10 @@ typedef struct {
     bool (*run)(driver *d, const onfi_phase *phase, uint64_t start, const transfer *of);
 } way;
 
-enum { PHASES, PLANS, GREEDY, WAYS };
+enum { PHASES, PLANS, GREEDY, INTERRUPTS, WAYS };
 
 static const way WAY_OF[WAYS] = {
-    {"phases", driver_next, driver_run}, {"plans", plans_next, plans_run}, {"greedy", greedy_next, greedy_run},
+    {"phases", driver_next, driver_run}, {"plans", plans_next, plans_run}, {"greedy", greedy_next, greedy_run}, {"interrupts", NULL, NULL},
 };
 
 /* A request that the host has sent and that isn't answered. */
@@ -75,6 +78,7 @@ typedef struct {
     const way *has;
     bool by_dispatcher; /* by the driver of firmware.c */
     driver firmware;
+    loop by_interrupts;
     board mock;
     host sender;
     struct onfi_bus bus;
@@ -133,15 +137,14 @@ static void open_run(run *r, const simulation *of, const way *has)
     memset(r, 0, sizeof *r);
     r->of = of;
     r->has = has;
-    r->by_dispatcher = has == &WAY_OF[PHASES];
+    r->by_dispatcher = has == &WAY_OF[PHASES] || has == &WAY_OF[INTERRUPTS];
+    loop_open(&r->by_interrupts, &r->firmware);
     board_open(&r->mock, of);
     r->bus = board_bus(&r->mock);
     r->firmware.bus = &r->bus;
     r->firmware.plans = of->plans;
-    r->firmware.luns = of->luns;
-    onfi_channel channel = channel_for(&of->made_of, of->byte, of->workload);
-    r->firmware.channel = has == &WAY_OF[GREEDY] ? channel : channel_of(&of->made_of, of->byte);
-    r->firmware.lengths = lengths_of(&of->made_of, of->byte);
+    onfi_channel channel = channel_for(&of->made_of, of->byte, of->luns, of->workload);
+    r->firmware.channel = has == &WAY_OF[GREEDY] ? channel : channel_of(&of->made_of, of->byte, of->luns);
     r->firmware.sector_bytes = sector_bytes_of(&of->made_of);
     r->firmware.geometry = board_geometry(of);
     host_open(&r->sender, of->workload, of->luns, &channel, of->load, of->seed);
@@ -163,7 +166,9 @@ static void send_bad(run *r, onfi_want want)
 static void give(run *r, sent *owed)
 {
     uint32_t status = ONFI_DONE;
-    if (r->by_dispatcher)
+    if (r->has == &WAY_OF[INTERRUPTS])
+        status = note_request(&r->by_interrupts, &owed->want) ? ONFI_DONE : ONFI_TOO_MANY;
+    else if (r->by_dispatcher)
         status = driver_accept(&r->firmware, &owed->want);
     else
         plans_accept(&r->firmware, &owed->want, owed->arrived);
@@ -216,7 +221,10 @@ static void tell_ready(run *r)
 {
     for (unsigned lun = 0; lun < r->of->luns; lun++)
         if (r->mock.lun[lun].rises <= r->now) {
-            (r->by_dispatcher ? driver_ready : plans_ready)(&r->firmware, lun, r->mock.lun[lun].rises);
+            if (r->has == &WAY_OF[INTERRUPTS])
+                note_ready(&r->by_interrupts, lun, r->mock.lun[lun].rises);
+            else
+                (r->by_dispatcher ? driver_ready : plans_ready)(&r->firmware, lun, r->mock.lun[lun].rises);
             r->mock.lun[lun].rises = NEVER;
         }
 }
@@ -303,20 +311,27 @@ static transfer transfer_of(run *r, const onfi_phase *phase)
     return of;
 }
 
+/* A phase has ended. Where it was a post whose status says not ready, no request is answered. */
+static void take_end(run *r, const onfi_phase *phase)
+{
+    if (r->mock.wrong)
+        r->wrong = r->mock.wrong;
+    else if (phase->is_post && r->firmware.status & STATUS_READY)
+        r->wrong = take_answer(r, phase);
+}
+
 static void run_phase(run *r, const onfi_phase *phase)
 {
     uint64_t start = later_of(phase->start, r->now) + (uint64_t)(next_share(&r->delays) * r->of->late);
     transfer of = transfer_of(r, phase);
     bool went = r->has->run(&r->firmware, phase, start, &of);
     r->now = r->mock.bus_free;
-    if (r->mock.wrong)
-        r->wrong = r->mock.wrong;
-    else if (!went)
+    if (!went && !r->mock.wrong)
         r->wrong = "a call refuses what has run";
-    else if ((double)(r->now - start - (phase->end - phase->start)) > r->of->slow)
+    else if (!r->of->polled && (double)(r->now - start - (phase->end - phase->start)) > r->of->slow)
         r->wrong = "a phase ends at another time than was told";
-    else if (phase->is_post)
-        r->wrong = take_answer(r, phase);
+    else
+        take_end(r, phase);
 }
 
 /* Asks what is due, and notes what that cost. */
@@ -335,19 +350,74 @@ static bool ask_next(run *r, onfi_phase *phase)
     return any;
 }
 
+/* What the interrupts up to now note. */
+static void note_all(run *r)
+{
+    (r->of->load > 0 ? accept_open : accept_closed)(r);
+    give_all(r);
+    tell_ready(r);
+}
+
+/* The main loop of firmware_interrupts.c: what ended is answered, and what is next begins. */
+static void turn_loop(run *r)
+{
+    onfi_phase phase;
+    if (loop_ended(&r->by_interrupts, &phase)) {
+        take_end(r, &phase);
+        note_all(r);
+    }
+    if (!loop_next(&r->by_interrupts, r->now, &phase) || r->wrong)
+        return;
+    transfer of = transfer_of(r, &phase);
+    if (!loop_start(&r->by_interrupts, &phase, r->now, &of))
+        r->wrong = "a call refuses what has run";
+}
+
+/* The time goes to what comes first: the end of a transfer, the start of the next phase, or another interrupt. */
+static void turn_by_interrupts(run *r)
+{
+    loop *l = &r->by_interrupts;
+    uint64_t event = next_event(r), own = l->is_on_bus ? r->mock.bus_free : l->wakes;
+    if (event == NEVER && own == NEVER && r->now > 0)
+        r->wrong = "requests are left, and nothing is due";
+    else if (event < own || own == NEVER) {
+        r->now = event == NEVER ? r->now : later_of(event, r->now);
+        note_all(r);
+    } else {
+        r->now = later_of(own, r->now);
+        if (l->is_on_bus)
+            note_end(l, r->now);
+    }
+    turn_loop(r);
+    if (r->firmware.refused)
+        r->wrong = "a call refuses what is asked";
+}
+
+/* Where a status alone shows what is ready, LUNs are asked while nothing may start; so often that the bus has time for other things. */
+static bool poll_meanwhile(run *r, uint64_t until)
+{
+    enum { PAUSE = 2000 };
+    if (!r->of->polled || until <= r->now)
+        return false;
+    uint64_t end = driver_poll(&r->firmware, r->now);
+    bool is_asked = end > r->now;
+    r->now = is_asked ? later_of(end, r->now + PAUSE < until ? r->now + PAUSE : until) : r->now;
+    return is_asked;
+}
+
 /* Runs what is due, or waits for an interrupt that comes before it. */
 static void turn(run *r)
 {
     onfi_phase phase;
-    (r->of->load > 0 ? accept_open : accept_closed)(r);
-    give_all(r);
-    tell_ready(r);
+    note_all(r);
     bool any = ask_next(r, &phase);
     uint64_t event = next_event(r);
     if (r->wrong)
         return;
     if (r->firmware.refused)
         r->wrong = "a call refuses what is asked";
+    else if (r->by_dispatcher && any && poll_meanwhile(r, phase.start < event ? phase.start : event))
+        return;
     else if (any && phase.start <= event)
         run_phase(r, &phase);
     else if (event < NEVER)
@@ -393,7 +463,7 @@ static bool run_way(run *r, const simulation *of, const way *has)
 {
     open_run(r, of, has);
     while (!r->wrong && !is_over(r))
-        turn(r);
+        (has == &WAY_OF[INTERRUPTS] ? turn_by_interrupts : turn)(r);
     if (r->wrong)
         fprintf(stderr, "firmware: %s: %s (%" PRIu32 ")\n", has->name, r->wrong, r->firmware.refused);
     else if (!of->ends)
@@ -403,7 +473,7 @@ static bool run_way(run *r, const simulation *of, const way *has)
 
 /* The words. */
 
-enum { BYTE, LUNS, DEPTH, LOAD, LATE, SLOW, BAD, REQUESTS, SECONDS, SEED, LIMIT, SLACK, NUMBERS };
+enum { BYTE, LUNS, DEPTH, LOAD, LATE, SLOW, BAD, REQUESTS, SECONDS, SEED, LIMIT, NUMBERS };
 enum { DEVICE, WORKLOAD, TOLD, WAY, PLAN, WEIGHTS, ENDS, CHOICES };
 
 static const struct {
@@ -415,7 +485,7 @@ static const struct {
     {"load", 0, 100, 0, false},      {"late", 0, 1e9, 0, false},          {"slow", 0, 1e9, 0, false},
     {"bad", 0, 1e9, 0, true},        {"requests", 1, 1e9, 2000, true},    {"seconds", 0, 1000, 0, false},
     {"seed", 1, 1e15, 1, true},
-    {"limit", 1, ONFI_NODES, 2000, true}, {"slack", 0, 1000, 20, true},
+    {"limit", 1, ONFI_NODES, 2000, true},
 };
 
 /* The first value is the usual one; of a name with fewer the others are null. */
@@ -425,12 +495,15 @@ static const struct {
     const char *name, *value[VALUES];
 } CHOSEN[CHOICES] = {
     {"device", {"tlc", "slc", "qlc"}}, {"workload", {"mixed", "reads", "sequential", "erases", "random-programs", "reads-4k", "mixed-4k"}},
-    {"told", {"yes", "no"}},           {"way", {"phases", "plans", "greedy", "both", "all"}},
+    {"told", {"yes", "no", "polled"}}, {"way", {"phases", "plans", "greedy", "both", "all", "interrupts"}},
     {"plan", {"early", "within", "rule"}}, {"weights", {"age", "equal", "reads"}}, {"ends", {"no", "yes"}},
 };
 
 /* Which ways a value of `way` names. */
-static const bool IS_ASKED_FOR[][WAYS] = {{true, false, false}, {false, true, false}, {false, false, true}, {false, true, true}, {true, true, true}};
+static const bool IS_ASKED_FOR[][WAYS] = {
+    {true, false, false, false}, {false, true, false, false}, {false, false, true, false}, {false, true, true, false}, {true, true, true, false},
+    {false, false, false, true},
+};
 
 typedef struct {
     double number[NUMBERS];
@@ -553,7 +626,6 @@ static planning planning_of(const words *w)
     made.planner = PLANNER_OF[w->chosen[PLAN]];
     made.by_age = w->chosen[WEIGHTS] != 1;
     made.reads = w->chosen[WEIGHTS] == 2 ? 20 : 1;
-    made.slack = (uint16_t)w->number[SLACK];
     made.limit = (uint32_t)w->number[LIMIT];
     return made;
 }
@@ -561,6 +633,7 @@ static planning planning_of(const words *w)
 static simulation setup_of(const words *w)
 {
     simulation made;
+    memset(&made, 0, sizeof made);
     made.made_of = *device_of(CHOSEN[DEVICE].value[w->chosen[DEVICE]]);
     made.byte = w->number[BYTE];
     made.luns = (unsigned)w->number[LUNS];
@@ -573,6 +646,7 @@ static simulation setup_of(const words *w)
     made.least_array = w->least_array;
     made.most_array = w->most_array;
     made.told = w->chosen[TOLD] == 0;
+    made.polled = w->chosen[TOLD] == 2;
     made.ends = w->chosen[ENDS] == 1;
     made.requests = (size_t)w->number[REQUESTS];
     made.seconds = w->number[SECONDS];

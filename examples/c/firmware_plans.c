@@ -23,7 +23,7 @@ void plans_accept(driver *d, const onfi_want *want, uint64_t arrived)
 /* R/B# of a LUN has risen. Where its array worked it is ready from then on, whatever was stated. */
 void plans_ready(driver *d, unsigned number, uint64_t since)
 {
-    onfi_lun *lun = &d->lun[number];
+    onfi_lun *lun = &d->channel.lun[number];
     bool is_working = lun->members > 0 && lun->next == lun->members;
     if (!is_working || since >= lun->since)
         return;
@@ -67,7 +67,7 @@ static double ages_waiting(const driver *d, uint64_t now)
 static double ages_running(const driver *d, unsigned lun, uint64_t now)
 {
     double sum = 0;
-    for (unsigned at = 0; at < d->lun[lun].members; at++)
+    for (unsigned at = 0; at < d->channel.lun[lun].members; at++)
         sum += (double)(now - d->member_arrived[lun][at]);
     return sum;
 }
@@ -76,9 +76,9 @@ static double ages_running(const driver *d, unsigned lun, uint64_t now)
 static double mean_age(const driver *d, uint64_t now)
 {
     double sum = ages_waiting(d, now), count = (double)d->batched;
-    for (unsigned lun = 0; lun < d->luns; lun++) {
+    for (unsigned lun = 0; lun < d->channel.lun_count; lun++) {
         sum += ages_running(d, lun, now);
-        count += d->lun[lun].members;
+        count += d->channel.lun[lun].members;
     }
     return sum > count ? sum / count : 1;
 }
@@ -94,8 +94,8 @@ static uint16_t weight_of(const driver *d, uint64_t age, double mean, uint8_t ki
 
 static void weigh_running(const driver *d, unsigned lun, uint64_t now, double mean, onfi_weights *made)
 {
-    for (unsigned at = 0; at < d->lun[lun].members; at++)
-        made->running[lun][at] = weight_of(d, now - d->member_arrived[lun][at], mean, d->lun[lun].member[at].kind);
+    for (unsigned at = 0; at < d->channel.lun[lun].members; at++)
+        made->running[lun][at] = weight_of(d, now - d->member_arrived[lun][at], mean, d->channel.lun[lun].member[at].kind);
 }
 
 static void weigh_waiting(const driver *d, uint64_t now, double mean, onfi_weights *made)
@@ -110,30 +110,31 @@ static onfi_weights weights_of(const driver *d, uint64_t now)
     double mean = mean_age(d, now);
     memset(&made, 0, sizeof made);
     weigh_waiting(d, now, mean, &made);
-    for (unsigned lun = 0; lun < d->luns; lun++)
+    for (unsigned lun = 0; lun < d->channel.lun_count; lun++)
         weigh_running(d, lun, now, mean, &made);
     return made;
 }
 
 /* The call. Nobody reads the certificate here, so it has no room. */
-static uint32_t call_planner(const driver *d, uint64_t now, onfi_within *plan)
+static uint32_t call_planner(const driver *d, uint64_t now, onfi_planned *plan)
 {
     size_t bytes;
-    if (d->plans.planner == RULE)
-        return onfi_plan_rule_by(&d->lengths, &d->channel, d->lun, d->luns, d->batch, d->batched, plan, NULL, 0, &bytes);
-    if (d->plans.planner == WITHIN)
-        return onfi_plan_within_by(&d->lengths, &d->channel, d->lun, d->luns, d->batch, d->batched, d->plans.limit, plan, NULL, 0, &bytes);
-    onfi_weights weights = weights_of(d, now);
-    return onfi_plan_early_by(&d->lengths, &d->channel, d->lun, d->luns, d->batch, d->batched, d->plans.limit, &weights, d->plans.slack, plan, NULL, 0, &bytes);
+    onfi_options options = ONFI_OPTIONS;
+    options.by = d->plans.planner == RULE ? ONFI_RULE : ONFI_WITHIN;
+    options.limit = d->plans.limit;
+    options.early = d->plans.planner == EARLY;
+    if (options.early)
+        options.weights = weights_of(d, now);
+    return onfi_plan(&d->channel, d->batch, d->batched, &options, plan, NULL, 0, &bytes);
 }
 
 /*
  * Plans the first requests and what runs, from now on. Here alone the bus is shown that time has passed: a plan that was made before
- * stays legal for what it was made of, and if its phases start late onfi_ran_by is given that.
+ * stays legal for what it was made of, and if its phases start late onfi_ran is given that.
  */
 static bool make_plan(driver *d, uint64_t now)
 {
-    onfi_within plan;
+    onfi_planned plan;
     d->channel.bus_free = later_of(d->channel.bus_free, now);
     d->batched = batch_of(d);
     memcpy(d->batch, d->queue, d->batched * sizeof *d->batch);
@@ -157,7 +158,7 @@ bool plans_next(driver *d, uint64_t now, onfi_phase *phase)
         return false;
     if (!d->has_plan)
         return false;
-    uint32_t status = onfi_due_by(&d->lengths, &d->channel, d->lun, d->luns, d->batch, d->batched, &d->geometry, &d->schedule, phase);
+    uint32_t status = onfi_due(&d->channel, d->batch, d->batched, &d->geometry, &d->schedule, phase);
     return status != ONFI_NOTHING_DUE && went_well(d, status);
 }
 
@@ -177,8 +178,8 @@ static uint64_t leave_queue(driver *d, uint64_t id)
 /* A group has begun on a LUN: its members wait no more. */
 void note_begin(driver *d, unsigned lun)
 {
-    for (unsigned at = 0; at < d->lun[lun].members; at++)
-        d->member_arrived[lun][at] = leave_queue(d, d->lun[lun].member[at].id);
+    for (unsigned at = 0; at < d->channel.lun[lun].members; at++)
+        d->member_arrived[lun][at] = leave_queue(d, d->channel.lun[lun].member[at].id);
 }
 
 /* A phase ended then: where that is later than is stated, bus and LUN are ready so much later too. */
@@ -186,7 +187,7 @@ static void note_end(driver *d, unsigned lun, uint64_t end)
 {
     if (end <= d->channel.bus_free)
         return;
-    d->lun[lun].since += end - d->channel.bus_free;
+    d->channel.lun[lun].since += end - d->channel.bus_free;
     d->channel.bus_free = end;
     d->has_news = true;
 }
@@ -197,7 +198,7 @@ bool plans_run(driver *d, const onfi_phase *phase, uint64_t start, const transfe
     uint64_t end;
     if (!drive(d, phase, start, of, &end))
         return false;
-    uint32_t status = onfi_ran_by(&d->lengths, &d->channel, d->lun, d->luns, d->batch, &d->batched, &d->schedule, phase->lun, phase->number, start);
+    uint32_t status = onfi_ran(&d->channel, d->batch, &d->batched, &d->schedule, phase->lun, phase->number, start);
     if (!went_well(d, status))
         return false;
     if (phase->number == 0)

@@ -111,8 +111,7 @@ static bool goes_before(const rule *by, const candidate *one, const candidate *o
     return one->members != other->members ? one->members > other->members : one->oldest < other->oldest;
 }
 
-bool find_next(const onfi_channel *channel, const onfi_lun *lun, unsigned luns, const onfi_want *want, size_t count, const rule *by, unsigned turn,
-               candidate *best)
+bool find_next(const onfi_channel *channel, const onfi_want *want, size_t count, const rule *by, unsigned turn, candidate *best)
 {
     waiting w;
     candidate found;
@@ -122,10 +121,11 @@ bool find_next(const onfi_channel *channel, const onfi_lun *lun, unsigned luns, 
     w.want = want;
     w.count = count;
     memset(&found, 0, sizeof found);
-    for (unsigned at = 0; at < luns; at++) {
-        found.lun = (turn + at) % luns;
-        found.start = lun[found.lun].since > channel->bus_free ? lun[found.lun].since : channel->bus_free;
-        if (find_candidate(&w, &lun[found.lun], by, &found) && (!any || goes_before(by, &found, best))) {
+    for (unsigned at = 0; at < channel->lun_count; at++) {
+        found.lun = (turn + at) % channel->lun_count;
+        const onfi_lun *lun = &channel->lun[found.lun];
+        found.start = lun->since > channel->bus_free ? lun->since : channel->bus_free;
+        if (find_candidate(&w, lun, by, &found) && (!any || goes_before(by, &found, best))) {
             *best = found;
             any = true;
         }

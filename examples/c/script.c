@@ -1,4 +1,4 @@
-/* script plan|trace|requests|check|legal [remember] FILE: what onfi_sim writes for a script, and ends with its status. */
+/* script WORDS FILE: what onfi_sim writes for a script where its command line has these words, and ends with its status. */
 #include <onfi.h>
 
 #include <stdio.h>
@@ -26,36 +26,24 @@ static char *contents(const char *name, size_t *bytes)
     return text;
 }
 
-static uint32_t answer(const char *what, bool remember, const char *script, size_t bytes, char *room, size_t size, size_t *wrote)
-{
-    if (strcmp(what, "legal") == 0)
-        return onfi_text_legal(script, bytes, room, size, wrote);
-    if (strcmp(what, "check") == 0)
-        return (remember ? onfi_text_check_known : onfi_text_check)(script, bytes, room, size, wrote);
-    if (strcmp(what, "requests") == 0)
-        return onfi_text_trace(script, bytes, ONFI_NODES, remember, room, size, wrote);
-    return (remember ? onfi_text_plan_known : onfi_text_plan)(script, bytes, ONFI_NODES, strcmp(what, "trace") == 0, room, size, wrote);
-}
-
 int main(int count, char **words)
 {
     size_t bytes, wrote, size = 1024;
-    bool remember = count == 4 && strcmp(words[2], "remember") == 0;
-    char *script = count == 3 || remember ? contents(words[count - 1], &bytes) : NULL;
+    char *script = count == 3 ? contents(words[2], &bytes) : NULL;
     char *room = malloc(size);
     if (!script || !room) {
-        fprintf(stderr, "usage: script plan|trace|requests|check|legal [remember] FILE\n");
+        fprintf(stderr, "usage: script WORDS FILE, as script 'plan --by within' FILE\n");
         free(script);
         free(room);
         return 5;
     }
-    uint32_t status = answer(words[1], remember, script, bytes, room, size, &wrote);
+    uint32_t status = onfi_text(words[1], strlen(words[1]), script, bytes, room, size, &wrote);
     if (status == ONFI_NO_ROOM) {
         free(room);
         room = malloc(size = wrote);
-        status = room ? answer(words[1], remember, script, bytes, room, size, &wrote) : ONFI_MEMORY;
+        status = room ? onfi_text(words[1], strlen(words[1]), script, bytes, room, size, &wrote) : ONFI_MEMORY;
     }
-    if (room)
+    if (room && status != ONFI_BAD_WORDS)
         fwrite(room, 1, wrote, stdout);
     free(room);
     free(script);

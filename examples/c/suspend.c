@@ -54,7 +54,7 @@ typedef struct {
 
 typedef struct {
     simulation of;
-    driver firmware; /* its LUNs and bus_free are kept as they stand */
+    driver firmware; /* its channel is kept as it stands */
     board mock;
     host sender;
     stopped chips[LUNS];
@@ -212,7 +212,7 @@ static void give(run *r, size_t place, bool any_sleeps)
 {
     r->waits[place].is_held = is_held_back(r, place, any_sleeps);
     if (!r->waits[place].is_held)
-        find_wrong(r, driver_accept(&r->firmware, &r->waits[place].want) != ONFI_DONE, "a request is refused");
+        find_wrong(r, onfi_dispatcher_accept(&r->firmware.dispatcher, &r->waits[place].want) != ONFI_DONE, "a request is refused");
 }
 
 /* What stands for those that sleep has the lengths of the longest of them; erases have their own again where none sleeps. */
@@ -252,7 +252,7 @@ static bool is_read_waiting(const run *r, unsigned lun)
     for (size_t at = 0; at < r->waiting; at++) {
         const onfi_want *want = &r->waits[at].want;
         bool is_read = want->lun == lun && operation_of(want->kind) == ONFI_READ;
-        any = any || (is_read && !is_of_group(&r->firmware.lun[lun], want->block));
+        any = any || (is_read && !is_of_group(&r->firmware.channel.lun[lun], want->block));
     }
     return any;
 }
@@ -262,7 +262,7 @@ static bool is_erase_running(const run *r)
 {
     bool any = false;
     for (unsigned lun = 0; lun < LUNS; lun++)
-        any = any || (r->firmware.lun[lun].members && r->firmware.lun[lun].member[0].kind == ONFI_ERASE);
+        any = any || (r->firmware.channel.lun[lun].members && r->firmware.channel.lun[lun].member[0].kind == ONFI_ERASE);
     return any;
 }
 
@@ -276,7 +276,7 @@ static bool does_any_sleep(const run *r)
 
 static bool is_worth_it(const run *r, unsigned number, unsigned most)
 {
-    const onfi_lun *lun = &r->firmware.lun[number];
+    const onfi_lun *lun = &r->firmware.channel.lun[number];
     bool is_in_array = lun->members && lun->next == lun->members && lun->member[0].kind == ONFI_PROGRAM;
     return is_in_array && lun->since > r->now + WORTH && r->stops[number] < most && is_read_waiting(r, number) && !is_erase_running(r);
 }
@@ -297,7 +297,7 @@ static onfi_want stand_for(const onfi_lun *group)
 static void stop(run *r, unsigned number)
 {
     driver *d = &r->firmware;
-    onfi_lun *lun = &d->lun[number];
+    onfi_lun *lun = &d->channel.lun[number];
     sleeper *s = &r->asleep[number];
     uint64_t end = bus_stop(r, number, r->now);
     s->group = *lun;
@@ -324,8 +324,8 @@ static void wake(run *r, unsigned number)
 {
     driver *d = &r->firmware;
     sleeper *s = &r->asleep[number];
-    d->lun[number] = s->group;
-    d->lun[number].since = d->channel.bus_free + s->left;
+    d->channel.lun[number] = s->group;
+    d->channel.lun[number].since = d->channel.bus_free + s->left;
     s->group.members = 0;
     restart(r);
 }
@@ -335,7 +335,7 @@ static void wake(run *r, unsigned number)
 /* A group begins with this phase: its members are those of the commands that follow on its LUN, in a copy that runs ahead. */
 static void note_group(run *r, const onfi_phase *first)
 {
-    onfi_lun *lun = &r->firmware.lun[first->lun];
+    onfi_lun *lun = &r->firmware.channel.lun[first->lun];
     onfi_dispatcher ahead = r->firmware.dispatcher;
     onfi_phase next = *first;
     uint32_t status = ONFI_DONE;
@@ -352,7 +352,7 @@ static void note_group(run *r, const onfi_phase *first)
 /* A phase has run up to now: its LUN goes on, or is free. */
 static void note_phase(run *r, const onfi_phase *phase)
 {
-    onfi_lun *lun = &r->firmware.lun[phase->lun];
+    onfi_lun *lun = &r->firmware.channel.lun[phase->lun];
     const onfi_spans *spans = spans_of(&r->firmware.channel.timing, operation_of(phase->kind));
     r->firmware.channel.bus_free = r->now;
     lun->next++;
@@ -420,8 +420,7 @@ static void run_phase(run *r, const onfi_phase *phase)
     bool goes_on = r->asleep[phase->lun].group.members && phase->want == r->asleep[phase->lun].stands.id;
     if (phase->number == 0)
         note_group(r, phase);
-    bool went = driver_run(&r->firmware, phase, phase->start, &of);
-    r->now = r->mock.bus_free;
+    bool went = drive(&r->firmware, phase, phase->start, &of, &r->now) && went_well(&r->firmware, onfi_dispatcher_ran(&r->firmware.dispatcher, phase->start));
     find_wrong(r, !went || r->mock.wrong, r->mock.wrong ? r->mock.wrong : "a call refuses what has run");
     if (r->wrong)
         return;
@@ -486,13 +485,11 @@ static void open_run(run *r, const simulation *of)
     r->bus.status = bus_status;
     driver *d = &r->firmware;
     d->bus = &r->bus;
-    d->luns = LUNS;
-    d->channel = channel_of(&r->of.made_of, r->of.byte);
-    d->lengths = lengths_of(&r->of.made_of, r->of.byte);
+    d->channel = channel_of(&r->of.made_of, r->of.byte, LUNS);
     d->sector_bytes = sector_bytes_of(&r->of.made_of);
     d->geometry = board_geometry(&r->of);
     r->erase = d->channel.timing.erase;
-    onfi_channel channel = channel_for(&r->of.made_of, r->of.byte, r->of.workload);
+    onfi_channel channel = channel_for(&r->of.made_of, r->of.byte, LUNS, r->of.workload);
     host_open(&r->sender, r->of.workload, LUNS, &channel, r->of.load, r->of.seed);
     restart(r);
 }

@@ -15,7 +15,7 @@ from onfi import Channel, Kind, Logged, Lun, Rules, Spans, Timing, Want, audit, 
 
 LUNS = 4
 TIMING = Timing(read=Spans(140, 600, 60_100, 37_700), program=Spans(37_900, 600, 800_100, 280), erase=Spans(100, 600, 6_000_100, 280))
-CHANNEL = Channel(TIMING, Rules(read=True, write=True, plane_bits=1))
+CHANNEL = Channel(TIMING, Rules(read=True, write=True, plane_bits=1), [Lun()] * LUNS)
 
 
 class Request(NamedTuple):
@@ -55,10 +55,9 @@ def spans_of(kind: int) -> Spans:
 def planned(batch: List[Request], now: int) -> Ran:
     """A batch by a plan that is checked."""
     wants = [Want(number, it.kind, it.lun, it.block, it.page) for number, it in enumerate(batch)]
-    channel = Channel(TIMING, CHANNEL.rules, now)
-    luns = [Lun(now)] * LUNS
-    made = plan(channel, luns, wants)
-    assert check(channel, luns, wants, made.schedule, made.certificate) == made.finish
+    channel = Channel(TIMING, CHANNEL.rules, [Lun(now)] * LUNS, bus_free=now)
+    made = plan(channel, wants)
+    assert check(channel, wants, made) == made.finish
     ends = [0] * len(batch)
     log: List[Logged] = []
     for group in made.schedule.groups:
@@ -103,7 +102,7 @@ def main() -> None:
     work = sum(spans_of(it.kind).cmd + spans_of(it.kind).post for it in requests)
     for name, way in (("one by one", one_by_one), ("planned", planned)):
         latency, end, log = simulated(requests, way)
-        assert not list(audit(CHANNEL, [Lun()] * LUNS, log))
+        assert not list(audit(CHANNEL, log))
         print(f"{name:10}  mean latency {latency / 1000:9.1f} us, bus busy {100 * work / end:4.1f} %; its {len(log)} phases are legal")
 
 

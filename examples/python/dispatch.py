@@ -15,7 +15,7 @@ from onfi import Audit, BadPlace, Channel, Dispatcher, Geometry, Kind, Lun, Phas
 
 LUNS = 8
 TIMING = Timing(read=Spans(175, 600, 75_100, 37_639), program=Spans(37_439, 600, 800_100, 305), erase=Spans(125, 600, 10_000_100, 305))
-CHANNEL = Channel(TIMING, Rules(read=True, write=True, plane_bits=2))
+CHANNEL = Channel(TIMING, Rules(read=True, write=True, plane_bits=2), [Lun()] * LUNS)
 GEOMETRY = Geometry(1_024, 11, 10, 3, 1_152, 16_384, 2_048, LUNS, 2, 2, 3, False, True, True)
 
 
@@ -42,7 +42,7 @@ class Drive:
     """The loop: what is to come, by time, and what has come of it."""
 
     def __init__(self, events: List[Event], draw: random.Random) -> None:
-        self.channel, self.audit, self.draw = Dispatcher(CHANNEL, [Lun()] * LUNS, GEOMETRY), Audit(CHANNEL, [Lun()] * LUNS), draw
+        self.channel, self.audit, self.draw = Dispatcher(CHANNEL, GEOMETRY), Audit(CHANNEL), draw
         self.events: List[Tuple[int, int, Event]] = [(it.time, at, it) for at, it in enumerate(events)]
         self.arrived: Dict[int, int] = {}
         self.latencies: List[int] = []

@@ -67,7 +67,7 @@ def channel_of(byte: float) -> Channel:
     status = 5 * cycle + 180
     read = Spans(7 * cycle, 600, ARRAYS[Kind.READ], output_time(PAGE_BYTES, byte))
     program = Spans(7 * cycle + 400 + time_of(PAGE_BYTES, byte), 600, ARRAYS[Kind.PROGRAM], status)
-    return Channel(Timing(read, program, Spans(5 * cycle, 600, ARRAYS[Kind.ERASE], status)), Rules(True, True, False, 2))
+    return Channel(Timing(read, program, Spans(5 * cycle, 600, ARRAYS[Kind.ERASE], status)), Rules(True, True, False, 2), [Lun()] * LUNS, lengths_of(byte))
 
 
 class Numbers:
@@ -123,7 +123,7 @@ class Controller:
         self.simpy, self.env, self.number, self.seed, self.setup = simpy, env, number, seed, setup
         self.host = Host(seed, setup.sectors)
         self.timing, self.lengths = channel_of(setup.byte).timing, lengths_of(setup.byte)
-        self.dispatcher = Dispatcher(channel_of(setup.byte), [Lun()] * LUNS, GEOMETRY, self.lengths)
+        self.dispatcher = Dispatcher(channel_of(setup.byte), GEOMETRY)
         self.first: Dict[int, int] = {}
         self.arrived: Dict[int, int] = {}
         self.begun: List[int] = [0] * LUNS

@@ -1,33 +1,29 @@
 """Optimal bus schedules of ONFI channels, and the check of any schedule, by the proved library libonfi.so.
 
-What plans a channel's LUNs and wants:
-    plan              the schedule that no legal schedule beats, with a certificate that shows it
-    plan_known        the same by a search that remembers states
-    plan_within       always a plan, with a time before which nothing ends
-    plan_early        the same, made better: requests end early by weights
-    plan_rule         a plan in one pass, without a search
+What plans the wants of a channel:
+    plan              by a plain search, within a limit, or by a rule; with a certificate, and so that requests end early where that is asked
 What judges a schedule or a log, whoever made it:
-    check, check_known, check_within    when a schedule ends that a certificate shows to be the best, or no sooner than a time
+    check             when a schedule ends that a certificate shows to be the best, or no sooner than a time
     find_breach       the first condition that a schedule breaks
     audit, audit_phases                 what a log breaks, as a whole or as it comes; `Audit` judges phase by phase
 What drives a channel:
-    Dispatcher        one phase after another, as requests come: `accept`, `next`, `ran`, `ready`; `phases` runs all
+    Dispatcher        one phase after another, as requests come: `accept`, `next`, `ran`, `ready`; `phases` runs all, `run` a trace
+    play, phases_of   a trace over a `Dispatcher`, or a `Scheduler` of one's own; a `Run` has tables and a chart
+    gantt, waveform   phases as SVG
     due, ran          of a plan the phase that is due, and what stands after it; `Driver` keeps all that stands, for a loop
     row, output_of    the row address of a page, and the column and bytes of a data output
 What a device is by its parameter page, and kinds of reads of some sectors:
-    timing_of_page, lengths_of_page, kind_by
-What `onfi_sim` writes for a script:
-    text_plan, text_check, text_legal, text_audit
-    library_version   the version of the library
+    device_of_page, kind_by
+What `onfi_sim` writes for a script, and the version of the library:
+    text, library_version
 
     from onfi import Channel, Kind, Lun, Rules, Spans, Timing, Want, check, plan
 
     timing = Timing(read=Spans(140, 600, 25_100, 11_000), program=Spans(10_800, 600, 200_100, 280), erase=Spans(100, 600, 1_500_100, 280))
-    channel = Channel(timing, Rules(read=True, write=True, plane_bits=1))
-    luns = [Lun(), Lun()]
+    channel = Channel(timing, Rules(read=True, write=True, plane_bits=1), luns=[Lun(), Lun()])
     wants = [Want(0, Kind.READ, lun=0, block=0, page=5), Want(1, Kind.READ, lun=1, block=0, page=0)]
-    made = plan(channel, luns, wants)
-    assert check(channel, luns, wants, made.schedule, made.certificate) == made.finish
+    made = plan(channel, wants)
+    assert check(channel, wants, made) == made.finish
     for start, end, lun, want, kind, is_post in made.phases():
         print(f"LUN {lun} from {start} to {end} ns: {kind.name.lower()} {want}, {'post' if is_post else 'command'}")
 
@@ -38,28 +34,7 @@ else the system's; where there is none, the first call raises `OSError` and says
 """
 
 from onfi.breach import Breach, Condition, Difference, NamedPhase, Part
-from onfi.calls import (
-    check,
-    check_known,
-    check_within,
-    due,
-    find_breach,
-    lengths_of_page,
-    library_version,
-    output_of,
-    plan,
-    plan_early,
-    plan_known,
-    plan_rule,
-    plan_within,
-    ran,
-    row,
-    text_audit,
-    text_check,
-    text_legal,
-    text_plan,
-    timing_of_page,
-)
+from onfi.calls import check, device_of_page, due, find_breach, library_version, output_of, plan, ran, row, text
 from onfi.dispatcher import Dispatcher
 from onfi.driver import Driver
 from onfi.logs import Audit, LogBreach, LogCondition, Logged, audit, audit_phases
@@ -76,7 +51,6 @@ from onfi.model import (
     Output,
     Phase,
     Plan,
-    PlanWithin,
     Problem,
     Rules,
     Schedule,
@@ -86,9 +60,11 @@ from onfi.model import (
     Want,
     kind_by,
 )
+from onfi.pictures import gantt, waveform
 from onfi.refused import (
     # from here on written by tools/make-statuses
     REFUSALS,
+    BadBy,
     BadDispatcher,
     BadGeometry,
     BadHeader,
@@ -102,6 +78,7 @@ from onfi.refused import (
     BadSchedule,
     BadSectors,
     BadToken,
+    BadWords,
     BoundLow,
     Clock,
     ColumnTooWide,
@@ -153,10 +130,12 @@ from onfi.refused import (
     ZeroSpan,
     # until here
 )
+from onfi.running import BadStep, Run, Scheduler, Step, phases_of, play
 
 __all__ = [
     "Answer",
     "Audit",
+    "BadBy",
     "BadDispatcher",
     "BadGeometry",
     "BadHeader",
@@ -169,7 +148,9 @@ __all__ = [
     "BadPlaneBits",
     "BadSchedule",
     "BadSectors",
+    "BadStep",
     "BadToken",
+    "BadWords",
     "BoundLow",
     "Breach",
     "BusPhase",
@@ -213,14 +194,15 @@ __all__ = [
     "Part",
     "Phase",
     "Plan",
-    "PlanWithin",
     "PlaneBits",
     "Problem",
     "REFUSALS",
     "Refused",
     "RowTooWide",
     "Rules",
+    "Run",
     "Schedule",
+    "Scheduler",
     "SheetMissing",
     "SheetNotANumber",
     "SheetRepeated",
@@ -231,6 +213,7 @@ __all__ = [
     "Sooner",
     "Spans",
     "Stand",
+    "Step",
     "StrobeMissing",
     "StrobeNotANumber",
     "StrobeRepeated",
@@ -254,29 +237,23 @@ __all__ = [
     "audit",
     "audit_phases",
     "check",
-    "check_known",
-    "check_within",
+    "device_of_page",
     "due",
     "find_breach",
+    "gantt",
     "kind_by",
-    "lengths_of_page",
     "library_version",
     "output_of",
+    "phases_of",
     "plan",
-    "plan_early",
-    "plan_known",
-    "plan_rule",
-    "plan_within",
+    "play",
     "ran",
     "row",
-    "text_audit",
-    "text_check",
-    "text_legal",
-    "text_plan",
-    "timing_of_page",
+    "text",
+    "waveform",
 ]
 
-__version__ = "1.0.0"
+__version__ = "0.9.0"
 
 NODES = 1_048_576
 """The most nodes that a search may open."""

@@ -7,15 +7,17 @@ from typing import Iterable, Iterator, Optional
 
 from onfi.calls import DONE, CProblem, status_text
 from onfi.library import library
-from onfi.model import Channel, Geometry, Lengths, Lun, Phase, Want
+from onfi.logs import Audit
+from onfi.model import Channel, Geometry, Phase, Want
 from onfi.refused import REFUSALS, BadPlace, NothingDue, Refused
-from onfi.structs import CDispatcher, CGeometry, CLengths, CPhase, CWant, number
+from onfi.running import Arrival, phases_of
+from onfi.structs import CDispatcher, CGeometry, CPhase, CWant, number
 
 
 class Dispatcher:
     """A channel that takes requests as they come, and says again and again which phase is next, with its address and its command bytes.
 
-        channel = Dispatcher(Channel(timing, rules), [Lun()] * 8, geometry)
+        channel = Dispatcher(Channel(timing, rules, [Lun()] * 8), geometry)
         channel.accept(Want(0, Kind.READ, lun=3, block=5, page=7))
         for phase in channel.phases():
             print(phase.start, phase.lun, phase.kind.name, phase.want)
@@ -29,17 +31,22 @@ class Dispatcher:
     No batch is planned, and 64 requests may wait for each LUN. Times are ns. A call that raises a `Refused` changes nothing.
     """
 
-    def __init__(self, channel: Channel, luns: Iterable[Lun], geometry: Geometry, lengths: Optional[Lengths] = None) -> None:
-        """Begins with what LUNs do; the place in their list is a LUN's number. With `lengths` reads may put out some sectors.
+    def __init__(self, channel: Channel, geometry: Geometry) -> None:
+        """Begins with the channel as it stands; nothing waits.
 
-        Raises what `plan_within` raises of the channel; `BadGeometry`; `BadPlace` where the device lacks what a LUN runs.
+        Raises what `plan` raises of the channel; `BadGeometry`; `BadPlace` where the device lacks what a LUN runs.
         """
-        said, self._kept = CProblem(channel, luns, (), lengths), CDispatcher()
-        self._phase, device = CPhase(), CGeometry.of(geometry)
-        words = (ctypes.byref(said.lengths or CLengths()), ctypes.byref(said.channel), said.luns, len(said.problem.luns), ctypes.byref(device))
-        status = library().onfi_dispatcher_begin(ctypes.byref(self._kept), *words)
+        said, self._kept = CProblem(channel, ()), CDispatcher()
+        self._phase, device, self._luns = CPhase(), CGeometry.of(geometry), len(channel.luns)
+        status = library().onfi_dispatcher_begin(ctypes.byref(self._kept), ctypes.byref(said.channel), ctypes.byref(device))
         if status != DONE:
             raise said.refused(status, ask=said.placed_on(device) if status == BadPlace.status else None)
+
+    def __repr__(self) -> str:
+        """How many LUNs it has, and which phase is next at time 0; what is due stays so."""
+        ahead = type(self).__new__(type(self))
+        ahead._kept, ahead._phase, ahead._luns = CDispatcher.from_buffer_copy(self._kept), CPhase(), self._luns
+        return f"Dispatcher({self._luns} LUNs, next: {ahead.next()})"
 
     def accept(self, want: Want) -> None:
         """Takes in a request, after the others that wait for its LUN. Its number is above theirs.
@@ -102,6 +109,16 @@ class Dispatcher:
             self.ran(phase.start)
             yield phase
             phase = self.next(phase.end)
+
+    def run(self, trace: Iterable[Arrival], audit: Optional[Audit] = None) -> Iterator[Phase]:
+        """The phases that come of a trace of requests, which come at their times: pairs of a time in ns and a `Want`, by rising times.
+
+            for phase in channel.run([(0, Want(0, Kind.READ, lun=3, block=5)), (2_000, Want(1, Kind.READ, lun=1, block=7))]):
+                print(phase.start, phase.lun, phase.want)
+
+        `play` keeps all that came of one, with tables and a chart.
+        """
+        return phases_of(self, trace, audit)
 
     @staticmethod
     def _done(status: int, lun: Optional[int] = None, request: Optional[int] = None) -> None:

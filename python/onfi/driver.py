@@ -5,30 +5,34 @@ from __future__ import annotations
 import ctypes
 from typing import Iterable, Optional, Tuple
 
-from onfi.calls import DONE, USUAL_NODES, CProblem, limit_of
-from onfi.model import Channel, Geometry, Lengths, Lun, Phase, Schedule, Stand, Want
+from onfi.calls import DONE, MOST_NODES, CProblem, options_of
+from onfi.library import library
+from onfi.model import Channel, Geometry, Lun, Phase, Schedule, Stand, Want
 from onfi.refused import BadPlace, NothingDue, TooMany
-from onfi.structs import WANTS, CGeometry, CPhase, CSchedule, CWant, CWeights, CWithin, each_of, number
+from onfi.structs import WANTS, CGeometry, CPhase, CPlan, CSchedule, CWant, each_of, number
 
 
 class Driver:
     """A channel with all that stands on it, kept as the library takes it and changed in place: a call makes nothing anew.
 
-        driver = Driver(channel, luns, geometry)
+        driver = Driver(channel, geometry)
         driver.set_wants(wants)
-        driver.plan_within()
+        driver.plan()
         while phase := driver.due():
             driver.ran(phase, started)
 
     Each call is the one of its name beside it in this package, of what stands, and raises what that does; then all stands as before.
     """
 
-    def __init__(self, channel: Channel, luns: Iterable[Lun], geometry: Geometry, lengths: Optional[Lengths] = None) -> None:
-        self._said = CProblem(channel, luns, (), lengths)
-        self._lun_count = len(self._said.problem.luns)
+    def __init__(self, channel: Channel, geometry: Geometry) -> None:
+        self._said = CProblem(channel, ())
+        self._lun_count = len(channel.luns)
         self._geometry = CGeometry.of(geometry)
-        self._made = CWithin(CSchedule(self._lun_count))
+        self._made = CPlan(CSchedule(self._lun_count))
         self._phase = CPhase()
+
+    def __repr__(self) -> str:
+        return f"Driver({self.stand})"
 
     @property
     def bus_free(self) -> int:
@@ -41,16 +45,17 @@ class Driver:
 
     def lun(self, at: int) -> Lun:
         """What the LUN does."""
-        return self._said.luns[self._place(at)].told()
+        told: Lun = self._said.channel.lun[self._place(at)].told()
+        return told
 
     def set_lun(self, at: int, lun: Lun) -> None:
         """Says what the LUN does, as after a reset."""
         place = self._place(at)
-        self._said.luns[place] = next(each_of("luns", type(self._said.luns[place]).of, [lun]))
+        self._said.channel.lun[place] = next(each_of("luns", type(self._said.channel.lun[place]).of, [lun]))
 
     def set_since(self, at: int, time: int) -> None:
         """Says from when on the LUN goes on, in ns, as where it was ready before its stated time."""
-        self._said.luns[self._place(at)].since = number(time, 1 << 64, "a time")
+        self._said.channel.lun[self._place(at)].since = number(time, 1 << 64, "a time")
 
     def _place(self, at: int) -> int:
         if not 0 <= at < self._lun_count:
@@ -95,31 +100,19 @@ class Driver:
         """All that stands."""
         return self._said.told(self._made.schedule)
 
-    def plan_within(self, limit: int = USUAL_NODES) -> None:
-        """Plans what waits; no certificate is written."""
-        self._plan("onfi_plan_within", limit_of(limit))
-
-    def plan_early(
-        self, weights: Iterable[int] = (), slack: int = 0, limit: int = USUAL_NODES, running: Iterable[Iterable[int]] = ()
+    def plan(
+        self, by: str = "within", limit: int = MOST_NODES, early: bool = False, weights: Iterable[int] = (), running: Iterable[Iterable[int]] = ()
     ) -> None:
-        """Plans what waits so that requests end early; no certificate is written."""
-        told = CWeights.of(weights, running)
-        self._plan("onfi_plan_early", limit_of(limit), ctypes.byref(told), number(slack, 1 << 16, "a slack"))
-
-    def plan_rule(self) -> None:
-        """Plans what waits by the rule; no certificate is written."""
-        self._plan("onfi_plan_rule")
-
-    def _plan(self, name: str, *words: object) -> None:
-        size, call = ctypes.c_size_t(), self._said.call(name)
-        status = call(*self._said.words, *words, ctypes.byref(self._made), None, 0, ctypes.byref(size))
+        """Plans what waits; no certificate is written."""
+        options, size = options_of(by, limit, early, weights, running), ctypes.c_size_t()
+        status = library().onfi_plan(*self._said.words, ctypes.byref(options), ctypes.byref(self._made), None, 0, ctypes.byref(size))
         if status != DONE:
             raise self._said.refused(status)
 
     def due(self) -> Optional[Phase]:
         """The phase that is due; None where no phase is left."""
         schedule, phase = ctypes.byref(self._made.schedule), ctypes.byref(self._phase)
-        status = self._said.call("onfi_due")(*self._said.words, ctypes.byref(self._geometry), schedule, phase)
+        status = library().onfi_due(*self._said.words, ctypes.byref(self._geometry), schedule, phase)
         if status == NothingDue.status:
             return None
         if status != DONE:
@@ -128,8 +121,8 @@ class Driver:
 
     def ran(self, phase: Phase, started: int) -> None:
         """Makes what stands after the phase that is due, which ran from `started` on, in ns."""
-        said, call = self._said, self._said.call("onfi_ran")
+        said = self._said
         words = (number(phase.lun, 256, "a LUN"), number(phase.number, 256, "a phase"), number(started, 1 << 64, "a time"))
-        status = call(*said.stand, said.wants, ctypes.byref(said.count), ctypes.byref(self._made.schedule), *words)
+        status = library().onfi_ran(ctypes.byref(said.channel), said.wants, ctypes.byref(said.count), ctypes.byref(self._made.schedule), *words)
         if status != DONE:
             raise said.refused(status)

@@ -8,54 +8,37 @@ import os
 import pathlib
 from typing import List, Tuple
 
-from onfi.structs import CAudit, CBroken, CChannel, CDevice, CDispatcher, CGeometry, CLengths, CLogBroken, CLun, COutput, CPhase, CPlan, CSchedule, CVerdict, CWant
-from onfi.structs import CWeights, CWithin
+from onfi.structs import CAudit, CBroken, CChannel, CDevice, CDispatcher, CGeometry, CLogBroken, COptions, COutput, CPhase, CPlan, CSchedule, CVerdict, CWant
 
-SONAME = "libonfi.so.1"
-BYTES, SIZE = ctypes.c_char_p, ctypes.c_size_t
+SONAME = "libonfi.so.0"
+BYTES, SIZE, LUN, TIME = ctypes.c_char_p, ctypes.c_size_t, ctypes.c_uint8, ctypes.c_uint64
 ROOM = (ctypes.c_void_p, SIZE, ctypes.POINTER(SIZE))
-PROBLEM = (ctypes.POINTER(CChannel), ctypes.POINTER(CLun), SIZE, ctypes.POINTER(CWant), SIZE)
-LENGTHS, DISPATCHER = ctypes.POINTER(CLengths), ctypes.POINTER(CDispatcher)
+CHANNEL, WANT, GEOMETRY, SCHEDULE = ctypes.POINTER(CChannel), ctypes.POINTER(CWant), ctypes.POINTER(CGeometry), ctypes.POINTER(CSchedule)
+PHASE, DISPATCHER, AUDIT = ctypes.POINTER(CPhase), ctypes.POINTER(CDispatcher), ctypes.POINTER(CAudit)
+PROBLEM = (CHANNEL, WANT, SIZE)
 CALLS = {
     "onfi_version": (),
-    "onfi_plan": (*PROBLEM, ctypes.c_uint32, ctypes.POINTER(CPlan), *ROOM),
-    "onfi_plan_known": (*PROBLEM, ctypes.c_uint32, ctypes.POINTER(CPlan), *ROOM),
-    "onfi_plan_within": (*PROBLEM, ctypes.c_uint32, ctypes.POINTER(CWithin), *ROOM),
-    "onfi_plan_rule": (*PROBLEM, ctypes.POINTER(CWithin), *ROOM),
-    "onfi_plan_early": (*PROBLEM, ctypes.c_uint32, ctypes.POINTER(CWeights), ctypes.c_uint16, ctypes.POINTER(CWithin), *ROOM),
-    "onfi_check": (*PROBLEM, ctypes.POINTER(CSchedule), BYTES, SIZE, ctypes.POINTER(CVerdict)),
-    "onfi_check_known": (*PROBLEM, ctypes.POINTER(CSchedule), BYTES, SIZE, ctypes.POINTER(CVerdict)),
-    "onfi_check_within": (*PROBLEM, ctypes.POINTER(CSchedule), ctypes.c_uint64, BYTES, SIZE, ctypes.POINTER(CVerdict)),
-    "onfi_breach": (*PROBLEM, ctypes.POINTER(CSchedule), ctypes.POINTER(CBroken)),
-    "onfi_due": (*PROBLEM, ctypes.POINTER(CGeometry), ctypes.POINTER(CSchedule), ctypes.POINTER(CPhase)),
-    "onfi_ran": (*PROBLEM[:4], ctypes.POINTER(SIZE), ctypes.POINTER(CSchedule), ctypes.c_uint8, ctypes.c_uint8, ctypes.c_uint64),
-    "onfi_dispatcher_begin": (DISPATCHER, LENGTHS, *PROBLEM[:3], ctypes.POINTER(CGeometry)),
-    "onfi_dispatcher_accept": (DISPATCHER, ctypes.POINTER(CWant)),
-    "onfi_dispatcher_accept_again": (DISPATCHER, ctypes.POINTER(CWant)),
+    "onfi_plan": (*PROBLEM, ctypes.POINTER(COptions), ctypes.POINTER(CPlan), *ROOM),
+    "onfi_check": (*PROBLEM, SCHEDULE, TIME, BYTES, SIZE, ctypes.POINTER(CVerdict)),
+    "onfi_breach": (*PROBLEM, SCHEDULE, ctypes.POINTER(CBroken)),
+    "onfi_due": (*PROBLEM, GEOMETRY, SCHEDULE, PHASE),
+    "onfi_ran": (CHANNEL, WANT, ctypes.POINTER(SIZE), SCHEDULE, LUN, ctypes.c_uint8, TIME),
+    "onfi_dispatcher_begin": (DISPATCHER, CHANNEL, GEOMETRY),
+    "onfi_dispatcher_accept": (DISPATCHER, WANT),
+    "onfi_dispatcher_accept_again": (DISPATCHER, WANT),
     "onfi_dispatcher_cancel": (DISPATCHER, ctypes.c_uint64),
-    "onfi_dispatcher_next": (DISPATCHER, ctypes.c_uint64, ctypes.POINTER(CPhase)),
-    "onfi_dispatcher_ran": (DISPATCHER, ctypes.c_uint64),
-    "onfi_dispatcher_ready": (DISPATCHER, ctypes.c_uint8, ctypes.c_uint64),
-    "onfi_audit_begin": (*PROBLEM[:3], ctypes.POINTER(CAudit)),
-    "onfi_audit_phase": (ctypes.POINTER(CAudit), ctypes.POINTER(CPhase), ctypes.POINTER(CLogBroken)),
-    "onfi_audit_ready": (ctypes.POINTER(CAudit), ctypes.c_uint8, ctypes.c_uint64),
-    "onfi_output_of": (ctypes.POINTER(CGeometry), ctypes.c_uint16, ctypes.POINTER(CPhase), ctypes.c_uint8, ctypes.POINTER(COutput)),
-    "onfi_row": (ctypes.POINTER(CGeometry), ctypes.c_uint8, ctypes.c_uint16, ctypes.c_uint16, ctypes.POINTER(ctypes.c_uint32)),
-    "onfi_timing_of_page": (BYTES, SIZE, BYTES, SIZE, ctypes.POINTER(CDevice), ctypes.POINTER(ctypes.c_uint64)),
-    "onfi_timing_of_strobes": (BYTES, SIZE, BYTES, SIZE, BYTES, SIZE, ctypes.POINTER(CDevice), ctypes.POINTER(ctypes.c_uint64)),
-    "onfi_lengths_of_page": (BYTES, SIZE, BYTES, SIZE, BYTES, SIZE, ctypes.c_uint16, ctypes.POINTER(CDevice), LENGTHS, ctypes.POINTER(ctypes.c_uint64)),
-    "onfi_text_plan": (BYTES, SIZE, ctypes.c_uint32, ctypes.c_bool, *ROOM),
-    "onfi_text_plan_known": (BYTES, SIZE, ctypes.c_uint32, ctypes.c_bool, *ROOM),
-    "onfi_text_trace": (BYTES, SIZE, ctypes.c_uint32, ctypes.c_bool, *ROOM),
-    "onfi_text_check": (BYTES, SIZE, *ROOM),
-    "onfi_text_check_known": (BYTES, SIZE, *ROOM),
-    "onfi_text_legal": (BYTES, SIZE, *ROOM),
-    "onfi_text_audit": (BYTES, SIZE, ctypes.c_bool, *ROOM),
+    "onfi_dispatcher_next": (DISPATCHER, TIME, PHASE),
+    "onfi_dispatcher_ran": (DISPATCHER, TIME),
+    "onfi_dispatcher_ready": (DISPATCHER, LUN, TIME),
+    "onfi_audit_begin": (CHANNEL, AUDIT),
+    "onfi_audit_phase": (AUDIT, PHASE, ctypes.POINTER(CLogBroken)),
+    "onfi_audit_ready": (AUDIT, LUN, TIME),
+    "onfi_output_of": (GEOMETRY, ctypes.c_uint16, PHASE, ctypes.c_uint8, ctypes.POINTER(COutput)),
+    "onfi_row": (GEOMETRY, LUN, ctypes.c_uint16, ctypes.c_uint16, ctypes.POINTER(ctypes.c_uint32)),
+    "onfi_device_of_page": (BYTES, SIZE, BYTES, SIZE, BYTES, SIZE, ctypes.c_uint16, ctypes.POINTER(CDevice), ctypes.POINTER(ctypes.c_uint64)),
+    "onfi_text": (BYTES, SIZE, BYTES, SIZE, *ROOM),
     "onfi_status_text": (ctypes.c_uint32, *ROOM),
 }
-# Those that are told lengths of sectors too, before all else.
-TOLD = ("onfi_plan_within", "onfi_plan_rule", "onfi_plan_early", "onfi_check_within", "onfi_breach", "onfi_due", "onfi_ran", "onfi_audit_begin")
-CALLS.update({f"{name}_by": (LENGTHS, *CALLS[name]) for name in TOLD})
 
 
 def places() -> List[Tuple[str, str]]:

@@ -7,7 +7,7 @@ import enum
 from dataclasses import dataclass
 from typing import Any, Callable, Dict, Iterable, Iterator, Optional, Sequence, Tuple, Union
 
-from onfi.calls import DONE, CProblem, refusal, text_audit
+from onfi.calls import DONE, CProblem, refusal, text
 from onfi.library import library
 from onfi.model import Channel, Kind, Lengths, Lun, Phase, Spans, Want
 from onfi.refused import REFUSALS, BadKind, BadLun, Illegal, Refused
@@ -51,7 +51,7 @@ class Logged:
     """When it started, in ns; below 2^62."""
     lun: int
     kind: Kind
-    """With lengths also one of `kind_by`."""
+    """Where the channel has lengths also one of `kind_by`."""
     is_post: bool
     """Whether it is a data output or a status byte; else it is a command."""
     block: int
@@ -175,13 +175,13 @@ def rows_of_want(at: int, want: Want, lengths: Optional[Lengths]) -> Iterator[st
         yield f"sectors,{at},{kind.sectors}"
 
 
-def script_of(channel: Channel, luns: Sequence[Lun], wants: Sequence[Want], lengths: Optional[Lengths]) -> str:
+def script_of(channel: Channel, wants: Sequence[Want]) -> str:
     """The rows that say a channel and its requests."""
-    timing, rules = channel.timing, channel.rules
-    rows = [f"shape,{len(luns)},{rules.plane_bits},{int(rules.read)},{int(rules.write)}", f"bus,{channel.bus_free}", *["strict,1"] * rules.strict]
+    timing, rules, lengths = channel.timing, channel.rules, channel.lengths
+    rows = [f"shape,{len(channel.luns)},{rules.plane_bits},{int(rules.read)},{int(rules.write)}", f"bus,{channel.bus_free}", *["strict,1"] * rules.strict]
     rows += [row_of_spans(word, spans) for word, spans in (("read", timing.read), ("program", timing.program), ("erase", timing.erase))]
     rows += [f"sectorpost,{count},{post}" for count, post in (lengths.sectors if lengths else {}).items()]
-    rows += [row for number, lun in enumerate(luns) for row in rows_of_lun(number, lun, lengths)]
+    rows += [row for number, lun in enumerate(channel.luns) for row in rows_of_lun(number, lun, lengths)]
     rows += [row for at, want in enumerate(wants) for row in rows_of_want(at, want, lengths)]
     return "\n".join([*rows, "end\n"])
 
@@ -214,28 +214,26 @@ def refused_by(line: str) -> Union[Refused, ValueError]:
 
 def audit(
     channel: Channel,
-    luns: Iterable[Lun],
     phases: Iterable[Entry],
     wants: Iterable[Want] = (),
-    lengths: Optional[Lengths] = None,
 ) -> Iterator[LogBreach]:
-    """Judges a log of any length, which begins with the channel and its LUNs as they are said: gives each breach, in order; none where it is legal.
+    """Judges a log of any length, which begins with the channel as it is said: gives each breach, in order; none where it is legal.
 
     A phase that only starts too soon counts as run, and any other that breaks a condition as not there, so that the next one can be
     judged. Commands of a LUN that follow each other without a post between are one group. With wants, of any number, each command is of
     the one that waits first on its block; their ids aren't looked at. Without, each command brings its own request.
 
     A line of text is one as `onfi_sim audit` takes it, of reads of whole pages: its END, its command bytes and the number of its request are
-    judged too. With `lengths` reads may put out some sectors: of wants the first eight, as their kinds say, and without wants as a command's does.
+    judged too. Where the channel has `lengths` reads may put out some sectors: of wants the first eight, as their kinds say, and without wants as a command's does.
 
-    It is what `text_audit` says, with lengths and without wants what `Audit` does, so that it is proved. Raises `BadKind`, `BadLun`,
+    It is what `text("audit --all", ..)` says, with lengths and without wants what `Audit` does, so that it is proved. Raises `BadKind`, `BadLun`,
     `NoLengths`, `Clock`, `Memory`; `ValueError` where another number of the channel or a phase is out of its range, or a line says no phase.
     """
-    luns, wants, phases = tuple(luns), tuple(wants), tuple(phases)
+    wants, phases, lengths = tuple(wants), tuple(phases), channel.lengths
     if lengths is not None and not wants and not any(isinstance(phase, str) for phase in phases):
-        return iter([*audit_phases(channel, luns, phases, lengths)])
+        return iter([*audit_phases(channel, phases)])
     log = [line_of(phase, lengths) for phase in phases]
-    answer = text_audit(script_of(channel, luns, wants, lengths) + "".join(log), each=True)
+    answer = text("audit --all", script_of(channel, wants) + "".join(log))
     lines = answer.text.decode("ascii").splitlines()
     if answer.status == 1:
         raise refused_by(lines[0])
@@ -266,19 +264,22 @@ def breach_told(at: int, lun: int, broken: CLogBroken) -> LogBreach:
 
 
 class Audit:
-    """A log that is judged phase by phase, as it comes, and that begins with the channel and its LUNs as they are said.
+    """A log that is judged phase by phase, as it comes, and that begins with the channel as it is said.
 
-    Commands of a LUN that follow each other without a post between are one group; each command brings its own request. With `lengths`
-    reads may put out some sectors, as by `plan_within`. Raises what `plan_within` raises of a channel.
+    Commands of a LUN that follow each other without a post between are one group; each command brings its own request. Raises what
+    `plan` raises of a channel.
     """
 
-    def __init__(self, channel: Channel, luns: Iterable[Lun], lengths: Optional[Lengths] = None) -> None:
-        said = CProblem(channel, luns, (), lengths)
+    def __init__(self, channel: Channel) -> None:
+        said = CProblem(channel, ())
         self._audit = CAudit()
         self._judged = 0
-        status = said.call("onfi_audit_begin")(*said.stand, ctypes.byref(self._audit))
+        status = library().onfi_audit_begin(ctypes.byref(said.channel), ctypes.byref(self._audit))
         if status != DONE:
             raise said.refused(status)
+
+    def __repr__(self) -> str:
+        return f"Audit({self._audit.channel.lun_count} LUNs, {self._judged} phases judged, bus free from {self.bus_free} ns)"
 
     @property
     def bus_free(self) -> int:
@@ -310,8 +311,6 @@ class Audit:
             raise refusal(status)
 
 
-def audit_phases(
-    channel: Channel, luns: Iterable[Lun], phases: Iterable[Entry], lengths: Optional[Lengths] = None
-) -> Iterator[LogBreach]:
+def audit_phases(channel: Channel, phases: Iterable[Entry]) -> Iterator[LogBreach]:
     """The breaches of a log as it comes, as `Audit.judge` tells them: each phase is judged when it is taken from `phases`."""
-    return Audit(channel, luns, lengths).judge_all(phases)
+    return Audit(channel).judge_all(phases)

@@ -42,7 +42,7 @@ class Kind(enum.IntEnum):
 
 
 def kind_by(kind: Kind, sectors: int = 0) -> Kind:
-    """The kind of a read that puts out so many sectors of its page, 1 to 7, for calls that take `lengths`; with 0 it is the kind.
+    """The kind of a read that puts out so many sectors of its page, 1 to 7, for a channel that has `lengths`; with 0 it is the kind.
 
     `ValueError` where the sectors aren't from 0 to 7.
     """
@@ -108,22 +108,13 @@ class Rules:
 
 
 @dataclass(frozen=True)
-class Channel:
-    """A channel: its lengths, its rules, and from when on its bus is free, in ns."""
-
-    timing: Timing
-    rules: Rules = Rules()
-    bus_free: int = 0
-
-
-@dataclass(frozen=True)
 class Want:
     """A request. Its plane is the one that the low bits of its block name."""
 
     id: int
     """A number of the caller's, below 2^64; each want of a list has a greater one than that before it."""
     kind: Kind
-    """For calls that take `lengths` also one of `kind_by`."""
+    """Where the channel has `lengths` also one of `kind_by`."""
     lun: int
     """From 0."""
     block: int
@@ -148,6 +139,22 @@ class Lun:
 
 
 @dataclass(frozen=True)
+class Channel:
+    """A channel as it stands: its device's lengths, its rules, what its LUNs do, and from when on its bus is free, in ns."""
+
+    timing: Timing
+    rules: Rules = Rules()
+    luns: Sequence[Lun] = (Lun(),)
+    """One to eight; the place of a LUN is its number."""
+    lengths: Optional[Lengths] = None
+    """Of reads of some sectors; None where no read is one of `kind_by`."""
+    bus_free: int = 0
+
+    def __post_init__(self) -> None:
+        keep_tuples(self, "luns")
+
+
+@dataclass(frozen=True)
 class Group:
     """A new group: one to four wants of one LUN that run as one."""
 
@@ -167,7 +174,7 @@ class BusPhase(NamedTuple):
     end: int
     lun: int
     want: int
-    """The id of its request; of a running group's the id that the member has in the list of LUNs."""
+    """The id of its request; of a running group's the id that the member has in the channel's LUNs."""
     kind: Kind
     is_post: bool
     """Whether it is a data output or a status byte; else it is a command with its address and data."""
@@ -178,18 +185,16 @@ class Problem:
     """What is to be planned."""
 
     channel: Channel
-    luns: Sequence[Lun]
     wants: Sequence[Want]
-    lengths: Optional[Lengths] = None
 
     def __post_init__(self) -> None:
-        keep_tuples(self, "luns", "wants")
+        keep_tuples(self, "wants")
 
     def length_of(self, kind: Kind, is_post: bool) -> int:
         """How long a phase has the bus, in ns."""
-        if is_post and kind.sectors and self.lengths:
-            return self.lengths.sectors[kind.sectors]
-        timing = self.channel.timing
+        timing, lengths = self.channel.timing, self.channel.lengths
+        if is_post and kind.sectors and lengths:
+            return lengths.sectors[kind.sectors]
         spans = (timing.read, timing.program, timing.erase)[kind.operation]
         return spans.post if is_post else spans.cmd
 
@@ -213,7 +218,7 @@ class Schedule:
         `KeyError` where it names a want that isn't there, `IndexError` a LUN; `ValueError` where a kind is none.
         """
         wants = {want.id: want for want in problem.wants}
-        running = [(problem.luns[at].members, problem.luns[at].next, starts) for at, starts in enumerate(self.rest) if starts]
+        running = [(problem.channel.luns[at].members, problem.channel.luns[at].next, starts) for at, starts in enumerate(self.rest) if starts]
         groups = [(tuple(wants[want] for want in group.wants), 0, group.starts) for group in self.groups]
         found = []
         for members, first, starts in [*running, *groups]:
@@ -224,11 +229,20 @@ class Schedule:
         return sorted(found)
 
 
-class Planned:
-    """What plans have: a schedule of a problem."""
+@dataclass(frozen=True)
+class Plan:
+    """A schedule, and what shows how near it is to the best."""
 
     schedule: Schedule
-    problem: Optional[Problem]
+    finish: int
+    """When its last phase ends, in ns; where there is none, from when on the bus is free."""
+    below: int
+    """Nothing ends before this time, in ns, as the certificate shows. Where it is the finish, no legal schedule beats this one."""
+    certificate: bytes
+    opened: int = 0
+    """How many nodes the search opened that found it; 0 by the rule."""
+    problem: Optional[Problem] = field(default=None, repr=False, compare=False)
+    """What was planned."""
 
     def phases(self) -> List[BusPhase]:
         """Its phases by rising start, each as (start, end, lun, want, kind, is_post); `ValueError` of a plan that no call gave."""
@@ -236,33 +250,14 @@ class Planned:
             raise ValueError("a plan that no call gave has no problem: ask its schedule for the phases of one")
         return self.schedule.phases(self.problem)
 
+    def svg(self) -> str:
+        """A Gantt chart of its phases."""
+        from onfi.pictures import gantt  # what a picture is of stands here
 
-@dataclass(frozen=True)
-class Plan(Planned):
-    """A schedule that no legal schedule beats, and what shows it."""
+        return gantt(self.phases())
 
-    schedule: Schedule
-    finish: int
-    """When its last phase ends, in ns; where there is none, from when on the bus is free."""
-    opened: int
-    """How many nodes the search opened, at least 1."""
-    certificate: bytes
-    problem: Optional[Problem] = field(default=None, repr=False, compare=False)
-    """What was planned."""
-
-
-@dataclass(frozen=True)
-class PlanWithin(Planned):
-    """A schedule, and what shows how near it is to the best."""
-
-    schedule: Schedule
-    finish: int
-    """When its last phase ends, in ns; where there is none, from when on the bus is free."""
-    below: int
-    """Nothing ends before this time, in ns. Where it is the finish, no legal schedule beats this one."""
-    certificate: bytes
-    problem: Optional[Problem] = field(default=None, repr=False, compare=False)
-    """What was planned."""
+    def _repr_html_(self) -> str:
+        return self.svg()
 
 
 @dataclass(frozen=True)
@@ -308,15 +303,14 @@ class Output:
 
 @dataclass(frozen=True)
 class Stand:
-    """A channel, what its LUNs do, the requests that wait, and the schedule that is left."""
+    """A channel as it stands, the requests that wait, and the schedule that is left."""
 
     channel: Channel
-    luns: Sequence[Lun]
     wants: Sequence[Want]
     schedule: Schedule
 
     def __post_init__(self) -> None:
-        keep_tuples(self, "luns", "wants")
+        keep_tuples(self, "wants")
 
 
 @dataclass(frozen=True)
@@ -351,6 +345,8 @@ class Device:
     timing: Timing
     rules: Rules
     geometry: Geometry
+    lengths: Lengths = Lengths({})
+    """Of reads of 1 to 7 sectors, as far as a page has their bytes; none without sectors."""
 
 
 @dataclass(frozen=True)

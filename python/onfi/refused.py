@@ -53,6 +53,18 @@ class Over(Refused):
     status = 6
 
 
+class BadBy(Refused):
+    """A plan is to be found in another way than by ONFI_PLAIN, ONFI_WITHIN or ONFI_RULE."""
+
+    status = 7
+
+
+class BadWords(Refused):
+    """Words that ask for nothing that this call answers."""
+
+    status = 9
+
+
 class ZeroSpan(Refused):
     """A command or a post takes no time."""
 
@@ -409,6 +421,8 @@ REFUSALS: Dict[int, Type[Refused]] = {
         Memory,
         BadLimit,
         Over,
+        BadBy,
+        BadWords,
         ZeroSpan,
         LongSpan,
         BadPlaneBits,
@@ -475,6 +489,7 @@ __all__ = [
     "REFUSALS",
     "Refused",
     # from here on written by tools/make-statuses
+    "BadBy",
     "BadDispatcher",
     "BadGeometry",
     "BadHeader",
@@ -488,6 +503,7 @@ __all__ = [
     "BadSchedule",
     "BadSectors",
     "BadToken",
+    "BadWords",
     "BoundLow",
     "Clock",
     "ColumnTooWide",

@@ -28,7 +28,7 @@ def octets(value: Union[bytes, bytearray, memoryview], what: str) -> bytes:
     return bytes(value)
 
 
-def text(value: Union[str, bytes, bytearray, memoryview], what: str) -> bytes:
+def characters(value: Union[str, bytes, bytearray, memoryview], what: str) -> bytes:
     """The bytes of a text, which is str or bytes."""
     if not isinstance(value, (str, bytes, bytearray, memoryview)):
         raise TypeError(f"{what} is str or bytes, not {type(value).__name__}")
@@ -90,23 +90,6 @@ class CRules(ctypes.Structure):
         return Rules(self.read, self.write, self.strict, self.plane_bits)
 
 
-class CChannel(ctypes.Structure):
-    _fields_ = [("timing", CTiming), ("rules", CRules), ("bus_free", ctypes.c_uint64)]
-
-    @classmethod
-    def of(cls, channel: Channel) -> CChannel:
-        timing, rules = channel.timing, channel.rules
-        plane_bits = number(rules.plane_bits, 256, "the count of plane bits")
-        return cls(
-            CTiming(CSpans.of(timing.read), CSpans.of(timing.program), CSpans.of(timing.erase)),
-            CRules(rules.read, rules.write, rules.strict, plane_bits),
-            number(channel.bus_free, 1 << 64, "a time"),
-        )
-
-    def told(self) -> Channel:
-        return Channel(self.timing.told(), self.rules.told(), self.bus_free)
-
-
 class CWant(ctypes.Structure):
     _fields_ = [
         ("id", ctypes.c_uint64),
@@ -142,6 +125,35 @@ class CLun(ctypes.Structure):
 
     def told(self) -> Lun:
         return Lun(self.since, tuple(it.told() for it in self.member[: self.members]), self.next)
+
+
+class CChannel(ctypes.Structure):
+    _fields_ = [
+        ("timing", CTiming),
+        ("lengths", CLengths),
+        ("rules", CRules),
+        ("bus_free", ctypes.c_uint64),
+        ("lun_count", ctypes.c_uint8),
+        ("lun", CLun * LUNS),
+    ]
+
+    @classmethod
+    def of(cls, channel: Channel) -> CChannel:
+        timing, rules = channel.timing, channel.rules
+        made = cls(
+            CTiming(CSpans.of(timing.read), CSpans.of(timing.program), CSpans.of(timing.erase)),
+            CLengths() if channel.lengths is None else CLengths.of(channel.lengths),
+            CRules(rules.read, rules.write, rules.strict, number(rules.plane_bits, 256, "the count of plane bits")),
+            number(channel.bus_free, 1 << 64, "a time"),
+            number(len(channel.luns), 256, "the count of LUNs"),
+        )
+        for at, lun in enumerate([*each_of("luns", CLun.of, channel.luns)][:LUNS]):
+            made.lun[at] = lun
+        return made
+
+    def told(self) -> Channel:
+        luns, lengths = (it.told() for it in self.lun[: self.lun_count]), self.lengths.told()
+        return Channel(self.timing.told(), self.rules.told(), tuple(luns), lengths if lengths.sectors else None, self.bus_free)
 
 
 class CRest(ctypes.Structure):
@@ -191,11 +203,7 @@ class CSchedule(ctypes.Structure):
 
 
 class CPlan(ctypes.Structure):
-    _fields_ = [("schedule", CSchedule), ("finish", ctypes.c_uint64), ("opened", ctypes.c_uint32)]
-
-
-class CWithin(ctypes.Structure):
-    _fields_ = [("schedule", CSchedule), ("finish", ctypes.c_uint64), ("below", ctypes.c_uint64)]
+    _fields_ = [("schedule", CSchedule), ("finish", ctypes.c_uint64), ("below", ctypes.c_uint64), ("opened", ctypes.c_uint32)]
 
 
 class CWeights(ctypes.Structure):
@@ -209,6 +217,10 @@ class CWeights(ctypes.Structure):
             for at, weight in zip(range(len(places)), told):
                 places[at] = number(weight, 1 << 16, "a weight")
         return made
+
+
+class COptions(ctypes.Structure):
+    _fields_ = [("limit", ctypes.c_uint32), ("by", ctypes.c_uint8), ("early", ctypes.c_bool), ("weights", CWeights)]
 
 
 class CPhase(ctypes.Structure):
@@ -238,16 +250,14 @@ class CDispatcher(ctypes.Structure):
 
 
 class CStage(ctypes.Structure):
-    _fields_ = [("lun", CLun), ("more", ctypes.c_uint64), ("is_open", ctypes.c_uint8)]
+    _fields_ = [("more", ctypes.c_uint64), ("is_open", ctypes.c_uint8)]
 
 
 class CAudit(ctypes.Structure):
     _fields_ = [
         ("channel", CChannel),
-        ("lengths", CLengths),
         ("accepted", ctypes.c_uint64),
-        ("luns", ctypes.c_uint8),
-        ("lun", CStage * LUNS),
+        ("stage", CStage * LUNS),
     ]
 
 
@@ -324,7 +334,7 @@ class CGeometry(ctypes.Structure):
 
 
 class CDevice(ctypes.Structure):
-    _fields_ = [("timing", CTiming), ("rules", CRules), ("geometry", CGeometry)]
+    _fields_ = [("timing", CTiming), ("lengths", CLengths), ("rules", CRules), ("geometry", CGeometry)]
 
     def told(self) -> Device:
-        return Device(self.timing.told(), self.rules.told(), self.geometry.told())
+        return Device(self.timing.told(), self.rules.told(), self.geometry.told(), self.lengths.told())

@@ -1,14 +1,14 @@
-/* all_cases: what examples/c/script.c answers to each case of cases.h, which tools/test-targets writes, in one run: its status, and how many
+/* all_cases: what onfi_text answers to each case of cases.h, which tools/test-targets writes, in one run: its status, and how many
  * bytes it wrote with a sum of them (FNV-1a). For machines without an operating system, whose programs have no words and no files. */
-#define main script
-#include "script.c"
-#undef main
+#include <onfi.h>
 
 #include <inttypes.h>
+#include <stdio.h>
+#include <stdlib.h>
+#include <string.h>
 
 static const struct {
-    const char *what;
-    bool remember;
+    const char *words;
     size_t bytes;
     const char *script;
 } cases[] = {
@@ -28,11 +28,11 @@ int main(void)
     for (size_t at = 0; at < sizeof cases / sizeof cases[0]; at++) {
         size_t size = 1024, wrote = 0;
         char *room = malloc(size);
-        uint32_t status = room ? answer(cases[at].what, cases[at].remember, cases[at].script, cases[at].bytes, room, size, &wrote) : ONFI_MEMORY;
+        uint32_t status = room ? onfi_text(cases[at].words, strlen(cases[at].words), cases[at].script, cases[at].bytes, room, size, &wrote) : ONFI_MEMORY;
         if (status == ONFI_NO_ROOM) {
             free(room);
             room = malloc(size = wrote);
-            status = room ? answer(cases[at].what, cases[at].remember, cases[at].script, cases[at].bytes, room, size, &wrote) : ONFI_MEMORY;
+            status = room ? onfi_text(cases[at].words, strlen(cases[at].words), cases[at].script, cases[at].bytes, room, size, &wrote) : ONFI_MEMORY;
         }
         uint64_t sum = room ? sum_of(room, wrote) : 0;
         printf("%u %lu %08lx%08lx\n", (unsigned)status, (unsigned long)wrote, (unsigned long)(sum >> 32), (unsigned long)(sum & 0xFFFFFFFF));

@@ -54,16 +54,15 @@ int main(void)
 {
     static const onfi_channel channel = {
         .timing = {.read = {140, 600, 25100, 11000}, .program = {10800, 600, 200100, 280}, .erase = {100, 600, 1500100, 280}},
+        .lengths = {{2000}},
         .rules = {.read = true, .write = true, .plane_bits = 1},
+        .lun_count = ONFI_LUNS,
     };
-    static const onfi_lun idle[ONFI_LUNS];
-    static const onfi_lengths lengths = {{2000}};
     static onfi_audit audit, before;
     static onfi_log_broken broken, none;
     onfi_phase phase = {.lun = 7, .block = 5, .page = 2};
     is_refused = true;
-    takes("begin", onfi_audit_begin(&channel, idle, ONFI_LUNS, &audit), ONFI_DONE, 0);
-    takes("begin with lengths", onfi_audit_begin_by(&lengths, &channel, idle, ONFI_LUNS, &audit), ONFI_DONE, 0);
+    takes("begin", onfi_audit_begin(&channel, &audit), ONFI_DONE, 0);
     memcpy(&before, &audit, sizeof before);
     takes("a command without memory", onfi_audit_phase(&audit, &phase, &broken), ONFI_MEMORY, 1);
     expect("the audit then", memcmp(&before, &audit, sizeof before) != 0, 0);

@@ -18,14 +18,14 @@ static void expect(const char *what, uint64_t got, uint64_t wanted)
 static const onfi_channel usual = {
     .timing = {.read = {140, 600, 25100, 11000}, .program = {10800, 600, 200100, 280}, .erase = {100, 600, 1500100, 280}},
     .rules = {.read = true, .write = true, .plane_bits = 1},
+    .lun_count = 2,
 };
-static const onfi_lun idle[2];
 
 static onfi_audit begun(void)
 {
     onfi_audit audit;
     memset(&audit, 0xA5, sizeof audit);
-    expect("begin", onfi_audit_begin(&usual, idle, 2, &audit), ONFI_DONE);
+    expect("begin", onfi_audit_begin(&usual, &audit), ONFI_DONE);
     return audit;
 }
 
@@ -133,8 +133,9 @@ static void break_each(void)
            (onfi_log_broken){.condition = ONFI_LOG_NOT_READY, .lun = 1, .start = 25239, .earliest = 25240});
     legal("after it ran too soon", &audit, command(36239, 1, ONFI_ERASE, 4, 0), 0);
     breaks("the bus", &audit, command(36300, 0, ONFI_PROGRAM, 0, 0), (onfi_log_broken){.condition = ONFI_LOG_BUS_NOT_FREE, .start = 36300, .earliest = 36339});
-    onfi_lun late[1] = {{.since = 1000}};
-    expect("begin late", onfi_audit_begin(&usual, late, 1, &audit), ONFI_DONE);
+    onfi_channel late = usual;
+    late.lun[0].since = 1000, late.lun_count = 1;
+    expect("begin late", onfi_audit_begin(&late, &audit), ONFI_DONE);
     breaks("no free LUN", &audit, command(0, 0, ONFI_READ, 0, 0), (onfi_log_broken){.condition = ONFI_LOG_LUN_NOT_FREE, .start = 0, .earliest = 1000});
 }
 
@@ -150,40 +151,38 @@ static void keep_the_bus(void)
     expect("the bus after both", audit.channel.bus_free, 36240);
 }
 
-static void begin_refused(const char *what, const onfi_channel *channel, const onfi_lun *luns, size_t count, uint32_t status)
+static void begin_refused(const char *what, const onfi_channel *channel, uint32_t status)
 {
-    static const onfi_lengths none;
     onfi_audit audit, before;
     memset(&audit, 0, sizeof audit);
     before = audit;
-    expect(what, onfi_audit_begin(channel, luns, count, &audit), status);
-    expect(what, onfi_audit_begin_by(&none, channel, luns, count, &audit), status);
+    expect(what, onfi_audit_begin(channel, &audit), status);
     expect(what, memcmp(&before, &audit, sizeof before), 0);
 }
 
 static void refuse_each(void)
 {
     onfi_channel channel = usual;
-    channel.timing.erase.post = 0, begin_refused("zero", &channel, idle, 2, ONFI_ZERO_SPAN);
-    channel = usual, channel.timing.read.gap = UINT64_C(1) << 50, begin_refused("long", &channel, idle, 2, ONFI_LONG_SPAN);
-    channel = usual, channel.rules.plane_bits = 3, begin_refused("bits", &channel, idle, 2, ONFI_BAD_PLANE_BITS);
-    channel = usual, channel.bus_free = UINT64_C(1) << 62, begin_refused("clock", &channel, idle, 2, ONFI_CLOCK);
-    begin_refused("no LUN", &usual, idle, 0, ONFI_TOO_MANY);
-    onfi_lun many[9] = {{0}};
-    begin_refused("nine LUNs", &usual, many, 9, ONFI_TOO_MANY);
-    many[0].members = 5, begin_refused("members", &usual, many, 1, ONFI_BAD_MEMBERS);
-    many[0].members = 1, begin_refused("next", &usual, many, 1, ONFI_BAD_LUN);
-    many[0].next = 1, many[0].member[0].kind = 3, begin_refused("kind", &usual, many, 1, ONFI_BAD_KIND);
+    channel.timing.erase.post = 0, begin_refused("zero", &channel, ONFI_ZERO_SPAN);
+    channel = usual, channel.timing.read.gap = UINT64_C(1) << 50, begin_refused("long", &channel, ONFI_LONG_SPAN);
+    channel = usual, channel.rules.plane_bits = 3, begin_refused("bits", &channel, ONFI_BAD_PLANE_BITS);
+    channel = usual, channel.bus_free = UINT64_C(1) << 62, begin_refused("clock", &channel, ONFI_CLOCK);
+    channel = usual, channel.lun_count = 0, begin_refused("no LUN", &channel, ONFI_TOO_MANY);
+    channel.lun_count = 9, channel.timing.read.cmd = 0, begin_refused("nine LUNs", &channel, ONFI_TOO_MANY);
+    channel = usual, channel.lun[0].members = 5, begin_refused("members", &channel, ONFI_BAD_MEMBERS);
+    channel.lun[0].members = 1, begin_refused("next", &channel, ONFI_BAD_LUN);
+    channel.lun[0].next = 1, channel.lun[0].member[0].kind = 3, begin_refused("kind", &channel, ONFI_BAD_KIND);
+    channel = usual, channel.lengths.sectors[6] = UINT64_MAX, begin_refused("long sectors", &channel, ONFI_LONG_SPAN);
 
     onfi_audit audit = begun();
     onfi_phase phase = command(0, 0, ONFI_READ, 0, 0);
-    audit.luns = 9, refuses("nine LUNs kept", audit, phase, ONFI_TOO_MANY);
+    audit.channel.lun_count = 9, refuses("nine LUNs kept", audit, phase, ONFI_TOO_MANY);
     audit = begun(), audit.channel.timing.read.cmd = 0, refuses("zero kept", audit, phase, ONFI_ZERO_SPAN);
     audit = begun(), audit.channel.timing.read.cmd = UINT64_MAX, refuses("long kept", audit, phase, ONFI_LONG_SPAN);
-    audit = begun(), audit.lengths.sectors[6] = UINT64_MAX, refuses("long sectors kept", audit, phase, ONFI_LONG_SPAN);
+    audit = begun(), audit.channel.lengths.sectors[6] = UINT64_MAX, refuses("long sectors kept", audit, phase, ONFI_LONG_SPAN);
     audit = begun(), audit.channel.rules.plane_bits = 255, refuses("bits kept", audit, phase, ONFI_BAD_PLANE_BITS);
-    audit = begun(), audit.lun[1].lun.members = 255, refuses("members kept", audit, phase, ONFI_BAD_MEMBERS);
-    audit = begun(), audit.lun[1].lun.members = 1, audit.lun[1].lun.member[0].kind = 3, refuses("kind kept", audit, phase, ONFI_BAD_KIND);
+    audit = begun(), audit.channel.lun[1].members = 255, refuses("members kept", audit, phase, ONFI_BAD_MEMBERS);
+    audit = begun(), audit.channel.lun[1].members = 1, audit.channel.lun[1].member[0].kind = 3, refuses("kind kept", audit, phase, ONFI_BAD_KIND);
     audit = begun(), audit.accepted = UINT64_MAX, refuses("no number left", audit, phase, ONFI_TOO_MANY);
     audit = begun();
     phase.kind = 3, refuses("kind", audit, phase, ONFI_BAD_KIND);
@@ -196,9 +195,10 @@ static void refuse_each(void)
 /* Reads of three sectors of a page, where these have a length. */
 static void judge_sectors(void)
 {
-    static const onfi_lengths lengths = {{0, 0, 4000}};
+    onfi_channel channel = usual;
     onfi_audit audit;
-    expect("begin with lengths", onfi_audit_begin_by(&lengths, &usual, idle, 2, &audit), ONFI_DONE);
+    channel.lengths.sectors[2] = 4000;
+    expect("begin with lengths", onfi_audit_begin(&channel, &audit), ONFI_DONE);
     legal("three sectors", &audit, command(0, 0, ONFI_KIND(ONFI_READ, 3), 0, 0), 0);
     legal("their post", &audit, post(25240, 0, ONFI_READ, 0, 0), 1);
     expect("its end", audit.channel.bus_free, 29240);
@@ -217,7 +217,7 @@ static void tell_ready(void)
     expect("sooner", onfi_audit_ready(&audit, 1, 20000), ONFI_DONE);
     expect("a free one", onfi_audit_ready(&audit, 0, 0), ONFI_DONE);
     legal("its post", &audit, post(20000, 1, ONFI_READ, 0, 0), 1);
-    audit.luns = 200;
+    audit.channel.lun_count = 200;
     expect("LUNs", onfi_audit_ready(&audit, 1, 0), ONFI_TOO_MANY);
 }
 

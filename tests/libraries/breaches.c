@@ -17,9 +17,8 @@ static void expect(const char *what, uint64_t got, uint64_t wanted)
 
 typedef struct {
     onfi_channel channel;
-    onfi_lun luns[2];
     onfi_want wants[3];
-    size_t lun_count, want_count;
+    size_t want_count;
     onfi_schedule schedule;
 } problem;
 
@@ -28,9 +27,10 @@ static problem usual(void)
 {
     return (problem){
         .channel = {.timing = {.read = {140, 600, 25100, 11000}, .program = {10800, 600, 200100, 280}, .erase = {100, 600, 1500100, 280}},
-                    .rules = {.read = true, .write = true, .plane_bits = 1}},
+                    .rules = {.read = true, .write = true, .plane_bits = 1},
+                    .lun_count = 2},
         .wants = {{.id = 0, .page = 5}, {.id = 1, .block = 1, .page = 5}, {.id = 2, .lun = 1}},
-        .lun_count = 2, .want_count = 3,
+        .want_count = 3,
         .schedule = {.luns = 2, .groups = 2, .group = {{1, {2}, {0, 25240}}, {2, {0, 1}, {140, 880, 36240, 47240}}}},
     };
 }
@@ -39,13 +39,13 @@ static problem usual(void)
 static problem running(void)
 {
     problem p = usual();
-    p.luns[1] = (onfi_lun){.since = 1000, .members = 1, .next = 1, .member = {{.id = 9, .kind = ONFI_ERASE, .lun = 1, .block = 3}}};
+    p.channel.lun[1] = (onfi_lun){.since = 1000, .members = 1, .next = 1, .member = {{.id = 9, .kind = ONFI_ERASE, .lun = 1, .block = 3}}};
     p.schedule.rest[1] = (onfi_rest){1, {2000}};
     p.schedule.group[0] = (onfi_group){1, {2}, {2280, 58240}};
     return p;
 }
 
-#define SAID(p) &(p)->channel, (p)->luns, (p)->lun_count, (p)->wants, (p)->want_count
+#define SAID(p) &(p)->channel, (p)->wants, (p)->want_count
 
 static void expect_named(const char *what, const onfi_named *got, const onfi_named *wanted)
 {
@@ -72,10 +72,9 @@ static void expect_broken(const char *what, const onfi_broken *got, const onfi_b
     expect(what, got->difference, wanted->difference);
 }
 
-/* The schedule breaks that, by the call with lengths too; or is legal. The check of a certificate says no more than whether it is. */
+/* The schedule breaks that, or is legal. The check of a certificate says no more than whether it is. */
 static void breaks(const char *what, const problem *p, onfi_broken wanted)
 {
-    static const onfi_lengths none;
     static const char *const texts[] = {"ONFICERT 3 remember\nX\n", "ONFICERT 4 strict remember\nX\n"};
     const char *text = texts[p->channel.rules.strict];
     uint32_t status = wanted.condition == ONFI_BREACH_NONE ? ONFI_DONE : ONFI_ILLEGAL;
@@ -84,10 +83,7 @@ static void breaks(const char *what, const problem *p, onfi_broken wanted)
     memset(&broken, 0xA5, sizeof broken);
     expect(what, onfi_breach(SAID(p), &p->schedule, &broken), status);
     expect_broken(what, &broken, &wanted);
-    memset(&broken, 0xA5, sizeof broken);
-    expect(what, onfi_breach_by(&none, SAID(p), &p->schedule, &broken), status);
-    expect_broken(what, &broken, &wanted);
-    uint32_t checked = onfi_check_within(SAID(p), &p->schedule, 0, (const uint8_t *)text, strlen(text), &verdict);
+    uint32_t checked = onfi_check(SAID(p), &p->schedule, 0, (const uint8_t *)text, strlen(text), &verdict);
     expect(what, checked == ONFI_ILLEGAL, status == ONFI_ILLEGAL);
 }
 
@@ -131,7 +127,7 @@ static void times(void)
     p.channel.bus_free = 10, breaks("the bus", &p, BROKEN(BUS_NOT_FREE, .phase = COMMAND_OF(2), .start = 0, .earliest = 10));
     p = usual(), p.schedule.group[1].start[0] = 100;
     breaks("two commands", &p, BROKEN(OVERLAP, .phase = COMMAND_OF(0), .start = 100, .other = COMMAND_OF(2), .held = 0, .earliest = 140));
-    p = running(), p.luns[1].since = 2001;
+    p = running(), p.channel.lun[1].since = 2001;
     breaks("a status", &p, BROKEN(NOT_READY, .phase = STATUS_OF_RUNNING, .lun = 1, .start = 2000, .earliest = 2001));
     p = usual(), p.schedule.group[0].start[1] = 25239;
     breaks("the array", &p, BROKEN(WAIT_TOO_SHORT, .phase = OUTPUT_OF(2), .other = COMMAND_OF(2), .lun = 1, .start = 25239, .earliest = 25240));
@@ -141,7 +137,7 @@ static void times(void)
     breaks("before an erase is over", &p, BROKEN(RUNNING_GROUP_LEFT, .phase = COMMAND_OF(2), .lun = 1, .start = 0, .earliest = 2280));
     p = usual(), p.schedule.groups = 3, p.schedule.group[1] = (onfi_group){1, {0}, {140, 36240}}, p.schedule.group[2] = (onfi_group){1, {1}, {880, 47240}};
     breaks("two groups at once", &p, BROKEN(LUN_TAKEN, .phase = COMMAND_OF(1), .other_want = 0, .lun = 0, .start = 880, .held = 140, .earliest = 47240));
-    p = usual(), p.luns[1].since = 5, breaks("a LUN", &p, BROKEN(LUN_NOT_FREE, .phase = COMMAND_OF(2), .lun = 1, .start = 0, .earliest = 5));
+    p = usual(), p.channel.lun[1].since = 5, breaks("a LUN", &p, BROKEN(LUN_NOT_FREE, .phase = COMMAND_OF(2), .lun = 1, .start = 0, .earliest = 5));
     p = usual(), p.wants[1].block = 0, p.schedule.groups = 3;
     p.schedule.group[1] = (onfi_group){1, {1}, {140, 36240}}, p.schedule.group[2] = (onfi_group){1, {0}, {47240, 72480}};
     breaks("one block", &p, BROKEN(BLOCK_ORDER, .want = 1, .other_want = 0, .start = 140, .earliest = 83480));
@@ -150,49 +146,44 @@ static void times(void)
 /* By lengths the output of a sector ends before that of a page would. */
 static void sectors(void)
 {
-    static const onfi_lengths lengths = {.sectors = {3080}};
     problem p = usual();
     onfi_broken broken;
+    p.channel.lengths.sectors[0] = 3080;
     p.schedule.group[1].start[2] = 30000;
     breaks("an output within a page's", &p, BROKEN(OVERLAP, .phase = OUTPUT_OF(0), .start = 30000, .other = OUTPUT_OF(2), .held = 25240, .earliest = 36240));
     p.wants[2].kind = ONFI_KIND(ONFI_READ, 1);
-    expect("behind a sector's", onfi_breach_by(&lengths, SAID(&p), &p.schedule, &broken), ONFI_DONE);
+    expect("behind a sector's", onfi_breach(SAID(&p), &p.schedule, &broken), ONFI_DONE);
     p.schedule.group[1].start[2] = 28319;
-    expect("within a sector's", onfi_breach_by(&lengths, SAID(&p), &p.schedule, &broken), ONFI_ILLEGAL);
+    expect("within a sector's", onfi_breach(SAID(&p), &p.schedule, &broken), ONFI_ILLEGAL);
     expect_broken("within a sector's", &broken, &BROKEN(OVERLAP, .phase = OUTPUT_OF(0), .start = 28319, .other = OUTPUT_OF(2), .held = 25240, .earliest = 28320));
 }
 
 /* What is no problem or no schedule is refused, and nothing is told. */
-static void refuses(const char *what, const onfi_lengths *lengths, const problem *p, uint32_t wanted)
+static void refuses(const char *what, const problem *p, uint32_t wanted)
 {
     onfi_broken broken, before;
     memset(&broken, 0xA5, sizeof broken), memcpy(&before, &broken, sizeof broken);
-    uint32_t status = lengths ? onfi_breach_by(lengths, SAID(p), &p->schedule, &broken) : onfi_breach(SAID(p), &p->schedule, &broken);
-    expect(what, status, wanted);
+    expect(what, onfi_breach(SAID(p), &p->schedule, &broken), wanted);
     expect(what, (uint64_t)memcmp(&broken, &before, sizeof broken), 0);
 }
 
 static void refusals(void)
 {
-    static const onfi_lengths none, late = {.sectors = {UINT64_C(1) << 50}};
-    for (unsigned by = 0; by < 2; by++) {
-        const onfi_lengths *lengths = by ? &none : NULL;
-        problem p = usual();
-        p.channel.timing.read.cmd = 0, refuses("no length", lengths, &p, ONFI_ZERO_SPAN);
-        p = usual(), p.channel.timing.erase.gap = UINT64_C(1) << 50, refuses("a long wait", lengths, &p, ONFI_LONG_SPAN);
-        p = usual(), p.channel.rules.plane_bits = 3, refuses("plane bits", lengths, &p, ONFI_BAD_PLANE_BITS);
-        p = running(), p.luns[1].members = 5, refuses("five members", lengths, &p, ONFI_BAD_MEMBERS);
-        p = usual(), p.wants[2].kind = 3, refuses("a kind", lengths, &p, ONFI_BAD_KIND);
-        p = usual(), p.lun_count = 0, refuses("no LUN", lengths, &p, ONFI_TOO_MANY);
-        p = usual(), p.wants[1].id = 0, refuses("equal ids", lengths, &p, ONFI_BAD_LUN);
-        p = usual(), p.wants[2].kind = ONFI_KIND(ONFI_READ, 1), refuses("a sector", lengths, &p, by ? ONFI_NO_LENGTHS : ONFI_BAD_KIND);
-        p = usual(), p.channel.bus_free = UINT64_MAX, refuses("the end of time", lengths, &p, ONFI_CLOCK);
-        p = usual(), p.schedule.group[1].members = 0, refuses("no member", lengths, &p, ONFI_BAD_SCHEDULE);
-        p = usual(), p.schedule.group[1].start[3] = UINT64_C(1) << 63, refuses("a late start", lengths, &p, ONFI_BAD_SCHEDULE);
-        p = usual(), p.schedule.groups = 9, refuses("nine groups", lengths, &p, ONFI_BAD_SCHEDULE);
-    }
     problem p = usual();
-    refuses("a long post of a sector", &late, &p, ONFI_LONG_SPAN);
+    p.channel.timing.read.cmd = 0, refuses("no length", &p, ONFI_ZERO_SPAN);
+    p = usual(), p.channel.timing.erase.gap = UINT64_C(1) << 50, refuses("a long wait", &p, ONFI_LONG_SPAN);
+    p = usual(), p.channel.rules.plane_bits = 3, refuses("plane bits", &p, ONFI_BAD_PLANE_BITS);
+    p = running(), p.channel.lun[1].members = 5, refuses("five members", &p, ONFI_BAD_MEMBERS);
+    p = usual(), p.wants[2].kind = 3, refuses("a kind", &p, ONFI_BAD_KIND);
+    p = usual(), p.channel.lun_count = 0, refuses("no LUN", &p, ONFI_TOO_MANY);
+    p = usual(), p.wants[1].id = 0, refuses("equal ids", &p, ONFI_BAD_LUN);
+    p = usual(), p.wants[2].kind = ONFI_KIND(ONFI_READ, 1), refuses("a sector", &p, ONFI_NO_LENGTHS);
+    p = usual(), p.channel.bus_free = UINT64_MAX, refuses("the end of time", &p, ONFI_CLOCK);
+    p = usual(), p.schedule.group[1].members = 0, refuses("no member", &p, ONFI_BAD_SCHEDULE);
+    p = usual(), p.schedule.group[1].start[3] = UINT64_C(1) << 63, refuses("a late start", &p, ONFI_BAD_SCHEDULE);
+    p = usual(), p.schedule.groups = 9, refuses("nine groups", &p, ONFI_BAD_SCHEDULE);
+    p = usual(), p.channel.lengths.sectors[0] = UINT64_C(1) << 50, refuses("a long post of a sector", &p, ONFI_LONG_SPAN);
+    p = usual(), p.channel.lun_count = 9, refuses("nine LUNs", &p, ONFI_TOO_MANY);
 }
 
 int main(void)

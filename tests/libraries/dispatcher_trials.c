@@ -12,7 +12,7 @@
  *
  *   dispatcher_trials loops|one-lun|plans PROGRAMS SEED
  */
-#include <onfi.h>
+#include "options.h"
 
 #include <inttypes.h>
 #include <stdio.h>
@@ -21,9 +21,6 @@
 
 static uint64_t state;
 static onfi_channel channel;
-static onfi_lengths lengths;
-static onfi_lun luns[ONFI_LUNS];
-static size_t lun_count;
 static const onfi_geometry geometry = {.blocks_per_lun = 1000, .page_bits = 2, .block_bits = 10, .lun_bits = 3, .pages_per_block = 3, .data_bytes = 4096,
                                        .spare_bytes = 128, .lun_count = 7, .plane_address_bits = 2, .column_address_cycles = 2, .row_address_cycles = 3};
 
@@ -45,11 +42,11 @@ static void print_spans(const onfi_spans *s)
 
 static void print_luns(void)
 {
-    printf(" %" PRIu64 " %zu", channel.bus_free, lun_count);
-    for (size_t at = 0; at < lun_count; at++) {
-        printf(" %" PRIu64 " %u %u", luns[at].since, luns[at].next, luns[at].members);
-        for (unsigned member = 0; member < luns[at].members; member++)
-            print_want(&luns[at].member[member]);
+    printf(" %" PRIu64 " %u", channel.bus_free, channel.lun_count);
+    for (size_t at = 0; at < channel.lun_count; at++) {
+        printf(" %" PRIu64 " %u %u", channel.lun[at].since, channel.lun[at].next, channel.lun[at].members);
+        for (unsigned member = 0; member < channel.lun[at].members; member++)
+            print_want(&channel.lun[at].member[member]);
     }
 }
 
@@ -61,7 +58,7 @@ static void print_begin(void)
     print_spans(&channel.timing.program);
     print_spans(&channel.timing.erase);
     for (unsigned at = 0; at < ONFI_SECTORS; at++)
-        printf(" %" PRIu64, lengths.sectors[at]);
+        printf(" %" PRIu64, channel.lengths.sectors[at]);
     printf(" %" PRIu32 " %u %u", geometry.blocks_per_lun, geometry.pages_per_block, geometry.lun_count);
     print_luns();
     printf("\n");
@@ -75,7 +72,7 @@ static onfi_spans drawn_spans(uint32_t post)
 /* What runs as a channel begins: up to as many members as there are planes, where they may run as one. */
 static void draw_running(size_t number)
 {
-    onfi_lun *lun = &luns[number];
+    onfi_lun *lun = &channel.lun[number];
     uint8_t kind = (uint8_t)drawn(3);
     bool may = kind == ONFI_READ ? channel.rules.read : channel.rules.write;
     lun->members = (uint8_t)(1 + (may ? drawn(1u << channel.rules.plane_bits) : 0));
@@ -86,16 +83,15 @@ static void draw_running(size_t number)
 
 static void draw_channel(bool one_lun, bool sectors)
 {
-    memset(luns, 0, sizeof luns);
-    memset(&lengths, 0, sizeof lengths);
-    lun_count = one_lun ? 1 : 1 + drawn(8);
+    memset(&channel, 0, sizeof channel);
+    channel.lun_count = (uint8_t)(one_lun ? 1 : 1 + drawn(8));
     channel.timing = (onfi_timing){drawn_spans(300), drawn_spans(20), drawn_spans(20)};
     channel.rules = (onfi_rules){drawn(4) != 0, one_lun || drawn(4) != 0, drawn(4) == 0, (uint8_t)drawn(3)};
     channel.bus_free = drawn(1000);
     for (unsigned at = 0; sectors && at < ONFI_SECTORS; at++)
-        lengths.sectors[at] = drawn(5) ? 1 + drawn(200) : 0;
-    for (size_t at = 0; at < lun_count; at++) {
-        luns[at].since = drawn(2000);
+        channel.lengths.sectors[at] = drawn(5) ? 1 + drawn(200) : 0;
+    for (size_t at = 0; at < channel.lun_count; at++) {
+        channel.lun[at].since = drawn(2000);
         if (at < geometry.lun_count && drawn(3) == 0)
             draw_running(at);
     }
@@ -105,13 +101,13 @@ static void draw_channel(bool one_lun, bool sectors)
 static onfi_want drawn_want(uint64_t id, bool sectors, bool one_lun)
 {
     uint8_t kind = (uint8_t)(drawn(10) < (one_lun ? 9 : 5) ? ONFI_READ : drawn(3) ? ONFI_PROGRAM : ONFI_ERASE);
-    onfi_want want = {id, kind, (uint8_t)drawn((uint32_t)lun_count), (uint16_t)drawn(one_lun ? 1000 : 12), (uint16_t)(kind == ONFI_ERASE ? 0 : drawn(3))};
+    onfi_want want = {id, kind, (uint8_t)drawn((uint32_t)channel.lun_count), (uint16_t)drawn(one_lun ? 1000 : 12), (uint16_t)(kind == ONFI_ERASE ? 0 : drawn(3))};
     if (sectors && kind == ONFI_READ && drawn(2))
         want.kind = ONFI_KIND(ONFI_READ, drawn(8));
     switch (drawn(60)) {
     case 0: want.page = (uint16_t)(3 + drawn(3)); break;
     case 1: want.block = (uint16_t)(1000 + drawn(3)); break;
-    case 2: want.lun = (uint8_t)(lun_count + drawn(3)); break;
+    case 2: want.lun = (uint8_t)(channel.lun_count + drawn(3)); break;
     case 3: want.kind = (uint8_t)drawn(256); break;
     case 4: want.id = drawn((uint32_t)id + 1) | 1; break;
     default: break;
@@ -150,7 +146,7 @@ static void try_seldom(onfi_dispatcher *dispatcher, uint64_t id, uint64_t now, b
 {
     onfi_want again = drawn_want(drawn((uint32_t)id) & ~UINT32_C(1), sectors, false);
     uint64_t other = drawn((uint32_t)id) & ~UINT64_C(1);
-    uint8_t lun = (uint8_t)drawn((uint32_t)lun_count + 1);
+    uint8_t lun = (uint8_t)drawn((uint32_t)channel.lun_count + 1);
     uint64_t moment = now + drawn(300);
     switch (drawn(6)) {
     case 0: print_taken(2, dispatcher, &again); break;
@@ -166,7 +162,7 @@ static void try_loop(bool one_lun, uint64_t requests)
     static onfi_dispatcher dispatcher;
     bool sectors = drawn(2);
     draw_channel(one_lun, sectors);
-    if (onfi_dispatcher_begin(&dispatcher, &lengths, &channel, luns, lun_count, &geometry) != ONFI_DONE)
+    if (onfi_dispatcher_begin(&dispatcher, &channel, &geometry) != ONFI_DONE)
         exit(9);
     print_begin();
     uint64_t id = 4, now = 0;
@@ -213,14 +209,15 @@ static void print_plan(const onfi_schedule *schedule)
 static void try_plan(void)
 {
     onfi_want wants[ONFI_WANTS];
-    onfi_within plan;
+    const onfi_options options = options_by(ONFI_RULE, ONFI_NODES);
+    onfi_planned plan;
     size_t bytes, count = drawn(9);
     draw_channel(false, false);
     for (size_t at = 0; at < count; at++) {
         uint8_t kind = (uint8_t)drawn(3);
-        wants[at] = (onfi_want){at, kind, (uint8_t)drawn((uint32_t)lun_count), (uint16_t)drawn(8), (uint16_t)(kind == ONFI_ERASE ? 0 : drawn(2))};
+        wants[at] = (onfi_want){at, kind, (uint8_t)drawn((uint32_t)channel.lun_count), (uint16_t)drawn(8), (uint16_t)(kind == ONFI_ERASE ? 0 : drawn(2))};
     }
-    if (onfi_plan_rule(&channel, luns, lun_count, wants, count, &plan, NULL, 0, &bytes) != ONFI_DONE)
+    if (onfi_plan(&channel, wants, count, &options, &plan, NULL, 0, &bytes) != ONFI_DONE)
         exit(11);
     print_begin();
     printf("7");

@@ -17,10 +17,10 @@ def drawn_spans(draw: random.Random) -> Spans:
     return Spans(draw.randint(1, 300), draw.randint(0, 50), draw.choice((0, 40, 700, 3_000)), draw.randint(1, 300))
 
 
-def drawn_channel(draw: random.Random) -> Channel:
+def drawn_channel(draw: random.Random, luns: Sequence[Lun]) -> Channel:
     timing = Timing(drawn_spans(draw), drawn_spans(draw), drawn_spans(draw))
     rules = Rules(draw.random() < 0.8, draw.random() < 0.8, draw.random() < 0.2, draw.randint(0, 2))
-    return Channel(timing, rules, draw.randint(0, 1_000))
+    return Channel(timing, rules, luns, bus_free=draw.randint(0, 1_000))
 
 
 def drawn_geometry(draw: random.Random, luns: int, plane_bits: int) -> Geometry:
@@ -42,10 +42,10 @@ def drawn_want(draw: random.Random, number: int, geometry: Geometry) -> Want:
 class Drawing:
     """A schedule that is drawn phase by phase, each at the soonest or somewhat later."""
 
-    def __init__(self, draw: random.Random, channel: Channel, luns: Sequence[Lun], wants: Sequence[Want]) -> None:
+    def __init__(self, draw: random.Random, channel: Channel, wants: Sequence[Want]) -> None:
         self.draw, self.channel, self.bus_free = draw, channel, channel.bus_free
-        self.luns, self.waiting = list(luns), list(wants)
-        self.rest: List[List[int]] = [[] for _ in luns]
+        self.luns, self.waiting = list(channel.luns), list(wants)
+        self.rest: List[List[int]] = [[] for _ in channel.luns]
         self.groups: List[Tuple[List[Want], List[int]]] = []
         self.starts = list(self.rest)
 
@@ -96,5 +96,5 @@ class Drawing:
         return Schedule(tuple(map(tuple, self.rest)), groups)
 
 
-def drawn_schedule(draw: random.Random, channel: Channel, luns: Sequence[Lun], wants: Sequence[Want]) -> Schedule:
-    return Drawing(draw, channel, luns, wants).schedule()
+def drawn_schedule(draw: random.Random, channel: Channel, wants: Sequence[Want]) -> Schedule:
+    return Drawing(draw, channel, wants).schedule()

@@ -5,6 +5,7 @@ It is written from what include/onfi.h says of these calls, over the package's d
 
 from __future__ import annotations
 
+from dataclasses import replace
 from typing import Dict, List, NamedTuple, Sequence, Tuple
 
 from onfi import Channel, Geometry, Group, Kind, Lun, Phase, Rules, Schedule, Spans, Stand, Want
@@ -55,11 +56,11 @@ def wait_behind(spans: Spans, members: int, number: int) -> int:
 # What is left of a schedule.
 
 
-def parts_of(luns: Sequence[Lun], wants: Sequence[Want], schedule: Schedule) -> List[Part]:
+def parts_of(channel: Channel, wants: Sequence[Want], schedule: Schedule) -> List[Part]:
     """All phases that are left, the one that is due first in front."""
     by_id = {want.id: want for want in wants}
     found = []
-    for place, (lun, starts) in enumerate(zip(luns, schedule.rest)):
+    for place, (lun, starts) in enumerate(zip(channel.luns, schedule.rest)):
         found += [Part(start, False, place, lun.next + at, tuple(lun.members)) for at, start in enumerate(starts)]
     for place, group in enumerate(schedule.groups):
         members = tuple(by_id[number] for number in group.wants)
@@ -96,13 +97,13 @@ def later(starts: Sequence[int], by: int) -> Tuple[int, ...]:
     return tuple(start + by for start in starts)
 
 
-def stand_behind(channel: Channel, luns: Sequence[Lun], wants: Sequence[Want], schedule: Schedule, part: Part, started: int) -> Stand:
+def stand_behind(channel: Channel, wants: Sequence[Want], schedule: Schedule, part: Part, started: int) -> Stand:
     """What stands after the due phase, which began at `started`."""
     spans, members, lun = spans_of(channel, part.want.kind), len(part.members), part.want.lun
     end = started + length_of(spans, members, part.number)
     ready = end + wait_behind(spans, members, part.number)
     is_over = part.number + 1 == 2 * members
-    new_luns = list(luns)
+    new_luns = list(channel.luns)
     new_luns[lun] = Lun(ready) if is_over else Lun(ready, part.members, part.number + 1)
     begun = {want.id for want in part.members} if part.is_new else set()
     left = [(place, group) for place, group in enumerate(schedule.groups) if not (part.is_new and place == part.place)]
@@ -110,8 +111,8 @@ def stand_behind(channel: Channel, luns: Sequence[Lun], wants: Sequence[Want], s
     of_group = schedule.groups[part.place].starts if part.is_new else schedule.rest[lun]
     rest[lun] = later(of_group[1:], started - part.start)
     groups = tuple(Group(tuple(group.wants), later(group.starts, started - part.start)) for _, group in left)
-    new_channel = Channel(channel.timing, channel.rules, end)
-    return Stand(new_channel, new_luns, [want for want in wants if want.id not in begun], Schedule(tuple(rest), groups))
+    new_channel = replace(channel, luns=new_luns, bus_free=end)
+    return Stand(new_channel, [want for want in wants if want.id not in begun], Schedule(tuple(rest), groups))
 
 
 def can_join(rules: Rules, one: Want, other: Want) -> bool:

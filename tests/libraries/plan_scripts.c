@@ -7,9 +7,10 @@ static uint8_t certificate[1 << 22];
 
 static uint32_t plan_of(const problem *p)
 {
+    static const onfi_options options = ONFI_OPTIONS;
     onfi_planned plan;
     size_t bytes;
-    return onfi_plan(&p->channel, p->luns, p->lun_count, p->wants, p->want_count, ONFI_NODES, &plan, certificate, sizeof certificate, &bytes);
+    return onfi_plan(&p->channel, p->wants, p->want_count, &options, &plan, certificate, sizeof certificate, &bytes);
 }
 
 int main(int count, char **words)

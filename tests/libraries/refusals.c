@@ -1,5 +1,5 @@
 /* Refused calls, each by its number, and what they leave as it was. */
-#include <onfi.h>
+#include "options.h"
 
 #include <stdio.h>
 #include <stdlib.h>
@@ -18,9 +18,8 @@ static void expect(const char *what, uint64_t got, uint64_t wanted)
 
 typedef struct {
     onfi_channel channel;
-    onfi_lun luns[9];
     onfi_want wants[9];
-    size_t lun_count, want_count;
+    size_t want_count;
     uint32_t limit;
 } problem;
 
@@ -29,25 +28,29 @@ static problem usual(void)
 {
     problem p = {
         .channel = {.timing = {.read = {140, 600, 25100, 11000}, .program = {10800, 600, 200100, 280}, .erase = {100, 600, 1500100, 280}},
-                    .rules = {.read = true, .write = true, .plane_bits = 1}},
-        .lun_count = 2, .want_count = 2, .limit = ONFI_NODES,
+                    .rules = {.read = true, .write = true, .plane_bits = 1},
+                    .lun_count = 2},
+        .want_count = 2, .limit = ONFI_NODES,
     };
-    p.luns[1] = (onfi_lun){.since = 1000, .members = 1, .next = 1, .member = {{.kind = ONFI_ERASE, .lun = 1, .block = 3}}};
+    p.channel.lun[1] = (onfi_lun){.since = 1000, .members = 1, .next = 1, .member = {{.kind = ONFI_ERASE, .lun = 1, .block = 3}}};
     for (unsigned at = 0; at < 9; at++)
         p.wants[at] = (onfi_want){.id = 7 + at, .kind = ONFI_READ, .lun = (uint8_t)(at & 1), .block = (uint16_t)at};
     return p;
 }
 
-static uint32_t plan_of(const problem *p, onfi_planned *plan, uint8_t *certificate, size_t room, size_t *bytes)
+static uint32_t plan_by(uint8_t by, const problem *p, onfi_planned *plan, void *certificate, size_t room, size_t *bytes)
 {
-    return onfi_plan(&p->channel, p->luns, p->lun_count, p->wants, p->want_count, p->limit, plan, certificate, room, bytes);
+    const onfi_options options = options_by(by, p->limit);
+    return onfi_plan(&p->channel, p->wants, p->want_count, &options, plan, (uint8_t *)certificate, room, bytes);
 }
 
-typedef uint32_t plan_call(const onfi_channel *, const onfi_lun *, size_t, const onfi_want *, size_t, uint32_t, onfi_planned *, uint8_t *, size_t, size_t *);
-typedef uint32_t check_call(const onfi_channel *, const onfi_lun *, size_t, const onfi_want *, size_t, const onfi_schedule *, const uint8_t *, size_t, onfi_verdict *);
+static uint32_t plan_of(const problem *p, onfi_planned *plan, void *certificate, size_t room, size_t *bytes)
+{
+    return plan_by(ONFI_PLAIN, p, plan, certificate, room, bytes);
+}
 
 /* A refused plan leaves all as it was, and there is no certificate. */
-static void refuses_plan(const char *what, plan_call *call, const problem *p, uint32_t wanted)
+static void refuses_plan(const char *what, const onfi_options *options, const problem *p, uint32_t wanted)
 {
     onfi_planned plan, before;
     uint8_t certificate[64], room[64];
@@ -56,68 +59,31 @@ static void refuses_plan(const char *what, plan_call *call, const problem *p, ui
     memset(certificate, 0x5A, sizeof certificate);
     memcpy(&before, &plan, sizeof plan);
     memcpy(room, certificate, sizeof room);
-    expect(what, call(&p->channel, p->luns, p->lun_count, p->wants, p->want_count, p->limit, &plan, certificate, sizeof certificate, &bytes), wanted);
+    expect(what, onfi_plan(&p->channel, p->wants, p->want_count, options, &plan, certificate, sizeof certificate, &bytes), wanted);
     expect(what, bytes, 0);
     expect(what, (uint64_t)memcmp(&plan, &before, sizeof plan), 0);
     expect(what, (uint64_t)memcmp(room, certificate, sizeof room), 0);
 }
 
-static void refuses_check(const char *what, check_call *call, const problem *p, uint32_t wanted)
+static void refuses_check(const char *what, const problem *p, uint32_t wanted)
 {
     static const uint8_t certificate[64];
     const onfi_schedule none = {.luns = 2};
     onfi_verdict verdict = {1, 1};
-    expect(what, call(&p->channel, p->luns, p->lun_count, p->wants, p->want_count, &none, certificate, sizeof certificate, &verdict), wanted);
+    expect(what, onfi_check(&p->channel, p->wants, p->want_count, &none, 0, certificate, sizeof certificate, &verdict), wanted);
     expect(what, verdict.finish + verdict.place, 0);
 }
 
-static uint32_t within_of(const problem *p, onfi_within *plan, uint8_t *certificate, size_t room, size_t *bytes)
-{
-    return onfi_plan_within(&p->channel, p->luns, p->lun_count, p->wants, p->want_count, p->limit, plan, certificate, room, bytes);
-}
-
-static uint32_t rule_of(const problem *p, onfi_within *plan, uint8_t *certificate, size_t room, size_t *bytes)
-{
-    return onfi_plan_rule(&p->channel, p->luns, p->lun_count, p->wants, p->want_count, plan, certificate, room, bytes);
-}
-
-static void refuses_within(const char *what, const problem *p, uint32_t wanted)
-{
-    static const uint8_t certificate[64];
-    const onfi_schedule none = {.luns = 2};
-    onfi_verdict verdict = {1, 1};
-    static const onfi_weights weights;
-    onfi_within plan, before;
-    size_t bytes = 1;
-    memset(&plan, 0xA5, sizeof plan);
-    memcpy(&before, &plan, sizeof plan);
-    expect(what, within_of(p, &plan, NULL, 0, &bytes), wanted);
-    expect(what, bytes, 0);
-    expect(what, (uint64_t)memcmp(&plan, &before, sizeof plan), 0);
-    bytes = 1;
-    expect(what, onfi_plan_early(&p->channel, p->luns, p->lun_count, p->wants, p->want_count, p->limit, &weights, 20, &plan, NULL, 0, &bytes), wanted);
-    expect(what, bytes, 0);
-    expect(what, (uint64_t)memcmp(&plan, &before, sizeof plan), 0);
-    if (wanted == ONFI_BAD_LIMIT)
-        return;
-    bytes = 1;
-    expect(what, rule_of(p, &plan, NULL, 0, &bytes), wanted);
-    expect(what, bytes, 0);
-    expect(what, (uint64_t)memcmp(&plan, &before, sizeof plan), 0);
-    expect(what, onfi_check_within(&p->channel, p->luns, p->lun_count, p->wants, p->want_count, &none, 0, certificate, sizeof certificate, &verdict), wanted);
-    expect(what, verdict.finish + verdict.place, 0);
-}
-
-/* By plain certificates, by those that remember states, within a limit, and by the rule. */
+/* In each way, early or not, and by the check. */
 static void refuses(const char *what, const problem *p, uint32_t wanted)
 {
-    refuses_plan(what, onfi_plan, p, wanted);
-    refuses_plan(what, onfi_plan_known, p, wanted);
-    refuses_within(what, p, wanted);
-    if (wanted == ONFI_BAD_LIMIT)
-        return;
-    refuses_check(what, onfi_check, p, wanted);
-    refuses_check(what, onfi_check_known, p, wanted);
+    for (uint8_t by = ONFI_PLAIN; by <= ONFI_RULE; by++) {
+        const onfi_options options = options_by(by, p->limit), early = options_early(by, p->limit);
+        refuses_plan(what, &options, p, wanted);
+        refuses_plan(what, &early, p, wanted);
+    }
+    if (wanted != ONFI_BAD_LIMIT)
+        refuses_check(what, p, wanted);
 }
 
 static void channels(void)
@@ -125,24 +91,27 @@ static void channels(void)
     problem p = usual();
     p.limit = 0, refuses("limit 0", &p, ONFI_BAD_LIMIT);
     p.limit = ONFI_NODES + 1, refuses("a limit too high", &p, ONFI_BAD_LIMIT);
-    p.limit = 1, refuses_plan("one node", onfi_plan, &p, ONFI_OVER);
+    const onfi_options one = options_by(ONFI_PLAIN, 1), other = options_by(3, 0);
+    p = usual(), refuses_plan("one node", &one, &p, ONFI_OVER);
+    p.channel.lun_count = 9, refuses_plan("another way", &other, &p, ONFI_BAD_BY);
     p = usual(), p.channel.timing.read.cmd = 0, refuses("no command", &p, ONFI_ZERO_SPAN);
     p = usual(), p.channel.timing.erase.post = 0, refuses("no post", &p, ONFI_ZERO_SPAN);
     p = usual(), p.channel.timing.program.gap = UINT64_C(1) << 50, refuses("a long gap", &p, ONFI_LONG_SPAN);
     p.channel.timing.erase.cmd = 0, refuses("the first kind is told", &p, ONFI_LONG_SPAN);
     p = usual(), p.channel.rules.plane_bits = 3, refuses("three plane bits", &p, ONFI_BAD_PLANE_BITS);
-    p = usual(), p.luns[1].members = 5, refuses("five members", &p, ONFI_BAD_MEMBERS);
-    p.luns[1].members = 255, refuses("255 members", &p, ONFI_BAD_MEMBERS);
-    p = usual(), p.luns[1].member[0].kind = 3, refuses("a running kind", &p, ONFI_BAD_KIND);
+    p = usual(), p.channel.lun[1].members = 5, refuses("five members", &p, ONFI_BAD_MEMBERS);
+    p.channel.lun[1].members = 255, refuses("255 members", &p, ONFI_BAD_MEMBERS);
+    p = usual(), p.channel.lun[1].member[0].kind = 3, refuses("a running kind", &p, ONFI_BAD_KIND);
     p = usual(), p.wants[1].kind = 255, refuses("a kind", &p, ONFI_BAD_KIND);
     p = usual(), p.want_count = 9, refuses("nine wants", &p, ONFI_TOO_MANY);
-    p = usual(), p.lun_count = 9, refuses("nine LUNs", &p, ONFI_TOO_MANY);
-    p = usual(), p.lun_count = 0, refuses("no LUN", &p, ONFI_TOO_MANY);
+    p = usual(), p.channel.lun_count = 9, refuses("nine LUNs", &p, ONFI_TOO_MANY);
+    p.channel.timing.read.cmd = 0, refuses("nine LUNs first", &p, ONFI_TOO_MANY);
+    p = usual(), p.channel.lun_count = 0, refuses("no LUN", &p, ONFI_TOO_MANY);
     p = usual(), p.wants[0].lun = 2, refuses("a LUN that isn't there", &p, ONFI_BAD_LUN);
     p = usual(), p.wants[1].id = 7, refuses("equal ids", &p, ONFI_BAD_LUN);
     p.wants[1].id = 6, refuses("ids that fall", &p, ONFI_BAD_LUN);
-    p = usual(), p.luns[1].next = 2, refuses("a running group that is over", &p, ONFI_BAD_LUN);
-    p = usual(), p.luns[1].member[0].lun = 0, refuses("a running group of another LUN", &p, ONFI_BAD_LUN);
+    p = usual(), p.channel.lun[1].next = 2, refuses("a running group that is over", &p, ONFI_BAD_LUN);
+    p = usual(), p.channel.lun[1].member[0].lun = 0, refuses("a running group of another LUN", &p, ONFI_BAD_LUN);
     p = usual(), p.channel.bus_free = UINT64_MAX, refuses("the end of time", &p, ONFI_CLOCK);
 }
 
@@ -167,7 +136,7 @@ static void rooms(void)
 
 static uint32_t check_of(const problem *p, const onfi_schedule *s, const char *certificate, size_t bytes, onfi_verdict *verdict)
 {
-    return onfi_check(&p->channel, p->luns, p->lun_count, p->wants, p->want_count, s, (const uint8_t *)certificate, bytes, verdict);
+    return onfi_check(&p->channel, p->wants, p->want_count, s, 0, (const uint8_t *)certificate, bytes, verdict);
 }
 
 static void refuses_schedule(const char *what, const onfi_schedule *s, uint32_t wanted)
@@ -184,7 +153,7 @@ static void schedules(void)
     char text[256];
     size_t bytes;
     onfi_verdict verdict;
-    expect("a plan", plan_of(&p, &plan, (uint8_t *)text, sizeof text, &bytes), ONFI_DONE);
+    expect("a plan", plan_of(&p, &plan, text, sizeof text, &bytes), ONFI_DONE);
     expect("is accepted", check_of(&p, &plan.schedule, text, bytes, &verdict), ONFI_DONE);
     expect("with its finish", verdict.finish, plan.finish);
     onfi_schedule s = plan.schedule;
@@ -216,12 +185,12 @@ static void remembered(void)
     onfi_verdict verdict;
     char text[256];
     size_t bytes;
-    p.luns[1] = (onfi_lun){.since = 0};
+    p.channel.lun[1] = (onfi_lun){.since = 0};
     for (unsigned at = 0; at < 2; at++)
         p.wants[at] = (onfi_want){.id = at, .kind = ONFI_ERASE, .lun = (uint8_t)at};
-    expect("a plan that remembers", onfi_plan_known(&p.channel, p.luns, 2, p.wants, 2, ONFI_NODES, &plan, (uint8_t *)text, sizeof text, &bytes), ONFI_DONE);
+    expect("a plan that remembers", plan_by(ONFI_WITHIN, &p, &plan, text, sizeof text, &bytes), ONFI_DONE);
     expect("with its finish", plan.finish, 1500760);
-#define KNOWN(tokens) onfi_check_known(&p.channel, p.luns, 2, p.wants, 2, &plan.schedule, (const uint8_t *)(tokens), strlen(tokens), &verdict)
+#define KNOWN(tokens) check_of(&p, &plan.schedule, tokens, strlen(tokens), &verdict)
     text[bytes] = 0;
     expect("its certificate", KNOWN(text), ONFI_DONE);
     expect("shows it", verdict.finish, 1500760);
@@ -229,57 +198,67 @@ static void remembered(void)
     expect("a node that is open", KNOWN("ONFICERT 3 remember\nB2 B2 Y1 B2 B1 X B1 X B2 R4 Y0\n"), ONFI_UNKNOWN_NODE);
     expect("at its place", verdict.place, 9);
     expect("a node with a status less", KNOWN("ONFICERT 3 remember\nB2 B2 Y1 B2 B1 X B1 X B2 R1 Y0\n"), ONFI_OTHER_LEFT);
-    expect("a plain certificate", KNOWN("ONFICERT 1\nL\n"), ONFI_BAD_HEADER);
+    expect("a plain certificate is read by its header", KNOWN("ONFICERT 1\nR0\n"), ONFI_BAD_TOKEN);
     expect("the other option", KNOWN("ONFICERT 4 strict remember\nL\n"), ONFI_OTHER_OPTION);
-    expect("where it isn't asked for", check_of(&p, &plan.schedule, text, bytes, &verdict), ONFI_BAD_HEADER);
 }
 
-/* Eight programs on four LUNs: one node shows less than the finish. */
-static void within(void)
+static uint32_t check_from(const problem *p, const onfi_planned *plan, uint64_t below, const char *text, size_t bytes, onfi_verdict *verdict)
+{
+    return onfi_check(&p->channel, p->wants, p->want_count, &plan->schedule, below, (const uint8_t *)text, bytes, verdict);
+}
+
+/* Eight programs on four LUNs, of which a search of one node shows less than the finish. */
+static problem programs(void)
 {
     problem p = usual();
-    onfi_within plan;
+    p.channel.lun[1] = (onfi_lun){.since = 0}, p.channel.lun_count = 4, p.want_count = 8, p.limit = 1;
+    for (unsigned at = 0; at < 8; at++)
+        p.wants[at] = (onfi_want){.id = at, .kind = ONFI_PROGRAM, .lun = (uint8_t)(at & 3), .block = (uint16_t)at};
+    return p;
+}
+
+static void within(void)
+{
+    problem p = programs();
+    onfi_planned plan, ruled;
     onfi_verdict verdict;
     char text[256];
     size_t bytes;
-    p.luns[1] = (onfi_lun){.since = 0}, p.lun_count = 4, p.want_count = 8, p.limit = 1;
-    for (unsigned at = 0; at < 8; at++)
-        p.wants[at] = (onfi_want){.id = at, .kind = ONFI_PROGRAM, .lun = (uint8_t)(at & 3), .block = (uint16_t)at};
-    expect("a plan of one node", within_of(&p, &plan, (uint8_t *)text, sizeof text, &bytes), ONFI_DONE);
+    expect("a plan of one node", plan_by(ONFI_WITHIN, &p, &plan, text, sizeof text, &bytes), ONFI_DONE);
     expect("that isn't proved optimal", plan.below < plan.finish, 1);
-#define WITHIN(time, text, bytes) onfi_check_within(&p.channel, p.luns, 4, p.wants, 8, &plan.schedule, time, (const uint8_t *)(text), bytes, &verdict)
-    expect("its certificate", WITHIN(plan.below, text, bytes), ONFI_DONE);
+    expect("its certificate", check_from(&p, &plan, plan.below, text, bytes, &verdict), ONFI_DONE);
     expect("and its finish", verdict.finish, plan.finish);
-    expect("shows an earlier time too", WITHIN(plan.below - 1, text, bytes), ONFI_DONE);
-    expect("and no later one", WITHIN(plan.below + 1, text, bytes), ONFI_BOUND_LOW);
+    expect("shows an earlier time too", check_from(&p, &plan, plan.below - 1, text, bytes, &verdict), ONFI_DONE);
+    expect("and no later one", check_from(&p, &plan, plan.below + 1, text, bytes, &verdict), ONFI_BOUND_LOW);
     expect("at its only token", verdict.place, 0);
-    expect("a time behind the end", WITHIN(plan.finish + 1, text, bytes), ONFI_ENDS_BEFORE);
+    expect("so not the finish", check_from(&p, &plan, 0, text, bytes, &verdict), ONFI_BOUND_LOW);
+    expect("a time behind the end", check_from(&p, &plan, plan.finish + 1, text, bytes, &verdict), ONFI_ENDS_BEFORE);
     expect("tells no finish", verdict.finish, 0);
+    expect("by the rule", plan_by(ONFI_RULE, &p, &ruled, NULL, 0, &bytes), ONFI_DONE);
+    expect("it ends no sooner", plan.finish <= ruled.finish, 1);
     plan.schedule.groups--;
-    expect("a want left out", WITHIN(plan.below, text, bytes), ONFI_ILLEGAL);
+    expect("a want left out", check_from(&p, &plan, plan.below, text, bytes, &verdict), ONFI_ILLEGAL);
 }
 
 /* The same programs by the rule: one token shows its time, and the room for it is asked for as by the others. */
 static void ruled(void)
 {
-    problem p = usual();
-    onfi_within plan, again;
+    problem p = programs();
+    onfi_planned plan, again;
     onfi_verdict verdict;
     char text[256] = {0}, one[1] = {0};
     size_t bytes, told;
-    p.luns[1] = (onfi_lun){.since = 0}, p.lun_count = 4, p.want_count = 8, p.limit = 0;
-    for (unsigned at = 0; at < 8; at++)
-        p.wants[at] = (onfi_want){.id = at, .kind = ONFI_PROGRAM, .lun = (uint8_t)(at & 3), .block = (uint16_t)at};
-    expect("a plan by the rule", rule_of(&p, &plan, (uint8_t *)text, sizeof text, &bytes), ONFI_DONE);
+    expect("a plan by the rule", plan_by(ONFI_RULE, &p, &plan, text, sizeof text, &bytes), ONFI_DONE);
+    expect("opened no node", plan.opened, 0);
     expect("its certificate is one token", strchr(text + strlen("ONFICERT 3 "), ' ') == NULL && text[bytes - 1] == '\n', 1);
-    expect("and shows its time", WITHIN(plan.below, text, bytes), ONFI_DONE);
+    expect("and shows its time", check_from(&p, &plan, plan.below, text, bytes, &verdict), ONFI_DONE);
     expect("and its finish", verdict.finish, plan.finish);
-    expect("and no later one", WITHIN(plan.below + 1, text, bytes), ONFI_BOUND_LOW);
-    expect("a byte of room", rule_of(&p, &again, (uint8_t *)one, 1, &told), ONFI_NO_ROOM);
+    expect("and no later one", check_from(&p, &plan, plan.below + 1, text, bytes, &verdict), ONFI_BOUND_LOW);
+    expect("a byte of room", plan_by(ONFI_RULE, &p, &again, one, 1, &told), ONFI_NO_ROOM);
     expect("the length", told, bytes);
     expect("the room is as it was", (uint64_t)one[0], 0);
     expect("the plan is there", again.finish, plan.finish);
-    expect("no room", rule_of(&p, &again, NULL, 0, &told), ONFI_DONE);
+    expect("no room", plan_by(ONFI_RULE, &p, &again, NULL, 0, &told), ONFI_DONE);
 }
 
 /* The phase that is due of a schedule of the usual problem, on a small device. */
@@ -289,7 +268,7 @@ static uint32_t due_of(const problem *p, const onfi_schedule *s, onfi_phase *pha
         .lun_count = 2, .plane_address_bits = 1, .pages_per_block = 4, .blocks_per_lun = 16, .page_bits = 2, .block_bits = 4, .lun_bits = 1,
         .column_address_cycles = 2, .row_address_cycles = 3, .data_bytes = 2048, .spare_bytes = 64,
     };
-    return onfi_due(&p->channel, p->luns, p->lun_count, p->wants, p->want_count, &geometry, s, phase);
+    return onfi_due(&p->channel, p->wants, p->want_count, &geometry, s, phase);
 }
 
 static void refuses_due(const char *what, const problem *p, const onfi_schedule *s, uint32_t wanted)
@@ -329,15 +308,14 @@ static void phases(void)
     s = read_and_status(5, 30000, 1000), s.group[0].want[0] = 9, refuses_due("a want that doesn't wait", &p, &s, ONFI_ILLEGAL);
     s = (onfi_schedule){.luns = 2}, refuses_due("nothing is left, and something waits", &p, &s, ONFI_ILLEGAL);
     p.want_count = 0, refuses_due("nothing is left, and something runs", &p, &s, ONFI_ILLEGAL);
-    p.luns[1].members = 0, refuses_due("nothing is left to do", &p, &s, ONFI_NOTHING_DUE);
+    p.channel.lun[1].members = 0, refuses_due("nothing is left to do", &p, &s, ONFI_NOTHING_DUE);
     s.luns = 9, refuses_due("nine LUNs", &p, &s, ONFI_BAD_SCHEDULE);
-    p.lun_count = 9, refuses_due("nine LUNs of the channel", &p, &s, ONFI_TOO_MANY);
+    p.channel.lun_count = 9, refuses_due("nine LUNs of the channel", &p, &s, ONFI_TOO_MANY);
 }
 
 /* One read, whose phases and waits take 36,240 ns, of a bus that is free so many ns before 2^62. */
 typedef struct {
     onfi_channel channel;
-    onfi_lun luns[1];
     onfi_want wants[ONFI_WANTS];
     size_t count;
     onfi_schedule left;
@@ -347,26 +325,29 @@ static last_read at_the_end(uint64_t before)
 {
     problem p = usual();
     last_read r = {.channel = p.channel, .wants = {p.wants[0]}, .count = 1};
+    const onfi_options options = ONFI_OPTIONS;
     onfi_planned plan;
     size_t bytes;
+    r.channel.lun_count = 1;
     r.channel.bus_free = (UINT64_C(1) << 62) - before;
     memset(&plan, 0, sizeof plan);
-    expect("a plan of the last read", onfi_plan(&r.channel, r.luns, 1, r.wants, 1, ONFI_NODES, &plan, NULL, 0, &bytes), ONFI_DONE);
+    expect("a plan of the last read", onfi_plan(&r.channel, r.wants, 1, &options, &plan, NULL, 0, &bytes), ONFI_DONE);
     r.left = plan.schedule;
     return r;
 }
 
 static uint32_t run_of(last_read *r, uint8_t number, uint64_t started)
 {
-    return onfi_ran(&r->channel, r->luns, 1, r->wants, &r->count, &r->left, 0, number, started);
+    return onfi_ran(&r->channel, r->wants, &r->count, &r->left, 0, number, started);
 }
 
 /* Whether the next calls take what stands there. */
 static uint32_t taken(const last_read *r)
 {
+    const onfi_options options = ONFI_OPTIONS;
     onfi_planned plan;
     size_t bytes;
-    return onfi_plan(&r->channel, r->luns, 1, r->wants, r->count, ONFI_NODES, &plan, NULL, 0, &bytes);
+    return onfi_plan(&r->channel, r->wants, r->count, &options, &plan, NULL, 0, &bytes);
 }
 
 static void refuses_run(const char *what, last_read *r, uint8_t number, uint64_t started, uint32_t wanted)
@@ -404,11 +385,11 @@ static void devices(void)
     uint64_t place = 9;
     memset(&device, 0xA5, sizeof device);
     memcpy(&before, &device, sizeof device);
-    expect("a short page", onfi_timing_of_page(page, 255, "", 0, &device, &place), ONFI_PAGE_SHORT);
+    expect("a short page", onfi_device_of_page(page, 255, "", 0, "", 0, 0, &device, &place), ONFI_PAGE_SHORT);
     expect("no place", place, 0);
-    expect("no copy", onfi_timing_of_page(page, sizeof page, "", 0, &device, &place), ONFI_NO_COPY);
-    expect("a short page, and strobes", onfi_timing_of_strobes(page, 255, "", 0, "tDQ", 3, &device, &place), ONFI_PAGE_SHORT);
-    expect("no copy, and strobes", onfi_timing_of_strobes(page, sizeof page, "", 0, "tDQ", 3, &device, &place), ONFI_NO_COPY);
+    expect("no copy", onfi_device_of_page(page, sizeof page, "", 0, "", 0, 0, &device, &place), ONFI_NO_COPY);
+    expect("a short page, and strobes", onfi_device_of_page(page, 255, "", 0, "tDQ", 3, 512, &device, &place), ONFI_PAGE_SHORT);
+    expect("no copy, and strobes", onfi_device_of_page(page, sizeof page, "", 0, "tDQ", 3, 512, &device, &place), ONFI_NO_COPY);
     expect("the device is as it was", (uint64_t)memcmp(&device, &before, sizeof device), 0);
 }
 
@@ -416,49 +397,50 @@ static const onfi_geometry SMALL = {
     .lun_count = 2, .plane_address_bits = 1, .pages_per_block = 4, .blocks_per_lun = 16, .page_bits = 2, .block_bits = 4, .lun_bits = 1,
     .column_address_cycles = 2, .row_address_cycles = 3, .data_bytes = 2048, .spare_bytes = 64,
 };
-static const onfi_lengths TWO_SECTORS = {.sectors = {0, 500}};
 
-static uint32_t begin_of(onfi_dispatcher *d, const problem *p, const onfi_lengths *lengths, const onfi_geometry *device)
+/* The usual problem, and a length of two sectors. */
+static problem with_sectors(void)
 {
-    return onfi_dispatcher_begin(d, lengths, &p->channel, p->luns, p->lun_count, device);
+    problem p = usual();
+    p.channel.lengths.sectors[1] = 500;
+    return p;
 }
 
-static void begins_not(const char *what, const problem *p, const onfi_lengths *lengths, const onfi_geometry *device, uint32_t wanted)
+static void begins_not(const char *what, const problem *p, const onfi_geometry *device, uint32_t wanted)
 {
     onfi_dispatcher d, before;
     memset(&d, 0xA5, sizeof d);
     memcpy(&before, &d, sizeof d);
-    expect(what, begin_of(&d, p, lengths, device), wanted);
+    expect(what, onfi_dispatcher_begin(&d, &p->channel, device), wanted);
     expect(what, (uint64_t)memcmp(&d, &before, sizeof d), 0);
 }
 
 static void begins(void)
 {
-    problem p = usual();
-    onfi_lengths lengths = TWO_SECTORS;
+    problem p = with_sectors();
     onfi_geometry device = SMALL;
-    p.channel.timing.erase.cmd = 0, begins_not("a command without length", &p, &lengths, &device, ONFI_ZERO_SPAN);
-    p = usual(), lengths.sectors[6] = UINT64_C(1) << 50, begins_not("a long output", &p, &lengths, &device, ONFI_LONG_SPAN);
-    lengths = TWO_SECTORS, p.channel.rules.plane_bits = 3, begins_not("three plane bits", &p, &lengths, &device, ONFI_BAD_PLANE_BITS);
-    p = usual(), p.luns[1].members = 5, begins_not("five members", &p, &lengths, &device, ONFI_BAD_MEMBERS);
-    p = usual(), p.luns[1].member[0].kind = 3, begins_not("no kind", &p, &lengths, &device, ONFI_BAD_KIND);
-    p = usual(), p.lun_count = 0, begins_not("no LUN", &p, &lengths, &device, ONFI_TOO_MANY);
-    p = usual(), p.lun_count = 9, begins_not("nine LUNs", &p, &lengths, &device, ONFI_TOO_MANY);
-    p = usual(), p.luns[1].next = 2, begins_not("a group that is over", &p, &lengths, &device, ONFI_BAD_LUN);
-    p = usual(), p.luns[1].member[0].lun = 0, begins_not("a member of another LUN", &p, &lengths, &device, ONFI_BAD_LUN);
-    p = usual(), p.luns[1].member[0].kind = ONFI_KIND(ONFI_READ, 1), begins_not("a sector that runs", &p, &lengths, &device, ONFI_NO_LENGTHS);
-    p = usual(), p.channel.bus_free = UINT64_C(1) << 62, begins_not("the end of time", &p, &lengths, &device, ONFI_CLOCK);
-    p = usual(), device.page_bits = 3, begins_not("no device", &p, &lengths, &device, ONFI_BAD_GEOMETRY);
-    device = SMALL, p.luns[1].member[0].block = 16, begins_not("a block that runs", &p, &lengths, &device, ONFI_BAD_PLACE);
+    p.channel.timing.erase.cmd = 0, begins_not("a command without length", &p, &device, ONFI_ZERO_SPAN);
+    p = with_sectors(), p.channel.lengths.sectors[6] = UINT64_C(1) << 50, begins_not("a long output", &p, &device, ONFI_LONG_SPAN);
+    p = with_sectors(), p.channel.rules.plane_bits = 3, begins_not("three plane bits", &p, &device, ONFI_BAD_PLANE_BITS);
+    p = with_sectors(), p.channel.lun[1].members = 5, begins_not("five members", &p, &device, ONFI_BAD_MEMBERS);
+    p = with_sectors(), p.channel.lun[1].member[0].kind = 3, begins_not("no kind", &p, &device, ONFI_BAD_KIND);
+    p = with_sectors(), p.channel.lun_count = 0, begins_not("no LUN", &p, &device, ONFI_TOO_MANY);
+    p = with_sectors(), p.channel.lun_count = 9, begins_not("nine LUNs", &p, &device, ONFI_TOO_MANY);
+    p = with_sectors(), p.channel.lun[1].next = 2, begins_not("a group that is over", &p, &device, ONFI_BAD_LUN);
+    p = with_sectors(), p.channel.lun[1].member[0].lun = 0, begins_not("a member of another LUN", &p, &device, ONFI_BAD_LUN);
+    p = with_sectors(), p.channel.lun[1].member[0].kind = ONFI_KIND(ONFI_READ, 1), begins_not("a sector that runs", &p, &device, ONFI_NO_LENGTHS);
+    p = with_sectors(), p.channel.bus_free = UINT64_C(1) << 62, begins_not("the end of time", &p, &device, ONFI_CLOCK);
+    p = with_sectors(), device.page_bits = 3, begins_not("no device", &p, &device, ONFI_BAD_GEOMETRY);
+    device = SMALL, p = with_sectors(), p.channel.lun[1].member[0].block = 16, begins_not("a block that runs", &p, &device, ONFI_BAD_PLACE);
 }
 
 /* A read of LUN 0 waits, and LUN 1 runs an erase whose array is ready at 1,000. */
 static onfi_dispatcher waiting(void)
 {
     onfi_dispatcher d;
-    const problem p = usual();
+    const problem p = with_sectors();
     memset(&d, 0xA5, sizeof d);
-    expect("a dispatcher", begin_of(&d, &p, &TWO_SECTORS, &SMALL), ONFI_DONE);
+    expect("a dispatcher", onfi_dispatcher_begin(&d, &p.channel, &SMALL), ONFI_DONE);
     expect("a read comes", onfi_dispatcher_accept(&d, &(onfi_want){.id = 7}), ONFI_DONE);
     return d;
 }
@@ -507,7 +489,7 @@ static void dispatched(void)
     next_is("the read's command", &d, 0, 0, 7, ONFI_READ, false);
     refuses_want("a page that isn't there", &d, (onfi_want){.id = 8, .page = 4}, ONFI_BAD_PLACE);
     expect("the command ran all the same", onfi_dispatcher_ran(&d, 0), ONFI_DONE);
-    next_is("the erase's status", &d, 140, 1000, usual().luns[1].member[0].id, ONFI_ERASE, true);
+    next_is("the erase's status", &d, 140, 1000, usual().channel.lun[1].member[0].id, ONFI_ERASE, true);
     expect("ran late", onfi_dispatcher_ran(&d, 1500), ONFI_DONE);
     expect("two sectors come", onfi_dispatcher_accept(&d, &(onfi_want){.id = 8, .kind = ONFI_KIND(ONFI_READ, 2), .lun = 1}), ONFI_DONE);
     next_is("their command", &d, 1780, 1780, 8, ONFI_KIND(ONFI_READ, 2), false);
@@ -550,9 +532,9 @@ static void dispatches(void)
     for (uint64_t id = 8; id < 71; id++)
         expect("64 requests", onfi_dispatcher_accept(&d, &(onfi_want){.id = id}), ONFI_DONE);
     refuses_want("one more", &d, (onfi_want){.id = 71}, ONFI_TOO_MANY);
-    problem p = usual();
-    p.lun_count = 1;
-    expect("one LUN", begin_of(&d, &p, &TWO_SECTORS, &SMALL), ONFI_DONE);
+    problem p = with_sectors();
+    p.channel.lun_count = 1;
+    expect("one LUN", onfi_dispatcher_begin(&d, &p.channel, &SMALL), ONFI_DONE);
     next_is_none("on which nothing waits", &d, 0, ONFI_NOTHING_DUE);
     refuses_want("the other", &d, (onfi_want){.id = 8, .lun = 1}, ONFI_BAD_LUN);
 }
@@ -560,10 +542,10 @@ static void dispatches(void)
 /* A dispatcher's memory is enough: what begins writes 16,016 bytes of it, and none past it. */
 static void dispatcher_size(void)
 {
-    const problem p = usual();
+    const problem p = with_sectors();
     uint64_t room[ONFI_DISPATCHER_WORDS + 16];
     memset(room, 0xA5, sizeof room);
-    expect("a dispatcher", begin_of((onfi_dispatcher *)room, &p, &TWO_SECTORS, &SMALL), ONFI_DONE);
+    expect("a dispatcher", onfi_dispatcher_begin((onfi_dispatcher *)room, &p.channel, &SMALL), ONFI_DONE);
     for (unsigned word = 16016 / 8; word < ONFI_DISPATCHER_WORDS + 16; word++)
         expect("a word after it", room[word], UINT64_C(0xA5A5A5A5A5A5A5A5));
     expect("its words", sizeof(onfi_dispatcher), 16384);
@@ -608,22 +590,26 @@ static void broken_memory(void)
 
 static void texts(void)
 {
-    const char script[] = "end\n";
     expect("the version of the library", onfi_version(), ONFI_VERSION_NUMBER);
     char room[80];
     size_t bytes;
+#define ASKED(words, script, room, size) onfi_text(words, sizeof words - 1, script, sizeof script - 1, room, size, &bytes)
     memset(room, 7, sizeof room);
-    expect("a script without rows", onfi_text_plan(script, 4, ONFI_NODES, false, room, sizeof room, &bytes), ONFI_SCRIPT_REFUSED);
+    expect("a script without rows", ASKED("plan", "end\n", room, sizeof room), ONFI_SCRIPT_REFUSED);
     expect("its answer", (uint64_t)strncmp(room, "script refused 0 Missing\n\7", bytes + 1), 0);
-    expect("no end", onfi_text_check(script, 2, room, sizeof room, &bytes), ONFI_SCRIPT_REFUSED);
-    expect("no bytes", onfi_text_plan(script, 0, ONFI_NODES, true, room, sizeof room, &bytes), ONFI_SCRIPT_REFUSED);
+    expect("no end", ASKED("check", "en", room, sizeof room), ONFI_SCRIPT_REFUSED);
+    expect("no bytes", ASKED("plan --trace", "", room, sizeof room), ONFI_SCRIPT_REFUSED);
     memset(room, 7, sizeof room);
-    expect("no limit", onfi_text_plan(script, 4, 0, false, room, sizeof room, &bytes), ONFI_BAD_LIMIT);
-    expect("a high limit", onfi_text_plan(script, 4, ONFI_NODES + 1, false, room, sizeof room, &bytes), ONFI_BAD_LIMIT);
-    expect("no answer", bytes, 0);
-    expect("too little room", onfi_text_check(script, 4, room, 3, &bytes), ONFI_NO_ROOM);
+    expect("too little room", ASKED("check", "end\n", room, 3), ONFI_NO_ROOM);
     expect("which is told", bytes, 25);
     expect("and as it was", (uint64_t)room[0], 7);
+    static const char *const bad[] = {"", "pla", "plan ", " plan", "plan  --trace", "plan --limit", "plan --limit 0", "plan --limit 1048577", "plan --by", "plan --by next",
+                                      "check --by rule", "check --trace", "run", "device", "audit --al", "plan --remember", "plan --trace --trace"};
+    for (unsigned at = 0; at < sizeof bad / sizeof *bad; at++) {
+        bytes = 1;
+        expect(bad[at], onfi_text(bad[at], strlen(bad[at]), "end\n", 4, room, sizeof room, &bytes), ONFI_BAD_WORDS);
+        expect(bad[at], (uint64_t)room[0], 7);
+    }
     expect("a text", onfi_status_text(ONFI_CLOCK, room, sizeof room, &bytes), ONFI_DONE);
     expect("as it is", (uint64_t)strncmp(room, "times that reach 2^62 ns", bytes), 0);
     expect("of equal ids", onfi_status_text(ONFI_BAD_LUN, room, sizeof room, &bytes), ONFI_DONE);

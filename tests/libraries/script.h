@@ -24,9 +24,8 @@ static unsigned numbers(char *fields, uint64_t *found)
 
 typedef struct {
     onfi_channel channel;
-    onfi_lun luns[8];
     onfi_want wants[8];
-    size_t lun_count, want_count;
+    size_t want_count;
 } problem;
 
 static void read_running(problem *p, char *fields)
@@ -38,7 +37,7 @@ static void read_running(problem *p, char *fields)
     if (sscanf(fields, "%u,%u,%" SCNu64 ",%15[a-z],%u%n", &lun, &next, &ready, kind, &page, &used) != 5)
         exit(9);
     unsigned count = numbers(fields + used, blocks);
-    onfi_lun *it = &p->luns[lun];
+    onfi_lun *it = &p->channel.lun[lun];
     it->since = ready;
     it->next = (uint8_t)next;
     it->members = (uint8_t)count;
@@ -52,7 +51,7 @@ static void read_row(problem *p, char *row)
     char *fields = strchr(row, ',') + 1, *more = strchr(fields, ',');
     if (!strncmp(row, "shape", 5)) {
         numbers(fields, n);
-        p->lun_count = n[0];
+        p->channel.lun_count = (uint8_t)n[0];
         p->channel.rules.plane_bits = (uint8_t)n[1];
         p->channel.rules.read = n[2];
         p->channel.rules.write = n[3];
@@ -65,7 +64,7 @@ static void read_row(problem *p, char *row)
         p->channel.bus_free = n[0];
     } else if (!strncmp(row, "free", 4)) {
         numbers(fields, n);
-        p->luns[n[0]].since = n[1];
+        p->channel.lun[n[0]].since = n[1];
     } else if (!strncmp(row, "strict", 6)) {
         numbers(fields, n);
         p->channel.rules.strict = n[0];

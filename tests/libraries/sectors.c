@@ -1,8 +1,7 @@
 /*
- * Reads of some sectors: plans worked by hand, certificates that must know which posts are left, refusals in their order; that calls
- * without lengths take none; and that reads of one count of sectors are planned as reads whose page has that post, drawn.
+ * Reads of some sectors: plans worked by hand, certificates that must know which posts are left, refusals in their order; and that reads of one count of sectors are planned as reads whose page has that post, drawn.
  */
-#include <onfi.h>
+#include "options.h"
 
 #include <stdio.h>
 #include <string.h>
@@ -24,21 +23,19 @@ static const onfi_geometry geometry = {
 };
 
 typedef struct {
-    onfi_lengths lengths;
     onfi_channel channel;
-    onfi_lun luns[9];
     onfi_want wants[9];
-    size_t lun_count, want_count;
+    size_t want_count;
 } problem;
 
 /* Two LUNs of two planes each; lengths of one, two and three sectors of 132 bytes. */
 static problem usual(void)
 {
     return (problem){
-        .lengths = {.sectors = {3080, 5720, 8360}},
-        .channel = {.timing = {.read = {140, 600, 25100, 11000}, .program = {10800, 600, 200100, 280}, .erase = {100, 600, 1500100, 280}},
-                    .rules = {.read = true, .write = true, .plane_bits = 1}},
-        .lun_count = 2,
+        .channel = {.lengths = {.sectors = {3080, 5720, 8360}},
+                    .timing = {.read = {140, 600, 25100, 11000}, .program = {10800, 600, 200100, 280}, .erase = {100, 600, 1500100, 280}},
+                    .rules = {.read = true, .write = true, .plane_bits = 1},
+                    .lun_count = 2},
     };
 }
 
@@ -49,30 +46,30 @@ static void add(problem *p, uint8_t kind, uint8_t lun, uint16_t block, uint16_t 
 }
 
 #define SECTORS(count) ONFI_KIND(ONFI_READ, count)
-#define SAID(p) &(p)->lengths, &(p)->channel, (p)->luns, (p)->lun_count, (p)->wants, (p)->want_count
+#define SAID(p) &(p)->channel, (p)->wants, (p)->want_count
 
 static uint32_t check_of(const problem *p, const onfi_schedule *s, uint64_t below, const char *certificate, onfi_verdict *verdict)
 {
-    return onfi_check_within_by(SAID(p), s, below, (const uint8_t *)certificate, strlen(certificate), verdict);
+    return onfi_check(SAID(p), s, below, (const uint8_t *)certificate, strlen(certificate), verdict);
 }
 
 /* The plan of a problem ends then, and the check of its certificate says so; it is what the search with weights and the rule can't beat. */
-static onfi_within planned(const char *what, const problem *p, uint64_t finish)
+static onfi_planned planned(const char *what, const problem *p, uint64_t finish)
 {
-    static const onfi_weights none;
-    onfi_within plan, other;
+    const onfi_options within = options_by(ONFI_WITHIN, ONFI_NODES), early = options_early(ONFI_WITHIN, ONFI_NODES), rule = options_by(ONFI_RULE, 1);
+    onfi_planned plan, other;
     onfi_verdict verdict;
     char text[4096];
     size_t bytes;
-    expect(what, onfi_plan_within_by(SAID(p), ONFI_NODES, &plan, (uint8_t *)text, sizeof text - 1, &bytes), ONFI_DONE);
+    expect(what, onfi_plan(SAID(p), &within, &plan, (uint8_t *)text, sizeof text - 1, &bytes), ONFI_DONE);
     expect(what, plan.finish, finish);
     expect(what, plan.below, finish);
     text[bytes] = 0;
     expect(what, check_of(p, &plan.schedule, finish, text, &verdict), ONFI_DONE);
     expect(what, verdict.finish, finish);
-    expect(what, onfi_plan_early_by(SAID(p), ONFI_NODES, &none, 0, &other, (uint8_t *)text, sizeof text - 1, &bytes), ONFI_DONE);
+    expect(what, onfi_plan(SAID(p), &early, &other, (uint8_t *)text, sizeof text - 1, &bytes), ONFI_DONE);
     expect(what, other.finish, finish);
-    expect(what, onfi_plan_rule_by(SAID(p), &other, (uint8_t *)text, sizeof text - 1, &bytes), ONFI_DONE);
+    expect(what, onfi_plan(SAID(p), &rule, &other, (uint8_t *)text, sizeof text - 1, &bytes), ONFI_DONE);
     text[bytes] = 0;
     expect(what, check_of(p, &other.schedule, other.below, text, &verdict), ONFI_DONE);
     expect(what, verdict.finish == other.finish && other.below <= finish && finish <= other.finish, 1);
@@ -87,7 +84,7 @@ static void starts(const char *what, const uint64_t *got, size_t count, const ui
 
 static void by_hand(void)
 {
-    onfi_within plan;
+    onfi_planned plan;
     problem p = usual();
     add(&p, ONFI_READ, 0, 0, 0);
     planned("a page", &p, 36240);
@@ -117,20 +114,20 @@ static void by_hand(void)
 static void running(void)
 {
     problem p = usual();
-    p.luns[0] = (onfi_lun){.since = 1000, .members = 2, .next = 1, .member = {{.kind = SECTORS(2)}, {.kind = SECTORS(1), .block = 1}}};
+    p.channel.lun[0] = (onfi_lun){.since = 1000, .members = 2, .next = 1, .member = {{.kind = SECTORS(2)}, {.kind = SECTORS(1), .block = 1}}};
     add(&p, ONFI_READ, 1, 0, 0);
-    onfi_within plan = planned("two sectors and one that run", &p, 45040);
+    onfi_planned plan = planned("two sectors and one that run", &p, 45040);
     starts("what is left of them", plan.schedule.rest[0].start, 3, (uint64_t[]){1000, 36240, 41960});
 
     p = usual();
-    p.luns[0] = (onfi_lun){.since = 1000, .members = 2, .next = 3, .member = {{.kind = ONFI_READ}, {.kind = SECTORS(1), .block = 1}}};
+    p.channel.lun[0] = (onfi_lun){.since = 1000, .members = 2, .next = 3, .member = {{.kind = ONFI_READ}, {.kind = SECTORS(1), .block = 1}}};
     add(&p, ONFI_PROGRAM, 0, 2, 0);
     plan = planned("the sector of the second member", &p, 215260);
     starts("then a program", plan.schedule.group[0].start, 2, (uint64_t[]){4080, 214980});
 
     p = usual();
-    p.luns[0] = (onfi_lun){.since = 5000, .members = 1, .next = 1, .member = {{.kind = ONFI_ERASE}}};
-    p.luns[1] = (onfi_lun){.since = 1900, .members = 1, .next = 1, .member = {{.kind = SECTORS(1), .lun = 1}}};
+    p.channel.lun[0] = (onfi_lun){.since = 5000, .members = 1, .next = 1, .member = {{.kind = ONFI_ERASE}}};
+    p.channel.lun[1] = (onfi_lun){.since = 1900, .members = 1, .next = 1, .member = {{.kind = SECTORS(1), .lun = 1}}};
     planned("a status before which a sector fits", &p, 5280);
 }
 
@@ -139,9 +136,9 @@ static void remembered(void)
 {
     problem p = usual();
     onfi_verdict verdict;
-    p.lun_count = 1, p.channel.rules = (onfi_rules){.read = true, .write = true, .plane_bits = 1};
+    p.channel.lun_count = 1, p.channel.rules = (onfi_rules){.read = true, .write = true, .plane_bits = 1};
     add(&p, SECTORS(1), 0, 0, 0), add(&p, ONFI_READ, 0, 1, 1);
-    onfi_within plan = planned("a sector, then a page", &p, 64560);
+    onfi_planned plan = planned("a sector, then a page", &p, 64560);
     expect("another post is left", check_of(&p, &plan.schedule, 64560, "ONFICERT 3 remember\nB2 B1 B1 B1 X B1 B1 R0\n", &verdict), ONFI_OTHER_LEFT);
     expect("at its place", verdict.place, 7);
     expect("to the end", check_of(&p, &plan.schedule, 64560, "ONFICERT 3 remember\nB2 B1 B1 B1 X B1 B1 B1 X\n", &verdict), ONFI_DONE);
@@ -158,25 +155,26 @@ static void remembered(void)
 static void refuses(const char *what, const problem *p, uint32_t wanted)
 {
     static const onfi_schedule none = {.luns = 2};
-    static const onfi_weights weights;
     problem q = *p;
-    onfi_within plan, before;
+    onfi_planned plan, before;
     onfi_phase phase, same;
     onfi_verdict verdict;
     onfi_schedule left = none;
     size_t bytes = 1, count = p->want_count;
     memset(&plan, 0xA5, sizeof plan), memcpy(&before, &plan, sizeof plan);
     memset(&phase, 0xA5, sizeof phase), memcpy(&same, &phase, sizeof phase);
-    expect(what, onfi_plan_within_by(SAID(p), ONFI_NODES, &plan, NULL, 0, &bytes), wanted);
+    for (uint8_t by = ONFI_PLAIN; by <= ONFI_RULE; by++) {
+        const onfi_options options = options_by(by, ONFI_NODES), early = options_early(by, ONFI_NODES);
+        expect(what, onfi_plan(SAID(p), &options, &plan, NULL, 0, &bytes), wanted);
+        expect(what, onfi_plan(SAID(p), &early, &plan, NULL, 0, &bytes), wanted);
+    }
     expect(what, bytes, 0);
-    expect(what, onfi_plan_early_by(SAID(p), ONFI_NODES, &weights, 0, &plan, NULL, 0, &bytes), wanted);
-    expect(what, onfi_plan_rule_by(SAID(p), &plan, NULL, 0, &bytes), wanted);
     expect(what, (uint64_t)memcmp(&plan, &before, sizeof plan), 0);
-    expect(what, onfi_check_within_by(SAID(p), &none, 0, NULL, 0, &verdict), wanted);
-    expect(what, onfi_due_by(SAID(p), &geometry, &none, &phase), wanted);
+    expect(what, onfi_check(SAID(p), &none, 0, NULL, 0, &verdict), wanted);
+    expect(what, onfi_due(SAID(p), &geometry, &none, &phase), wanted);
     expect(what, (uint64_t)memcmp(&phase, &same, sizeof phase), 0);
     if (p->want_count <= 8) {
-        expect(what, onfi_ran_by(&q.lengths, &q.channel, q.luns, q.lun_count, q.wants, &count, &left, 0, 0, 0), wanted);
+        expect(what, onfi_ran(&q.channel, q.wants, &count, &left, 0, 0, 0), wanted);
         expect(what, (uint64_t)memcmp(&q, p, sizeof q) + (uint64_t)memcmp(&left, &none, sizeof left), 0);
     }
 }
@@ -185,62 +183,42 @@ static void refusals(void)
 {
     problem p = usual();
     add(&p, SECTORS(1), 0, 0, 0), add(&p, ONFI_PROGRAM, 1, 0, 0);
-    p.luns[1] = (onfi_lun){.since = 1000, .members = 1, .next = 1, .member = {{.kind = SECTORS(2), .lun = 1, .block = 3}}};
+    p.channel.lun[1] = (onfi_lun){.since = 1000, .members = 1, .next = 1, .member = {{.kind = SECTORS(2), .lun = 1, .block = 3}}};
     const problem good = p;
     planned("a good one", &good, 217900);
-    p.lengths.sectors[6] = UINT64_C(1) << 50, refuses("a long post", &p, ONFI_LONG_SPAN);
+    p.channel.lengths.sectors[6] = UINT64_C(1) << 50, refuses("a long post", &p, ONFI_LONG_SPAN);
     p.channel.timing.erase.post = 0, refuses("an erase without length before it", &p, ONFI_ZERO_SPAN);
-    p = good, p.lengths.sectors[0] = UINT64_MAX, p.channel.rules.plane_bits = 3, refuses("a long post before plane bits", &p, ONFI_LONG_SPAN);
+    p = good, p.channel.lengths.sectors[0] = UINT64_MAX, p.channel.rules.plane_bits = 3, refuses("a long post before plane bits", &p, ONFI_LONG_SPAN);
     p = good, p.wants[1].kind = 3, refuses("a kind", &p, ONFI_BAD_KIND);
     p.wants[1].kind = ONFI_KIND(3, 1), refuses("a kind with a sector", &p, ONFI_BAD_KIND);
     p.wants[1].kind = 4, refuses("a bit above a read", &p, ONFI_BAD_KIND);
     p.wants[1].kind = 16 + ONFI_KIND(ONFI_ERASE, 7), refuses("a bit above an erase", &p, ONFI_BAD_KIND);
-    p = good, p.luns[1].member[0].kind = 31, refuses("a running kind", &p, ONFI_BAD_KIND);
-    p.luns[1].members = 5, refuses("five members before it", &p, ONFI_BAD_MEMBERS);
+    p = good, p.channel.lun[1].member[0].kind = 31, refuses("a running kind", &p, ONFI_BAD_KIND);
+    p.channel.lun[1].members = 5, refuses("five members before it", &p, ONFI_BAD_MEMBERS);
 
-    p = good, p.lengths.sectors[0] = 0, refuses("no length of a sector", &p, ONFI_NO_LENGTHS);
+    p = good, p.channel.lengths.sectors[0] = 0, refuses("no length of a sector", &p, ONFI_NO_LENGTHS);
     p.channel.bus_free = UINT64_MAX, refuses("before the end of time", &p, ONFI_NO_LENGTHS);
     p.wants[1].lun = 2, refuses("a LUN that isn't there before it", &p, ONFI_BAD_LUN);
     p.want_count = 9, refuses("nine wants before that", &p, ONFI_TOO_MANY);
-    p = good, p.lun_count = 0, p.lengths.sectors[0] = 0, refuses("no LUN", &p, ONFI_TOO_MANY);
-    p = good, p.lengths.sectors[1] = 0, refuses("no length of what runs", &p, ONFI_NO_LENGTHS);
+    p = good, p.channel.lun_count = 0, p.channel.lengths.sectors[0] = 0, refuses("no LUN", &p, ONFI_TOO_MANY);
+    p = good, p.channel.lengths.sectors[1] = 0, refuses("no length of what runs", &p, ONFI_NO_LENGTHS);
     p = good, p.wants[0].kind = SECTORS(7), refuses("seven sectors", &p, ONFI_NO_LENGTHS);
     p = good, p.wants[1].kind = ONFI_KIND(ONFI_PROGRAM, 1), refuses("a sector of a program", &p, ONFI_NO_LENGTHS);
-    p.luns[1].next = 2, refuses("a running group that is over before it", &p, ONFI_BAD_LUN);
-    p = good, p.luns[1].member[0].kind = ONFI_KIND(ONFI_ERASE, 1), refuses("a sector of an erase that runs", &p, ONFI_NO_LENGTHS);
+    p.channel.lun[1].next = 2, refuses("a running group that is over before it", &p, ONFI_BAD_LUN);
+    p = good, p.channel.lun[1].member[0].kind = ONFI_KIND(ONFI_ERASE, 1), refuses("a sector of an erase that runs", &p, ONFI_NO_LENGTHS);
     p = good, p.wants[1] = (onfi_want){.id = 1, .kind = ONFI_ERASE, .page = 1}, refuses("an erase with a page", &p, ONFI_BAD_LUN);
     p.wants[1].page = 0, p.wants[0].page = 1, planned("a page of a sector", &p, 1528800);
     p = good, p.channel.bus_free = UINT64_MAX, refuses("the end of time", &p, ONFI_CLOCK);
 }
 
-/* Calls without lengths take no kind above 2. */
-static void without(void)
-{
-    problem p = usual();
-    onfi_planned plan;
-    onfi_within within;
-    onfi_phase phase;
-    onfi_schedule none = {.luns = 2};
-    onfi_verdict verdict;
-    size_t bytes, count = 1;
-    add(&p, SECTORS(1), 0, 0, 0);
-#define PLAIN &p.channel, p.luns, p.lun_count, p.wants, p.want_count
-    expect("onfi_plan", onfi_plan(PLAIN, ONFI_NODES, &plan, NULL, 0, &bytes), ONFI_BAD_KIND);
-    expect("onfi_plan_within", onfi_plan_within(PLAIN, ONFI_NODES, &within, NULL, 0, &bytes), ONFI_BAD_KIND);
-    expect("onfi_plan_rule", onfi_plan_rule(PLAIN, &within, NULL, 0, &bytes), ONFI_BAD_KIND);
-    expect("onfi_check_within", onfi_check_within(PLAIN, &none, 0, NULL, 0, &verdict), ONFI_BAD_KIND);
-    expect("onfi_due", onfi_due(PLAIN, &geometry, &none, &phase), ONFI_BAD_KIND);
-    expect("onfi_ran", onfi_ran(&p.channel, p.luns, p.lun_count, p.wants, &count, &none, 0, 0, 0), ONFI_BAD_KIND);
-}
-
 /* Phase by phase: bytes and kinds are those of reads, posts are as long as is stated, and what began waits no more. */
-static void to_the_end(problem p, const onfi_within *plan)
+static void to_the_end(problem p, const onfi_planned *plan)
 {
     onfi_schedule left = plan->schedule;
     uint64_t last = 0;
     onfi_phase phase;
     for (;;) {
-        uint32_t status = onfi_due_by(SAID(&p), &geometry, &left, &phase);
+        uint32_t status = onfi_due(SAID(&p), &geometry, &left, &phase);
         if (status == ONFI_NOTHING_DUE)
             break;
         expect("a phase is due", status, ONFI_DONE);
@@ -249,29 +227,29 @@ static void to_the_end(problem p, const onfi_within *plan)
         unsigned sectors = phase.kind >> 5;
         expect("its operation", phase.kind & 31, ONFI_READ);
         expect("its first byte", phase.opener, phase.is_post ? 0x06 : 0x00);
-        expect("its length", phase.end - phase.start, !phase.is_post ? 140 : sectors ? p.lengths.sectors[sectors - 1] : 11000);
+        expect("its length", phase.end - phase.start, !phase.is_post ? 140 : sectors ? p.channel.lengths.sectors[sectors - 1] : 11000);
         onfi_output output;
         expect("an output of what is due", onfi_output_of(&geometry, 132, &phase, 1, &output), ONFI_DONE);
         expect("its column", output.column, phase.is_post && sectors ? 132 : 0);
         expect("its bytes", output.bytes, !phase.is_post ? 0 : sectors ? 132 * sectors : 528);
-        expect("ran", onfi_ran_by(&p.lengths, &p.channel, p.luns, p.lun_count, p.wants, &p.want_count, &left, phase.lun, phase.number, phase.start), ONFI_DONE);
+        expect("ran", onfi_ran(&p.channel, p.wants, &p.want_count, &left, phase.lun, phase.number, phase.start), ONFI_DONE);
         expect("the bus", p.channel.bus_free, phase.end);
         last = phase.end;
     }
     expect("it ends as planned", last, plan->finish);
     expect("nothing waits", p.want_count, 0);
-    expect("nothing runs", p.luns[0].members + p.luns[1].members, 0);
+    expect("nothing runs", p.channel.lun[0].members + p.channel.lun[1].members, 0);
 }
 
 static void phases(void)
 {
     problem p = usual();
-    p.luns[0] = (onfi_lun){.since = 1000, .members = 2, .next = 1, .member = {{.kind = SECTORS(2)}, {.kind = SECTORS(1), .block = 1}}};
+    p.channel.lun[0] = (onfi_lun){.since = 1000, .members = 2, .next = 1, .member = {{.kind = SECTORS(2)}, {.kind = SECTORS(1), .block = 1}}};
     add(&p, ONFI_READ, 1, 0, 0), add(&p, SECTORS(3), 1, 1, 0), add(&p, SECTORS(1), 1, 0, 1);
-    onfi_within plan = planned("pages and sectors", &p, 73660);
+    onfi_planned plan = planned("pages and sectors", &p, 73660);
     to_the_end(p, &plan);
     onfi_phase phase;
-    expect("a start in the later half of the clock is looked at too", onfi_due_by(SAID(&p), &geometry, &plan.schedule, &phase), ONFI_DONE);
+    expect("a start in the later half of the clock is looked at too", onfi_due(SAID(&p), &geometry, &plan.schedule, &phase), ONFI_DONE);
 }
 
 /* The column and the count of bytes of what a phase puts out, in one number; else the status, or 0 where something was given beside it. */
@@ -346,24 +324,25 @@ static void same(void)
         problem p = usual(), q;
         uint8_t count = (uint8_t)(1 + drawn(7));
         uint64_t post = 1 + drawn(12000);
-        memset(&p.lengths, 0, sizeof p.lengths);
-        p.lengths.sectors[count - 1] = post, p.channel.timing.read.post = post + drawn(9000);
-        p.lun_count = 1 + drawn(4);
+        memset(&p.channel.lengths, 0, sizeof p.channel.lengths);
+        p.channel.lengths.sectors[count - 1] = post, p.channel.timing.read.post = post + drawn(9000);
+        p.channel.lun_count = (uint8_t)(1 + drawn(4));
         q = p, q.channel.timing.read.post = post;
         for (unsigned at = drawn(7); at <= 6; at++) {
-            unsigned lun = drawn((unsigned)p.lun_count), block = drawn(6), page = drawn(2), program = drawn(4) == 0;
+            unsigned lun = drawn(p.channel.lun_count), block = drawn(6), page = drawn(2), program = drawn(4) == 0;
             add(&p, program ? ONFI_PROGRAM : SECTORS(count), (uint8_t)lun, (uint16_t)block, (uint16_t)page);
             add(&q, program ? ONFI_PROGRAM : ONFI_READ, (uint8_t)lun, (uint16_t)block, (uint16_t)page);
         }
         if (drawn(2)) {
-            p.luns[0] = (onfi_lun){.since = drawn(30000), .members = 1, .next = 1, .member = {{.kind = SECTORS(count), .block = 7}}};
-            q.luns[0] = p.luns[0], q.luns[0].member[0].kind = ONFI_READ;
+            p.channel.lun[0] = (onfi_lun){.since = drawn(30000), .members = 1, .next = 1, .member = {{.kind = SECTORS(count), .block = 7}}};
+            q.channel.lun[0] = p.channel.lun[0], q.channel.lun[0].member[0].kind = ONFI_READ;
         }
         static uint8_t text[1 << 16], other[1 << 16];
-        onfi_within plan, plain;
+        const onfi_options options = options_by(ONFI_WITHIN, 20000);
+        onfi_planned plan, plain;
         size_t bytes = 0, told = 0;
-        expect("drawn", onfi_plan_within_by(SAID(&p), 20000, &plan, text, sizeof text, &bytes), ONFI_DONE);
-        expect("drawn", onfi_plan_within(&q.channel, q.luns, q.lun_count, q.wants, q.want_count, 20000, &plain, other, sizeof other, &told), ONFI_DONE);
+        expect("drawn", onfi_plan(SAID(&p), &options, &plan, text, sizeof text, &bytes), ONFI_DONE);
+        expect("drawn", onfi_plan(SAID(&q), &options, &plain, other, sizeof other, &told), ONFI_DONE);
         expect("the plan", (uint64_t)memcmp(&plan, &plain, sizeof plan), 0);
         expect("its certificate", bytes == told && memcmp(text, other, bytes) == 0, 1);
     }
@@ -375,7 +354,6 @@ int main(void)
     running();
     remembered();
     refusals();
-    without();
     phases();
     outputs();
     same();

@@ -7,7 +7,7 @@
  * status 0 where the stack was enough.
  */
 #define _GNU_SOURCE
-#include <onfi.h>
+#include "options.h"
 
 #include <inttypes.h>
 #include <stdio.h>
@@ -21,9 +21,8 @@ enum { PAINTED = 1 << 18, FEW = 1 << 14, CALLS = 64, TEXT = 1 << 20, CERTIFICATE
 
 typedef struct {
     onfi_channel channel;
-    onfi_lun luns[ONFI_LUNS];
     onfi_want wants[ONFI_WANTS];
-    size_t lun_count, want_count;
+    size_t want_count;
 } problem;
 
 static struct {
@@ -103,47 +102,47 @@ static void draw_running(onfi_lun *lun, uint8_t number, bool full, bool sectors)
 
 static void draw_problem(problem *p, bool full, bool sectors)
 {
-    *p = (problem){.lun_count = full ? 8 : 1 + drawn(8), .want_count = full ? 8 : drawn(9)};
+    *p = (problem){.want_count = full ? 8 : drawn(9)};
+    p->channel.lun_count = (uint8_t)(full ? 8 : 1 + drawn(8));
+    p->channel.lengths = (onfi_lengths){{100, 110, 120, 130, 140, 150, 160}};
     p->channel.timing = (onfi_timing){drawn_spans(), drawn_spans(), drawn_spans()};
     p->channel.rules = (onfi_rules){full || drawn(2), full || drawn(2), !full && drawn(4) == 0, 2};
     p->channel.bus_free = drawn(1000);
-    for (uint8_t lun = 0; lun < p->lun_count; lun++) {
-        p->luns[lun].since = drawn(2000);
+    for (uint8_t lun = 0; lun < p->channel.lun_count; lun++) {
+        p->channel.lun[lun].since = drawn(2000);
         if (full || drawn(2))
-            draw_running(&p->luns[lun], lun, full, sectors);
+            draw_running(&p->channel.lun[lun], lun, full, sectors);
     }
     for (uint8_t at = 0; at < p->want_count; at++)
-        p->wants[at] = (onfi_want){at, drawn_kind(sectors), (uint8_t)drawn((uint32_t)p->lun_count), (uint16_t)drawn(8), 0};
+        p->wants[at] = (onfi_want){at, drawn_kind(sectors), (uint8_t)drawn(p->channel.lun_count), (uint16_t)drawn(8), 0};
 }
 
 static uint8_t certificate[CERTIFICATE];
 static char script[TEXT], answer[TEXT], other[TEXT];
 static size_t bytes;
 static onfi_planned plan;
-static onfi_within within;
 static onfi_verdict verdict;
 static onfi_phase phase;
 static onfi_broken broken;
 
-#define PROBLEM &p->channel, p->luns, p->lun_count, p->wants, p->want_count
+#define PROBLEM &p->channel, p->wants, p->want_count
 #define CERTIFIED certificate, sizeof certificate, &bytes
 
-/* What a checker answers of the first bytes of the certificate: of a plain one, or of one that remembers states. */
-static uint32_t judged(const onfi_lengths *lengths, const problem *p, bool remembers, size_t count)
+/* What the checker answers of the first bytes of the certificate. */
+static uint32_t judged(const problem *p, size_t count)
 {
-    return remembers ? onfi_check_within_by(lengths, PROBLEM, &within.schedule, 0, certificate, count, &verdict)
-                     : onfi_check(PROBLEM, &within.schedule, certificate, count, &verdict);
+    return onfi_check(PROBLEM, &plan.schedule, 0, certificate, count, &verdict);
 }
 
 /* The text of a certificate that opens a node after the other, as deep as phases are left; a checker that is given it goes as deep. */
-static size_t deep_certificate(const onfi_lengths *lengths, const problem *p, bool remembers)
+static size_t deep_certificate(const problem *p, bool remembers)
 {
     const char *const headers[] = {"ONFICERT 1", "ONFICERT 2 strict", "ONFICERT 3 remember", "ONFICERT 4 strict remember"};
     size_t end = (size_t)sprintf((char *)certificate, "%s\n", headers[2 * remembers + p->channel.rules.strict]), width = 1;
     for (uint64_t depth = 0; width < 100 && depth < 80; depth++)
         for (width = 1; width < 100; width++) {
             size_t more = (size_t)sprintf((char *)certificate + end, "B%zu X\n", width);
-            if (judged(lengths, p, remembers, end + more) != ONFI_WIDTH || verdict.place != depth) {
+            if (judged(p, end + more) != ONFI_WIDTH || verdict.place != depth) {
                 end += more - 2;
                 break;
             }
@@ -151,75 +150,53 @@ static size_t deep_certificate(const onfi_lengths *lengths, const problem *p, bo
     return end + (size_t)sprintf((char *)certificate + end, "X\n");
 }
 
-static void try_plans(const onfi_lengths *lengths, const problem *p)
+/* In each way, early and not, whose weights differ. */
+static void try_plans(const problem *p)
 {
-    static const onfi_weights weights = {.want = {9, 1, 8, 2, 7, 3, 6, 4}, .running = {{1, 2, 3, 4}, {5, 6, 7, 8}}};
-    DEEP(onfi_plan, PROBLEM, LIMIT, &plan, CERTIFIED);
-    if (status == ONFI_DONE)
-        DEEP(onfi_check, PROBLEM, &plan.schedule, certificate, bytes, &verdict);
-    DEEP(onfi_plan_known, PROBLEM, LIMIT, &plan, CERTIFIED);
-    if (status == ONFI_DONE)
-        DEEP(onfi_check_known, PROBLEM, &plan.schedule, certificate, bytes, &verdict);
-    DEEP(onfi_plan_rule, PROBLEM, &within, CERTIFIED);
-    DEEP(onfi_plan_early, PROBLEM, LIMIT, &weights, 20, &within, CERTIFIED);
-    DEEP(onfi_plan_within, PROBLEM, 1, &within, CERTIFIED);
-    DEEP(onfi_plan_within, PROBLEM, LIMIT, &within, CERTIFIED);
-    DEEP(onfi_check_within, PROBLEM, &within.schedule, within.below, certificate, bytes, &verdict);
-    FLAT(onfi_breach, PROBLEM, &within.schedule, &broken);
-    onfi_plan_within(PROBLEM, 1, &within, CERTIFIED);
-    size_t count = deep_certificate(lengths, p, false);
-    DEEP(onfi_check, PROBLEM, &within.schedule, certificate, count, &verdict);
-    count = deep_certificate(lengths, p, true);
-    DEEP(onfi_check_known, PROBLEM, &within.schedule, certificate, count, &verdict);
-    DEEP(onfi_check_within, PROBLEM, &within.schedule, 0, certificate, count, &verdict);
-}
-
-static void try_plans_by(const onfi_lengths *lengths, const problem *p)
-{
-    static const onfi_weights weights = {.want = {1, 9}};
-    DEEP(onfi_plan_rule_by, lengths, PROBLEM, &within, CERTIFIED);
-    DEEP(onfi_plan_early_by, lengths, PROBLEM, LIMIT, &weights, 20, &within, CERTIFIED);
-    DEEP(onfi_plan_within_by, lengths, PROBLEM, LIMIT, &within, CERTIFIED);
-    DEEP(onfi_check_within_by, lengths, PROBLEM, &within.schedule, within.below, certificate, bytes, &verdict);
-    FLAT(onfi_breach_by, lengths, PROBLEM, &within.schedule, &broken);
-    size_t count = deep_certificate(lengths, p, true);
-    DEEP(onfi_check_within_by, lengths, PROBLEM, &within.schedule, 0, certificate, count, &verdict);
+    for (uint8_t by = ONFI_PLAIN; by <= ONFI_RULE; by++)
+        for (int early = 0; early < 2; early++) {
+            onfi_options options = early ? options_early(by, LIMIT) : options_by(by, LIMIT);
+            options.weights = (onfi_weights){.want = {9, 1, 8, 2, 7, 3, 6, 4}, .running = {{1, 2, 3, 4}, {5, 6, 7, 8}}};
+            DEEP(onfi_plan, PROBLEM, &options, &plan, CERTIFIED);
+            if (status == ONFI_DONE)
+                DEEP(onfi_check, PROBLEM, &plan.schedule, plan.below, certificate, bytes, &verdict);
+        }
+    FLAT(onfi_breach, PROBLEM, &plan.schedule, &broken);
+    for (int remembers = 0; remembers < 2; remembers++) {
+        size_t count = deep_certificate(p, remembers);
+        DEEP(onfi_check, PROBLEM, &plan.schedule, 0, certificate, count, &verdict);
+    }
 }
 
 static const onfi_geometry geometry = {65536, 12, 16, 3, 4096, 16384, 2048, 8, 2, 2, 4, true, true, true};
 
 /* A plan run phase by phase, and what it had on the bus judged as a log. */
-static void try_phases(const onfi_lengths *lengths, problem *p)
+static void try_phases(problem *p)
 {
     onfi_audit audit;
     onfi_log_broken fault;
     onfi_output output;
     uint32_t row;
-    FLAT(onfi_audit_begin, &p->channel, p->luns, p->lun_count, &audit);
-    FLAT(onfi_audit_begin_by, lengths, &p->channel, p->luns, p->lun_count, &audit);
+    FLAT(onfi_audit_begin, &p->channel, &audit);
     for (int count = 0; count < 72; count++) {
-        if (onfi_due_by(lengths, PROBLEM, &geometry, &within.schedule, &phase) != ONFI_DONE)
+        FLAT(onfi_due, PROBLEM, &geometry, &plan.schedule, &phase);
+        if (status != ONFI_DONE)
             break;
-        FLAT(onfi_due, PROBLEM, &geometry, &within.schedule, &phase);
-        FLAT(onfi_due_by, lengths, PROBLEM, &geometry, &within.schedule, &phase);
         FLAT(onfi_output_of, &geometry, 2048, &phase, 0, &output);
         FLAT(onfi_row, &geometry, phase.lun, phase.block, phase.page, &row);
         FLAT(onfi_audit_phase, &audit, &phase, &fault);
         FLAT(onfi_audit_ready, &audit, phase.lun, phase.end);
-        problem before = *p;
-        onfi_schedule left = within.schedule;
-        FLAT(onfi_ran, &before.channel, before.luns, before.lun_count, before.wants, &before.want_count, &left, phase.lun, phase.number, phase.start);
-        FLAT(onfi_ran_by, lengths, &p->channel, p->luns, p->lun_count, p->wants, &p->want_count, &within.schedule, phase.lun, phase.number, phase.start);
+        FLAT(onfi_ran, &p->channel, p->wants, &p->want_count, &plan.schedule, phase.lun, phase.number, phase.start);
     }
 }
 
 /* As many requests as may wait for a LUN, run phase by phase. */
-static void try_waiting(const onfi_lengths *lengths, problem *p)
+static void try_waiting(problem *p)
 {
     static onfi_dispatcher dispatcher;
-    FLAT(onfi_dispatcher_begin, &dispatcher, lengths, &p->channel, p->luns, p->lun_count, &geometry);
-    for (uint32_t at = 0; at < p->lun_count * ONFI_WAITERS; at++) {
-        onfi_want want = {at + 1, drawn_kind(true), (uint8_t)(at % p->lun_count), (uint16_t)drawn(16), 0};
+    FLAT(onfi_dispatcher_begin, &dispatcher, &p->channel, &geometry);
+    for (uint32_t at = 0; at < p->channel.lun_count * (uint32_t)ONFI_WAITERS; at++) {
+        onfi_want want = {at + 1, drawn_kind(true), (uint8_t)(at % p->channel.lun_count), (uint16_t)drawn(16), 0};
         FLAT(onfi_dispatcher_accept, &dispatcher, &want);
     }
     for (int turn = 0; turn < 200; turn++) {
@@ -234,27 +211,27 @@ static void try_waiting(const onfi_lengths *lengths, problem *p)
     }
 }
 
+#define ASK(words, bytes, room, told) DEEP(onfi_text, words, strlen(words), script, bytes, room, sizeof room, told)
+
 /* Scripts of all that is asked by texts: with a plan after it, and with its trace. */
 static void try_script(size_t script_bytes)
 {
+    static const char *const plans[] = {"plan --limit 1000", "plan --by within --limit 1000", "plan --by rule", "plan --by within --early --limit 1000"};
+    static const char *const checks[] = {"check", "check --by within", "check --legal"};
     size_t told;
-    DEEP(onfi_text_trace, script, script_bytes, LIMIT, true, answer, sizeof answer, &told);
-    DEEP(onfi_text_trace, script, script_bytes, LIMIT, false, answer, sizeof answer, &told);
-    DEEP(onfi_text_plan, script, script_bytes, LIMIT, true, answer, sizeof answer, &told);
+    ASK("plan --by within --limit 1000 --requests", script_bytes, answer, &told);
+    ASK("plan --limit 1000 --trace", script_bytes, answer, &told);
     if (status == ONFI_DONE && script_bytes + told < sizeof script) {
         memcpy(script + script_bytes, answer, told);
-        DEEP(onfi_text_audit, script, script_bytes + told, true, other, sizeof other, &bytes);
+        ASK("audit --all", script_bytes + told, other, &bytes);
     }
-    for (int remembers = 0; remembers < 2; remembers++) {
-        if (remembers)
-            DEEP(onfi_text_plan_known, script, script_bytes, LIMIT, false, answer, sizeof answer, &told);
-        else
-            DEEP(onfi_text_plan, script, script_bytes, LIMIT, false, answer, sizeof answer, &told);
-        if (status == ONFI_DONE && script_bytes + told < sizeof script)
-            memcpy(script + script_bytes, answer, told);
-        DEEP(onfi_text_legal, script, script_bytes + told, other, sizeof other, &bytes);
-        DEEP(onfi_text_check, script, script_bytes + told, other, sizeof other, &bytes);
-        DEEP(onfi_text_check_known, script, script_bytes + told, other, sizeof other, &bytes);
+    for (unsigned at = 0; at < 4; at++) {
+        ASK(plans[at], script_bytes, answer, &told);
+        if (status != ONFI_DONE || script_bytes + told >= sizeof script)
+            continue;
+        memcpy(script + script_bytes, answer, told);
+        for (unsigned by = 0; by < 3; by++)
+            ASK(checks[by], script_bytes + told, other, &bytes);
     }
 }
 
@@ -269,16 +246,16 @@ static size_t spans_row(size_t at, const char *kind, const onfi_spans *s)
 static size_t script_of(const problem *p)
 {
     const onfi_rules *rules = &p->channel.rules;
-    size_t at = (size_t)sprintf(script, "shape,%zu,%u,%u,%u\nbus,%" PRIu64 "\nstrict,%u\n", p->lun_count, rules->plane_bits, rules->read, rules->write,
+    size_t at = (size_t)sprintf(script, "shape,%u,%u,%u,%u\nbus,%" PRIu64 "\nstrict,%u\n", p->channel.lun_count, rules->plane_bits, rules->read, rules->write,
                                 p->channel.bus_free, rules->strict);
     at = spans_row(at, kinds[0], &p->channel.timing.read);
     at = spans_row(at, kinds[1], &p->channel.timing.program);
     at = spans_row(at, kinds[2], &p->channel.timing.erase);
-    for (size_t lun = 0; lun < p->lun_count; lun++) {
-        const onfi_lun *it = &p->luns[lun];
+    for (unsigned lun = 0; lun < p->channel.lun_count; lun++) {
+        const onfi_lun *it = &p->channel.lun[lun];
         if (!it->members)
             continue;
-        at += (size_t)sprintf(script + at, "running,%zu,%u,%" PRIu64 ",%s,0", lun, it->next, it->since, kinds[it->member[0].kind]);
+        at += (size_t)sprintf(script + at, "running,%u,%u,%" PRIu64 ",%s,0", lun, it->next, it->since, kinds[it->member[0].kind]);
         for (unsigned member = 0; member < it->members; member++)
             at += (size_t)sprintf(script + at, ",%u", it->member[member].block);
         at += (size_t)sprintf(script + at, "\n");
@@ -298,8 +275,8 @@ static size_t starts_of(size_t at, const uint64_t *start, unsigned count)
 /* The plan of that schedule after a script, with the first bytes of the certificate. */
 static size_t plan_after(size_t at, size_t count)
 {
-    const onfi_schedule *schedule = &within.schedule;
-    at += (size_t)sprintf(script + at, "ONFIPLAN 1\nfinish %" PRIu64 "\n", within.finish);
+    const onfi_schedule *schedule = &plan.schedule;
+    at += (size_t)sprintf(script + at, "ONFIPLAN 1\nfinish %" PRIu64 "\n", plan.finish);
     for (unsigned lun = 0; lun < schedule->luns; lun++)
         if (schedule->rest[lun].starts) {
             at += (size_t)sprintf(script + at, "rest %u", lun);
@@ -316,14 +293,12 @@ static size_t plan_after(size_t at, size_t count)
 }
 
 /* Checks of texts with certificates as deep as phases are left. */
-static void try_deep_texts(const onfi_lengths *lengths, const problem *p)
+static void try_deep_texts(const problem *p)
 {
     for (int remembers = 0; remembers < 2; remembers++) {
-        size_t count = deep_certificate(lengths, p, remembers), whole = plan_after(script_of(p), count);
-        if (remembers)
-            DEEP(onfi_text_check_known, script, whole, other, sizeof other, &bytes);
-        else
-            DEEP(onfi_text_check, script, whole, other, sizeof other, &bytes);
+        size_t count = deep_certificate(p, remembers), whole = plan_after(script_of(p), count);
+        const char *words = remembers ? "check --by within" : "check";
+        ASK(words, whole, other, &bytes);
     }
 }
 
@@ -343,7 +318,6 @@ static void try_device(void)
     static char hex[1 << 16], sheet[1 << 12], strobes[1 << 12];
     static uint8_t page[1 << 15];
     onfi_device device;
-    onfi_lengths lengths;
     uint64_t place;
     size_t digits = rows_of("page", hex), count = 0, sheet_bytes = rows_of("sheet", sheet), strobe_bytes = rows_of("strobe", strobes);
     for (size_t at = 0; at + 1 < digits; at += 2) {
@@ -353,9 +327,8 @@ static void try_device(void)
         else
             at--;
     }
-    FLAT(onfi_timing_of_page, page, count, sheet, sheet_bytes, &device, &place);
-    FLAT(onfi_timing_of_strobes, page, count, sheet, sheet_bytes, strobes, strobe_bytes, &device, &place);
-    FLAT(onfi_lengths_of_page, page, count, sheet, sheet_bytes, strobes, strobe_bytes, 512, &device, &lengths, &place);
+    FLAT(onfi_device_of_page, page, count, sheet, sheet_bytes, strobes, 0, 0, &device, &place);
+    FLAT(onfi_device_of_page, page, count, sheet, sheet_bytes, strobes, strobe_bytes, 512, &device, &place);
 }
 
 static void try_file(const char *name)
@@ -374,20 +347,20 @@ static char **files;
 
 static void try_all(void)
 {
-    static const onfi_lengths lengths = {{100, 110, 120, 130, 140, 150, 160}};
+    static const onfi_options one = {.limit = 1, .by = ONFI_WITHIN};
     static problem p;
     char text[80];
     for (int at = 0; at < PROBLEMS; at++) {
         draw_problem(&p, at % 2 == 0, false);
-        try_plans(&lengths, &p);
-        try_deep_texts(&lengths, &p);
+        try_plans(&p);
+        try_deep_texts(&p);
         try_script(script_of(&p));
         draw_problem(&p, at % 2 == 0, true);
-        try_plans_by(&lengths, &p);
-        onfi_plan_within_by(&lengths, &p.channel, p.luns, p.lun_count, p.wants, p.want_count, 1, &within, CERTIFIED);
-        try_phases(&lengths, &p);
+        try_plans(&p);
+        onfi_plan(&p.channel, p.wants, p.want_count, &one, &plan, CERTIFIED);
+        try_phases(&p);
         draw_problem(&p, at % 2 == 0, false);
-        try_waiting(&lengths, &p);
+        try_waiting(&p);
     }
     for (char **name = files; *name; name++)
         try_file(*name);

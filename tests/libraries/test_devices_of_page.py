@@ -2,6 +2,7 @@
 
 from __future__ import annotations
 
+import dataclasses
 import subprocess
 import sys
 import tempfile
@@ -75,7 +76,7 @@ STROBES = "tRPRE,15000\ntRC,1667\ntRPST,26000\ntRPSTH,15000\ntWPRE,15000\ntDSC,1
 
 class Strobes(unittest.TestCase):
     def lengths(self, bytes_: bytes, strobes: onfi.calls.Text = STROBES) -> Tuple[int, int, int]:
-        timing = onfi.timing_of_page(bytes_, BESIDE, strobes).timing
+        timing = onfi.device_of_page(bytes_, BESIDE, strobes).timing
         return timing.read.post, timing.program.cmd, timing.erase.post
 
     def test_lengths(self) -> None:
@@ -86,32 +87,32 @@ class Strobes(unittest.TestCase):
         self.assertEqual(self.lengths(PAGE, STROBES.replace("1667", "2000")), (1059, 900, 338))
 
     def test_all_but_data_and_status_is_as_by_the_sheet(self) -> None:
-        found, plain = onfi.timing_of_page(PAGE, BESIDE, strobes=STROBES), onfi.timing_of_page(PAGE, BESIDE + "tRC,20\n")
+        found, plain = onfi.device_of_page(PAGE, BESIDE, STROBES), onfi.device_of_page(PAGE, BESIDE + "tRC,20\n")
         self.assertEqual((found.geometry, found.rules), (plain.geometry, plain.rules))
         for one, other in zip(*((it.timing.read, it.timing.program, it.timing.erase) for it in (found, plain))):
             self.assertEqual((one.gap, one.array), (other.gap, other.array))
 
     def test_a_read_cycle_of_the_sheet_is_not_looked_at(self) -> None:
         for cycle in (0, 1, 1000):
-            self.assertEqual(onfi.timing_of_page(PAGE, f"tRC,{cycle}\n" + BESIDE, STROBES), onfi.timing_of_page(PAGE, BESIDE, STROBES))
+            self.assertEqual(onfi.device_of_page(PAGE, f"tRC,{cycle}\n" + BESIDE, STROBES), onfi.device_of_page(PAGE, BESIDE, STROBES))
 
     def refused(self, name: Type[onfi.Refused], strobes: str, place: int = 0, sheet: str = BESIDE, bytes_: bytes = PAGE) -> None:
         with self.assertRaises(name) as told:
-            onfi.timing_of_page(bytes_, sheet, strobes)
+            onfi.device_of_page(bytes_, sheet, strobes)
         self.assertEqual(told.exception.place, place)
 
     def test_refusals(self) -> None:
         for place, row in enumerate(STROBES.splitlines(keepends=True), 1):
             self.refused(onfi.StrobeMissing, STROBES.replace(row, ""), place)
             self.refused(onfi.StrobeRepeated, STROBES + row, place)
-        self.refused(onfi.StrobeMissing, "", 1)
+        self.refused(onfi.StrobeMissing, "tRC,1667\n", 1)
         self.refused(onfi.StrobeUnknown, STROBES + "tDQ,5\n", 9)
         self.refused(onfi.StrobeUnknown, "tRC\n", 1)
         self.refused(onfi.StrobeNotANumber, "tRPRE,15\ntRC,1.667\n", 2)
         self.refused(onfi.SheetTooLong, "tRPRE,4294967296\n")
         self.refused(onfi.SheetZeroCycle, STROBES.replace("tRC,1667", "tRC,0"))
         self.refused(onfi.SheetZeroCycle, STROBES.replace("tDSC,1667", "tDSC,0"))
-        self.assertRaisesRegex(TypeError, "^a text of strobes is str or bytes, not dict$", onfi.timing_of_page, PAGE, BESIDE, {"tRC": 1667})
+        self.assertRaisesRegex(TypeError, "^a text of strobes is str or bytes, not dict$", onfi.device_of_page, PAGE, BESIDE, {"tRC": 1667})
 
     def test_order(self) -> None:
         """Page, device, text of the sheet, text of the strobes, what the sheet lacks, what the strobes lack."""
@@ -127,67 +128,66 @@ class Strobes(unittest.TestCase):
 class Sectors(unittest.TestCase):
     def test_lengths(self) -> None:
         """Four sectors of 132 bytes are a page; each cycle of a read takes 20 ns, and what is given out before and after its bytes 440 ns."""
-        found, lengths = onfi.lengths_of_page(PAGE, SHEET, 132)
-        self.assertEqual(found, onfi.timing_of_page(PAGE, SHEET))
-        self.assertEqual(lengths.sectors, {1: 3_080, 2: 5_720, 3: 8_360, 4: found.timing.read.post})
-        self.assertEqual(onfi.lengths_of_page(PAGE, SHEET, 528)[1].sectors, {1: 11_000})
-        self.assertEqual([*onfi.lengths_of_page(PAGE, SHEET, 1)[1].sectors], [1, 2, 3, 4, 5, 6, 7])
+        found, plain = onfi.device_of_page(PAGE, SHEET, sector_bytes=132), onfi.device_of_page(PAGE, SHEET)
+        self.assertEqual(dataclasses.replace(found, lengths=onfi.Lengths({})), plain)
+        self.assertEqual(found.lengths.sectors, {1: 3_080, 2: 5_720, 3: 8_360, 4: found.timing.read.post})
+        self.assertEqual(onfi.device_of_page(PAGE, SHEET, sector_bytes=528).lengths.sectors, {1: 11_000})
+        self.assertEqual([*onfi.device_of_page(PAGE, SHEET, sector_bytes=1).lengths.sectors], [1, 2, 3, 4, 5, 6, 7])
         for none in (0, 529, 65_535):
-            self.assertEqual(onfi.lengths_of_page(PAGE, SHEET, none), (found, onfi.Lengths({})))
-        self.assertRaises(ValueError, onfi.lengths_of_page, PAGE, SHEET, 65_536)
+            self.assertEqual(onfi.device_of_page(PAGE, SHEET, sector_bytes=none), plain)
+        self.assertRaises(ValueError, onfi.device_of_page, PAGE, SHEET, "", 65_536)
 
     def test_lengths_by_strobes(self) -> None:
         """Two bytes in a cycle of 1.667 ns: 66 cycles less for each sector less, each length rounded up once."""
-        found, lengths = onfi.lengths_of_page(PAGE, BESIDE, 132, STROBES)
-        self.assertEqual(found, onfi.timing_of_page(PAGE, BESIDE, STROBES))
-        self.assertEqual(lengths.sectors, {1: 642, 2: 752, 3: 862, 4: 972})
-        self.assertEqual(onfi.lengths_of_page(PAGE, SHEET, 132, ""), onfi.lengths_of_page(PAGE, SHEET, 132))
+        found = onfi.device_of_page(PAGE, BESIDE, STROBES, 132)
+        self.assertEqual(dataclasses.replace(found, lengths=onfi.Lengths({})), onfi.device_of_page(PAGE, BESIDE, STROBES))
+        self.assertEqual(found.lengths.sectors, {1: 642, 2: 752, 3: 862, 4: 972})
 
     def test_refusals(self) -> None:
         """As without sectors, with the place of the row or of the parameter."""
         faults: List[Tuple[Type[onfi.Refused], int, Any]] = [
-            (onfi.PageShort, 0, (PAGE[:255], SHEET, 132)), (onfi.WideBus, 0, (page(wide_bus=1), SHEET, 132)),
-            (onfi.SheetMissing, 2, (PAGE, BESIDE, 132)), (onfi.SheetUnknown, 1, (PAGE, "tXX,1\n" + SHEET, 132)),
-            (onfi.StrobeMissing, 2, (PAGE, BESIDE, 132, "tRPRE,1\n")), (onfi.StrobeUnknown, 1, (PAGE, BESIDE, 132, "tDQ,5\n")),
+            (onfi.PageShort, 0, (PAGE[:255], SHEET)), (onfi.WideBus, 0, (page(wide_bus=1), SHEET)),
+            (onfi.SheetMissing, 2, (PAGE, BESIDE)), (onfi.SheetUnknown, 1, (PAGE, "tXX,1\n" + SHEET)),
+            (onfi.StrobeMissing, 2, (PAGE, BESIDE, "tRPRE,1\n")), (onfi.StrobeUnknown, 1, (PAGE, BESIDE, "tDQ,5\n")),
         ]
         for name, place, words in faults:
             with self.assertRaises(name) as told:
-                onfi.lengths_of_page(*words)
+                onfi.device_of_page(*[*words, b""][:3], 132)
             self.assertEqual(told.exception.place, place)
 
 
 class Devices(unittest.TestCase):
     def test_lengths(self) -> None:
-        found = onfi.timing_of_page(PAGE, SHEET)
+        found = onfi.device_of_page(PAGE, SHEET)
         told = {kind: (it.cmd, it.gap, it.array, it.post) for kind, it in (("read", found.timing.read), ("program", found.timing.program), ("erase", found.timing.erase))}
         self.assertEqual(told, {kind: tuple(spans) for kind, spans in lengths_of(SCRIPT).items()})
         self.assertEqual(found.rules, onfi.Rules(read=True, write=True, strict=False, plane_bits=1))
 
     def test_geometry(self) -> None:
-        self.assertEqual(onfi.timing_of_page(PAGE, SHEET).geometry, onfi.Geometry(
+        self.assertEqual(onfi.device_of_page(PAGE, SHEET).geometry, onfi.Geometry(
             blocks_per_lun=1000, page_bits=6, block_bits=10, lun_bits=1, pages_per_block=64, data_bytes=512, spare_bytes=16, lun_count=2,
             plane_address_bits=1, column_address_cycles=2, row_address_cycles=3, any_page_order=False, multi_plane_writes=True, multi_plane_reads=True))
 
     def test_a_later_copy(self) -> None:
-        self.assertEqual(onfi.timing_of_page(bytes(256) + PAGE, SHEET), onfi.timing_of_page(PAGE, SHEET))
+        self.assertEqual(onfi.device_of_page(bytes(256) + PAGE, SHEET), onfi.device_of_page(PAGE, SHEET))
 
     def test_a_page_with_restrictions_of_block_addresses(self) -> None:
         """Byte 114, multi-plane attributes, isn't looked at: rules aren't strict where bit 1 is set (none), nor where it is clear."""
         for attributes in (0x00, 0x02, 0xFF):
             body = PAGE[:114] + bytes([attributes]) + PAGE[115:254]
-            found = onfi.timing_of_page(body + device.crc16(body).to_bytes(2, "little"), SHEET)
-            self.assertEqual(found, onfi.timing_of_page(PAGE, SHEET))
+            found = onfi.device_of_page(body + device.crc16(body).to_bytes(2, "little"), SHEET)
+            self.assertEqual(found, onfi.device_of_page(PAGE, SHEET))
 
     def test_bytes_and_texts(self) -> None:
-        found = onfi.timing_of_page(PAGE, SHEET)
-        self.assertEqual(onfi.timing_of_page(bytearray(PAGE), SHEET.encode()), found)
-        self.assertEqual(onfi.timing_of_page(memoryview(PAGE), bytearray(SHEET.encode())), found)
-        self.assertRaisesRegex(TypeError, "^a parameter page is bytes, not str$", onfi.timing_of_page, PAGE.decode("latin-1"), SHEET)
-        self.assertRaisesRegex(TypeError, "^a timing sheet is str or bytes, not dict$", onfi.timing_of_page, PAGE, {"tWC": 20})
+        found = onfi.device_of_page(PAGE, SHEET)
+        self.assertEqual(onfi.device_of_page(bytearray(PAGE), SHEET.encode()), found)
+        self.assertEqual(onfi.device_of_page(memoryview(PAGE), bytearray(SHEET.encode())), found)
+        self.assertRaisesRegex(TypeError, "^a parameter page is bytes, not str$", onfi.device_of_page, PAGE.decode("latin-1"), SHEET)
+        self.assertRaisesRegex(TypeError, "^a timing sheet is str or bytes, not dict$", onfi.device_of_page, PAGE, {"tWC": 20})
 
     def refused(self, name: Type[onfi.Refused], bytes_: bytes = PAGE, sheet: str = SHEET, place: int = 0) -> None:
         with self.assertRaises(name) as told:
-            onfi.timing_of_page(bytes_, sheet)
+            onfi.device_of_page(bytes_, sheet)
         self.assertEqual(told.exception.place, place)
 
     def test_pages(self) -> None:

@@ -28,7 +28,7 @@ WAYS = ["phases", "plans", "greedy"]
 # Runs by each way, whose plans are more than 10,000 together: what a loop, a device, a choice and a planner can be.
 RUNS = [
     "requests 500",
-    "requests 800 byte 0.833 slack 0 workload erases weights equal",
+    "requests 800 byte 0.833 workload erases weights equal",
     "requests 1000 device slc load 0.7 array 0.4-0.7",
     "requests 300 byte 0.833 depth 256 workload erases weights reads",
     "requests 800 device slc late 700 slow 90 array 0.4-0.7 depth 256 workload sequential",
@@ -232,7 +232,7 @@ class Simulated(unittest.TestCase):
     def test_plans_in_order(self) -> None:
         simulator = rolling_use.build(Path(ROOM.name) / "planned", LIBRARY)
         for words in SIMULATED:
-            both = [*words.split(), "requests", "200", "limit", "2000", "slack", "20"]
+            both = [*words.split(), "requests", "200", "limit", "2000"]
             found = ends_of(run(sane(), *both, "way", "plans", "ends", "yes").stdout)
             self.assertEqual(found, simulated_ends(simulator, [*both, "way", "plan-early"]), words)
             self.assertEqual(len(found), 200, words)
@@ -243,6 +243,97 @@ class Board(unittest.TestCase):
         sources = [TRIALS / "board_trials.c", EXAMPLES / "firmware_board.c", EXAMPLES / "firmware_host.c"]
         ran = run(compiled("board", C99, ["-O1", *SANE], sources))
         self.assertEqual((ran.stdout, ran.stderr), (BOARD, ""))
+
+
+# What becomes of each of twenty requests (driver_trials.c has the letters), and in which order they are answered.
+TRIALS_OF_TWENTY = """\
+nothing: aaaaaaaaaaaaaaaaaaaa: 0 3 12 1 17 11 15 18 4 5 7 13 14 8 9 10 16 2 6 19: well
+a bad block: aaaaaaarraraaaaaaaaa: 0 3 12 1 17 9 11 15 18 4 5 13 14 2 16 6 19: well
+a program fails: aaaaaaafbbbaaaaaaaaa: 0 3 12 1 17 11 15 18 4 5 7 13 14 2 16 6 19: well
+a read again: aaaaaaaaaaaaaaaaaaaa: 3 12 0 17 1 11 15 18 4 5 7 13 14 8 9 10 16 2 6 19: well
+a late program: aaaaaaaaaaaaaaaaaaaa: 0 3 12 1 17 11 15 18 4 5 7 13 14 8 9 10 16 2 6 19: well
+a late read: aaaaaaaaaaaaaaaaaaaa: 0 3 12 1 17 11 15 18 4 5 7 13 14 8 9 10 16 2 6 19: well
+a LUN that hangs: aaaabbaaaaaaabbaaaaa: 0 3 12 1 17 11 15 18 7 8 9 10 2 6 19 16: well
+a shared R/B#: aaaaaaaaaaaaaaaaaaaa: 0 3 12 1 17 11 15 18 4 5 7 13 14 8 9 10 16 2 6 19: well
+"""
+# Requests of one block of LUN 0 that come after each other: a program of one that is reset in its array takes those after it along.
+PROGRAMS_OF_A_BLOCK, READ_THEN_ERASED = [7, 8, 9, 10], [0, 1, 2]
+DRAWN = 60
+
+
+class Errors(unittest.TestCase):
+    """Where something goes wrong the driver goes on with all other requests; the board's mock judges each phase."""
+
+    def program(self) -> str:
+        sources = [TRIALS / "driver_trials.c", *(EXAMPLES / f"firmware{part}.c" for part in ("", "_board", "_host"))]
+        return compiled("driver-trials", C99, ["-O1", *SANE], sources)
+
+    def lines(self, *words: str) -> List[str]:
+        ran = run(self.program(), *words)
+        self.assertEqual((ran.returncode, ran.stderr), (0, ""))
+        return ran.stdout.splitlines()
+
+    def test_the_other_nineteen_go_on(self) -> None:
+        self.assertEqual(self.lines()[:8], TRIALS_OF_TWENTY.splitlines())
+
+    def test_a_reset_after_each_phase(self) -> None:
+        """What was read or erased runs again in order; a program in its array comes back with all that waits for its block."""
+        lines, lost = self.lines()[8:], set()
+        self.assertEqual(len(lines), 40)
+        for line in lines:
+            name, became, order, end = line.split(": ")
+            answered = [int(it) for it in order.split()]
+            back = [at for at, letter in enumerate(became) if letter == "b"]
+            self.assertEqual((sorted([*answered, *back]), end), (list(range(20)), "well"), line)
+            self.assertIn(back, [[], [19], *(PROGRAMS_OF_A_BLOCK[at:] for at in range(4))], line)
+            lost.add(tuple(back))
+            for block in (READ_THEN_ERASED, PROGRAMS_OF_A_BLOCK):
+                there = [at for at in answered if at in block]
+                self.assertEqual(there, sorted(there), line)
+        self.assertGreaterEqual(len(lost), 5)
+
+    def test_drawn_loads(self) -> None:
+        """Programs fail, pages can't be corrected, arrays take too long, a LUN is reset again and again: each request ends once."""
+        sums = [0] * 6
+        for seed in range(1, DRAWN + 1):
+            line, = self.lines("drawn", str(seed))
+            counts, end = line.split(": ")
+            found = [int(it) for it in re.findall(r"\d+", counts)]
+            self.assertEqual((sum(found[:5]), end), (1_000, "well"), seed)
+            sums = [one + other for one, other in zip(sums, found)]
+        self.assertTrue(all(it > 50 for it in sums), sums)
+
+    def test_the_page_shows_that_code(self) -> None:
+        """Each function that EMBEDDED shows is one of the driver, as it stands there."""
+        page = (ROOT / "docs/EMBEDDED.md").read_text()
+        source = "".join((EXAMPLES / f"firmware{part}.c").read_text() for part in ("", "_interrupts"))
+        source += re.sub(r"^ \*     ", "", source, flags=re.MULTILINE)
+        section = page.split("## When a LUN isn't ready")[1].split("\n## Memory")[0]
+        blocks = [re.sub(r"^    ", "", it, flags=re.MULTILINE) for it in re.findall(r"(?:^    .*\n)+", section, re.MULTILINE)]
+        self.assertGreater(len(blocks), 4)
+        for block in blocks:
+            self.assertTrue(block.strip("\n") in source, block.splitlines()[0])
+
+
+class Interrupts(unittest.TestCase):
+    """The loop whose transfers end by interrupts: nothing is said to the driver while one runs."""
+
+    def test_each_request_ends_when_it_does_in_a_loop_that_waits(self) -> None:
+        for words in (*SIMULATED, "device slc workload erases", "array 0.3-0.9 workload mixed-4k byte 0.833"):
+            both = [run(sane(), *words.split(), "ends", "yes", "requests", "800", "way", way) for way in ("phases", "interrupts")]
+            self.assertEqual([ran.stderr for ran in both], ["", ""], words)
+            self.assertEqual(ends_of(both[0].stdout), ends_of(both[1].stdout), words)
+            self.assertEqual(len(ends_of(both[1].stdout)), 800, words)
+
+    def test_luns_that_only_their_status_shows_ready(self) -> None:
+        """Asked for, reads are answered sooner than where each waits for its stated time, and not much later than by an R/B# for each."""
+        means = {}
+        for told in ("yes", "polled", "no"):
+            ran = run(sane(), *f"byte 0.833 load 0.7 array 0.4-0.7 told {told}".split())
+            self.assertEqual(ran.stderr, "", told)
+            means[told] = float(re.findall(r"reads: ([\d.]+) us", ran.stdout)[0])
+        self.assertLess(means["polled"], means["no"])
+        self.assertLess(means["polled"], 1.3 * means["yes"])
 
 
 class Suspends(unittest.TestCase):

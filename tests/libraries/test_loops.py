@@ -8,7 +8,7 @@ import random
 import sys
 import unittest
 from pathlib import Path
-from typing import List, Sequence
+from typing import List
 
 ROOT = Path(__file__).resolve().parent.parent.parent
 sys.dont_write_bytecode = True
@@ -29,13 +29,12 @@ class Loop:
 
     def __init__(self, test: unittest.TestCase, seed: int) -> None:
         self.test, self.draw = test, random.Random(seed)
-        self.channel = drawn_channel(self.draw)
-        self.luns: List[onfi.Lun] = [onfi.Lun(self.draw.choice((0, 700)))] * self.draw.randint(1, 8)
-        self.geometry = drawn_geometry(self.draw, len(self.luns), self.channel.rules.plane_bits)
+        self.channel = drawn_channel(self.draw, [onfi.Lun(self.draw.choice((0, 700)))] * self.draw.randint(1, 8))
+        self.geometry = drawn_geometry(self.draw, len(self.channel.luns), self.channel.rules.plane_bits)
         self.queue: List[onfi.Want] = []
         self.accepted = self.draw.choice((0, 5, 1 << 40))
         self.batch: List[onfi.Want] = []
-        self.schedule = onfi.Schedule([()] * len(self.luns), ())
+        self.schedule = onfi.Schedule([()] * len(self.channel.luns), ())
         self.phases = 0
 
     def accept(self) -> None:
@@ -48,23 +47,24 @@ class Loop:
 
     def plan(self) -> None:
         """The first ones, from now on: time may have passed, and a LUN may be ready before its time."""
-        self.channel = dataclasses.replace(self.channel, bus_free=self.channel.bus_free + self.draw.choice((0, 0, 500)))
-        self.luns = [dataclasses.replace(lun, since=lun.since - self.draw.choice((0, 0, lun.since // 2))) for lun in self.luns]
+        bus_free = self.channel.bus_free + self.draw.choice((0, 0, 500))
+        luns = [dataclasses.replace(lun, since=lun.since - self.draw.choice((0, 0, lun.since // 2))) for lun in self.channel.luns]
+        self.channel = dataclasses.replace(self.channel, bus_free=bus_free, luns=luns)
         self.batch = self.queue[: self.draw.choice((1, 3, 8, 8))]
         if self.draw.random() < 0.5:
-            self.schedule = onfi.plan_within(self.channel, self.luns, self.batch, NODES).schedule
+            self.schedule = onfi.plan(self.channel, self.batch, "within", NODES).schedule
         else:
-            self.schedule = drawn_schedule(self.draw, self.channel, self.luns, self.batch)
+            self.schedule = drawn_schedule(self.draw, self.channel, self.batch)
 
     def refuses(self, part: Part) -> None:
         """Another phase than the due one, one that starts too soon, a bus that isn't free, a device that has no such block, no device."""
-        said, want = (self.channel, self.luns, self.batch), part.want
+        said, want = (self.channel, self.batch), part.want
         self.test.assertRaises(onfi.NotDue, onfi.ran, *said, self.schedule, want.lun, part.number + 1, part.start)
         self.test.assertRaises(onfi.NotDue, onfi.ran, *said, self.schedule, want.lun + 1, part.number, part.start)
         if part.start:
             self.test.assertRaises(onfi.TooSoon, onfi.ran, *said, self.schedule, want.lun, part.number, part.start - 1)
         late = dataclasses.replace(self.channel, bus_free=part.start + 1)
-        self.test.assertRaises(onfi.Illegal, onfi.due, late, self.luns, self.batch, self.geometry, self.schedule)
+        self.test.assertRaises(onfi.Illegal, onfi.due, late, self.batch, self.geometry, self.schedule)
         if want.block:
             smaller = dataclasses.replace(self.geometry, blocks_per_lun=want.block, block_bits=bits_for(want.block))
             self.test.assertRaises(onfi.BadPlace, onfi.due, *said, smaller, self.schedule)
@@ -74,7 +74,7 @@ class Loop:
 
     def run_due(self, part: Part) -> None:
         """Runs a phase, late now and then, as the library and as the model have it."""
-        said = (self.channel, self.luns, self.batch)
+        said = (self.channel, self.batch)
         self.test.assertEqual(onfi.due(*said, self.geometry, self.schedule), phase_of(self.channel, self.geometry, part))
         if self.draw.random() < 0.03:
             self.refuses(part)
@@ -82,14 +82,13 @@ class Loop:
         wanted = stand_behind(*said, self.schedule, part, started)
         found = onfi.ran(*said, self.schedule, part.want.lun, part.number, started)
         self.same(found, wanted)
-        self.channel, self.luns, self.batch, self.schedule = wanted.channel, list(wanted.luns), list(wanted.wants), wanted.schedule
+        self.channel, self.batch, self.schedule = wanted.channel, list(wanted.wants), wanted.schedule
         self.queue = [want for want in self.queue if not (part.is_new and want in part.members)]
         self.phases += 1
 
     def same(self, found: onfi.Stand, wanted: onfi.Stand) -> None:
         """Both stands, whatever sequences they are made of."""
         self.test.assertEqual(found.channel, wanted.channel)
-        self.test.assertEqual(as_lists(found.luns), as_lists(wanted.luns))
         self.test.assertEqual(list(found.wants), list(wanted.wants))
         self.test.assertEqual([list(starts) for starts in found.schedule.rest], [list(starts) for starts in wanted.schedule.rest])
         self.test.assertEqual([(list(it.wants), list(it.starts)) for it in found.schedule.groups], [(list(it.wants), list(it.starts)) for it in wanted.schedule.groups])
@@ -97,9 +96,9 @@ class Loop:
     def run(self, most: int) -> None:
         """Runs so many phases, or up to the end, where nothing is due."""
         for _ in range(most):
-            parts = parts_of(self.luns, self.batch, self.schedule)
+            parts = parts_of(self.channel, self.batch, self.schedule)
             if not parts:
-                self.test.assertRaises(onfi.NothingDue, onfi.due, self.channel, self.luns, self.batch, self.geometry, self.schedule)
+                self.test.assertRaises(onfi.NothingDue, onfi.due, self.channel, self.batch, self.geometry, self.schedule)
                 return
             self.run_due(parts[0])
 
@@ -110,10 +109,6 @@ class Loop:
             self.plan()
             self.run(self.draw.randint(0, 20) if at + 1 < PLANS else 1_000)
         return self.phases
-
-
-def as_lists(luns: Sequence[onfi.Lun]) -> List[object]:
-    return [(lun.since, list(lun.members), lun.next) for lun in luns]
 
 
 class Loops(unittest.TestCase):

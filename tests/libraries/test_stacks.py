@@ -43,7 +43,7 @@ class Stacks(unittest.TestCase):
 
     def test_no_call_takes_more_than_the_header_says(self) -> None:
         """And no more than an eighth more on other processors."""
-        self.assertIn("x86-64", self.found)
+        self.assertEqual("x86-64" in self.found, not stacks.is_unproved(LIBRARIES))
         for name, found in self.found.items():
             for row in ROWS:
                 for call in row.calls:

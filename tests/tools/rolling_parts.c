@@ -150,10 +150,10 @@ static bool twice(const way *way, mind *mind, const machine *m, const batch *bat
 static void print_runs(void)
 {
     const way all[] = {
-        {"as it should be", everything, by_rule, &READS_FIRST, NULL, 0},
-        {"too soon on the bus", everything, too_soon, &READS_FIRST, NULL, 0},
-        {"one twice", everything, twice, &READS_FIRST, NULL, 0},
-        {"never", everything, never, NULL, NULL, 0},
+        {"as it should be", everything, by_rule, &READS_FIRST, NULL},
+        {"too soon on the bus", everything, too_soon, &READS_FIRST, NULL},
+        {"one twice", everything, twice, &READS_FIRST, NULL},
+        {"never", everything, never, NULL, NULL},
     };
     const printed nothing = {NULL, NULL};
     setup setup = setup_of(8);

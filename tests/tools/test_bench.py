@@ -180,7 +180,7 @@ limit = int(words[words.index("--limit") + 1])
 if limit < nodes and not remembers:
     print(f"over {{limit}}")
     sys.exit(6)
-below = "below 5\\n" if limit < nodes else ""
+below = "below 1\\n" if limit < nodes else ""
 print(f"ONFIPLAN 1\\nfinish {{finish}}\\n{{below}}group 0 0 1\\nONFICERT {{'3 remember' if remembers else 1}}\\nB3 U Y1 L")
 """
 # What it opens and answers, the status, and what is said then.

@@ -98,6 +98,48 @@ CLOSED = "".join([
     entry("close_6", "HalfGate::close", "4", "6"),
     entry("both_1", "Half::of", "n / 2", "1", "in: src/odd.rt Half::last\nold: even(9)\nnew: 1\n"),
 ])
+# A function of two clauses, and one that calls itself; edits of them that one clause refuses, none, and all.
+PAIR = """\
+fn pair(n: u8) -> (u8, u8)
+    requires some { 1 ≤ n }
+    ensures low { result.0 ≡ n
+        / 2 }
+    ensures high { result.1 ≡ n - n / 2 }
+{
+    (half(n), n - half(n))
+}
+
+fn down(n: u8) -> u8
+    ensures first { result ≤ n }
+    ensures last { 0 ≤ result }
+{
+    down(n - 1)
+}
+"""
+PAIR_ANSWERS = """\
+use Rattle.demo.proofs.pair.pair.Goals as goal
+
+pub returns-clause-low : goal.returns-clause-low
+returns-clause-low c =
+    low c
+
+pub half-requires : goal.half-requires
+half-requires c = refl
+"""
+DOWN_ANSWERS = """\
+pub down-returns-clause-first : goal.down-returns-clause-first
+down-returns-clause-first c = refl
+
+pub down-returns-clause-last : goal.down-returns-clause-last
+down-returns-clause-last c = refl
+"""
+
+
+def promised(clause: str, item: str, old: str, new: str) -> str:
+    return entry(f"{item}_{clause}", item, old, new, path="src/pair.rt").replace("in: ", f"clause: {clause}\nin: " if clause else "in: ")
+
+
+PAIRS = "".join(promised(clause, "pair", "(half(n), ", "(0, ") for clause in ("low", "high", "no ensures", "")) + promised("first", "down", "down(n - 1)", "1")
 GATE_ANSWERS = "use Rattle.demo.proofs.half.HalfGate.close.Goals as goal\n"
 
 
@@ -110,7 +152,8 @@ def crate_of(test: unittest.TestCase, edits: str, **how: Any) -> Any:
     """A crate 'demo' with these wrong bodies."""
     room = support.room_of(test)
     files = {"src/half.rt": HALF, "src/odd.rt": ODD, "proofs/half/Half/of/Answers.antt": ANSWERS, "proofs/odd/+odd/Answers.antt": STEPS,
-             "proofs/half/HalfGate/close/Answers.antt": GATE_ANSWERS, "wrong-bodies.txt": edits}
+             "proofs/half/HalfGate/close/Answers.antt": GATE_ANSWERS, "wrong-bodies.txt": edits, "src/pair.rt": PAIR,
+             "proofs/pair/pair/Answers.antt": PAIR_ANSWERS, "proofs/pair/+down/Answers.antt": DOWN_ANSWERS}
     for path, text in files.items():
         put(room / "crates" / "demo" / path, text)
     with unittest.mock.patch.object(TOOL, "ROOT", room):
@@ -206,6 +249,36 @@ class Copies(unittest.TestCase):
         self.assertIn("of_edit_3", texts["src/half.rt"])
         self.assertIn("last_edit_3", texts["src/odd.rt"])
 
+    def test_of_one_clause_the_others_and_their_answers_go(self) -> None:
+        texts, copy = self.write(crate_of(self, PAIRS), 0)
+        head = "fn pair_edit_{}(n: u8) -> (u8, u8)\n    requires some {{ 1 ≤ n }}\n    ensures {}\n    ensures and_so {{ Unit {{0}} }}\n{{\n"
+        self.assertIn(head.format(1, "low { result.0 ≡ n\n        / 2 }"), texts["src/pair.rt"])
+        self.assertIn(head.format(2, "high { result.1 ≡ n - n / 2 }"), texts["src/pair.rt"])
+        self.assertIn("fn pair_edit_3(n: u8) -> (u8, u8)\n    requires some { 1 ≤ n }\n    ensures and_so { Unit {0} }\n{\n", texts["src/pair.rt"])
+        low, high, calls, whole = [(copy / f"proofs/pair/pair_edit_{number}/Answers.antt").read_text() for number in (1, 2, 3, 4)]
+        use, returned, asked = PAIR_ANSWERS.split("\n\n")
+        hole = "pub half-requires : goal.half-requires\nhalf-requires = ?\n"
+        self.assertEqual(low, "\n\n".join([use.replace("pair.Goals", "pair_edit_1.Goals"), returned, hole]))
+        self.assertEqual(high, "\n\n".join([use.replace("pair.Goals", "pair_edit_2.Goals"), hole]))
+        self.assertEqual(calls, "\n\n".join([use.replace("pair.Goals", "pair_edit_3.Goals"), asked]))
+        self.assertEqual(whole, PAIR_ANSWERS.replace("pair.Goals", "pair_edit_4.Goals"))
+
+    def test_in_a_cycle_of_calls_the_clauses_stay(self) -> None:
+        texts, copy = self.write(crate_of(self, PAIRS), 0)
+        self.assertIn("    ensures first { result ≤ n }\n    ensures last { 0 ≤ result }\n{\n    1\n", texts["src/pair.rt"])
+        answers = (copy / "proofs/pair/+down_edit_5/Answers.antt").read_text()
+        self.assertEqual(answers, """\
+pub down_edit_5-returns-clause-first : goal.down_edit_5-returns-clause-first
+down_edit_5-returns-clause-first c = refl
+
+pub down_edit_5-returns-clause-last : goal.down_edit_5-returns-clause-last
+down_edit_5-returns-clause-last = ?
+""")
+
+    def test_a_clause_that_is_not_there_is_told(self) -> None:
+        edits = entry("fourth", "Half::of", "n / 2", "n / 4").replace("in: ", "clause: half\nin: ")
+        self.assertEqual([it.text for it in crate_of(self, edits).tried], ["BAD EDIT: no function that it changes has a clause half"])
+
     def test_a_cycle_of_calls_has_siblings_that_call_each_other(self) -> None:
         texts, copy = self.write(crate_of(self, WHOLE), 0)
         for head in ("#[cycle(odd_edit_5)]\nfn even_edit_5(n: u8) -> u8 {\n    odd_edit_5(n - 1)\n", "#[cycle(odd_edit_5)]\nfn odd_edit_5(n: u8) -> u8 {\n    0\n"):
@@ -218,11 +291,13 @@ even_edit_5-odd_edit_5-requires t c = (odd (c.odd_edit_5.result) c.oddly Rattle.
     def test_the_others_are_taken_by_their_contracts(self) -> None:
         _, copy = self.write(crate_of(self, WHOLE), 1)
         self.assertIn("use Rattle.demo.proofs.half.Half.next.Statement as stated\n\npub next_spec : ", (copy / "proofs/half/Half/next/Proof.antt").read_text())
-        self.assertIn("use Rattle.demo.proofs.odd.+odd as stated\n\npub +odd_spec : ", (copy / "proofs/odd/+odd/Proof.antt").read_text())
+        # (one of a cycle of calls that does nothing is of none)
+        self.assertIn("use Rattle.demo.proofs.odd.odd.Statement as stated\n\npub odd_spec : ", (copy / "proofs/odd/odd/Proof.antt").read_text())
+        self.assertFalse((copy / "proofs/odd/+odd").exists())
         self.assertEqual([it.name for it in (copy / "proofs/half/Half/of").iterdir()], ["Proof.antt"])
-        # (what is asked for by nothing else does nothing; a cycle of calls stays one)
+        # (what is asked for by nothing else does nothing)
         self.assertIn("ensures { result ≡ n / 2 }\n{ loop {}\n    }\n", (copy / "src/half.rt").read_text())
-        self.assertIn("    odd(n - 1)\n", (copy / "src/odd.rt").read_text())
+        self.assertIn("\nfn even(n: u8) -> u8 { loop {}\n}\n\nfn odd(n: u8) -> u8 { loop {}\n}\n", (copy / "src/odd.rt").read_text())
         # (what is edited in place keeps its proofs)
         self.assertFalse((copy / "proofs/odd/Half/last").exists())
 
@@ -325,6 +400,13 @@ class Runs(unittest.TestCase):
         said, asked = self.run_crate([(1, refused + self.PROVED, 1.0)], self.EDITS)
         self.assertEqual([it.split(",")[0] for it in said], ["fourth: refused", "fourth", "at_0: refused"])
         self.assertEqual(asked, [["next_edit_3", "of_edit_1", "of_edit_2"]])
+
+    def test_what_its_clause_does_not_judge_the_whole_contract_does(self) -> None:
+        low, proved = "fn demo::pair::pair_edit_1: no proof: `search` did not prove `returns-clause-low`\n", "fn demo::pair::pair_edit_{}: no holes\n"
+        answers = [(1, low + proved.format(2) + "only=2 holes=0\n", 1.0), (1, low.replace("1", "2") + "only=1 holes=0\n", 1.0)]
+        said, asked = self.run_crate(answers, "".join(promised(clause, "pair", "(half(n), ", "(0, ") for clause in ("low", "high")))
+        self.assertEqual([it.split(",")[0] for it in said], ["pair_low: refused", "pair_high: refused"])
+        self.assertEqual(asked, [["pair_edit_1", "pair_edit_2"], ["pair_edit_2"]])
 
     def test_what_can_not_be_read_is_left_out(self) -> None:
         fault = "src/half.rt:17:9: error[unknown-name]: no `m` is in scope\n"

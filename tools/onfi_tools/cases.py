@@ -100,17 +100,21 @@ def single_cases(words: List[str], folder: pathlib.Path = CASES) -> List[Case]:
     return [case for case in read_cases(words, folder) if not case.second]
 
 
-def asked_of_script(words: Sequence[bytes]) -> List[str]:
-    """What examples/c/script.c is asked where the program is asked this; nothing where it can't be."""
-    options = {*words[1:]}
-    remember = ["remember"] if b"--remember" in options else []
-    if len(options) < len(words) - 1:
-        return []
-    if words[:1] == [b"plan"] and options <= {b"--trace", b"--requests", b"--remember"}:
-        return ["requests" if b"--requests" in options else "trace" if b"--trace" in options else "plan", *remember]
-    if words[:1] == [b"check"] and (options <= {b"--remember"} or options == {b"--legal"}):
-        return ["legal" if b"--legal" in options else "check", *remember]
-    return []
+# The options that onfi_text of the library takes of each command, and how many words follow each.
+OF_TEXT = {b"plan": {b"--by": 1, b"--early": 0, b"--limit": 1, b"--trace": 0, b"--requests": 0}, b"check": {b"--by": 1, b"--legal": 0}, b"audit": {b"--all": 0, b"--ready-by-status": 0}}
+
+
+def words_of_text(words: Sequence[bytes]) -> str:
+    """What onfi_text of the library is asked where the program is asked this; nothing where it can't be: that answers scripts, not words."""
+    options = OF_TEXT.get(words[0], {}) if words else {}
+    left, seen = [*words[1:]], set()
+    while left:
+        word = left.pop(0)
+        if word in seen or len(left) < options.get(word, len(left) + 1):
+            return ""
+        seen.add(word)
+        del left[: options[word]]
+    return b" ".join(words).decode("ascii", "replace") if options else ""
 
 
 def read_cases(words: List[str], folder: pathlib.Path = CASES) -> List[Case]:

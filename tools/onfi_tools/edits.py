@@ -4,6 +4,7 @@ An entry is some lines, after an empty one:
 
     edit: WHAT_IT_DOES
     mistake: WORDS, where the papers or the pages promise that this one is refused
+    clause: NAME of the `ensures` that refuses it; "no ensures" where the function's loops do, or what it asks of others
     in: src/FILE.rt FUNCTION, OWNER::FUNCTION, or the name of a constant or a type
     old: TEXT, which stands once in the body of the function, or else once in its head
     new: TEXT
@@ -24,7 +25,7 @@ from typing import Callable, Dict, List, NamedTuple
 TOKEN = re.compile(r"""b?"(?:\\.|[^"\\])*"|b?'(?:\\.|[^'\\])'|[A-Za-z_]\w*!?|\d\w*|<<=?|>>=?|&&|\|\||[-+*/%&|^<>=!]=|->|=>|::|\.\.=?|\S""")
 STATEMENT = frozenset("if else match return let for while loop break continue fn => ?".split())
 OPERATOR = frozenset("+ - * / % & | ^ < > ! == != <= >= && || << >> += -= *= /= %= &= |= ^= .. ..= as".split())
-LINE = re.compile(r"(edit|mistake|in|old|new|twin|alone):(?: (.*))?")
+LINE = re.compile(r"(edit|mistake|clause|in|old|new|twin|alone):(?: (.*))?")
 
 
 class BadEdit(Exception):
@@ -47,6 +48,7 @@ class Entry:
     name: str
     mistake: str = ""
     reason: str = ""
+    clause: str = ""
     wrong: List[Pair] = field(default_factory=list)
     twin: List[Pair] = field(default_factory=list)
 
@@ -80,8 +82,8 @@ def read_line(entries: List[Entry], said: Dict[str, str], word: str, rest: str) 
     if word == "edit":
         entries.append(Entry(rest))
         said.update(part="wrong", **{"in": ""})
-    elif word in ("mistake", "alone"):
-        setattr(entries[-1], "mistake" if word == "mistake" else "reason", rest)
+    elif word in ("mistake", "clause", "alone"):
+        setattr(entries[-1], "reason" if word == "alone" else word, rest)
     elif word == "twin":
         said["part"] = "twin"
     elif word == "new":

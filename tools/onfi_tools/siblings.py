@@ -16,6 +16,7 @@ from typing import Dict, FrozenSet, Iterable, List, NamedTuple, Optional, Sequen
 
 from onfi_tools.edits import BadEdit, Pair
 from onfi_tools.functions import OWNER, Function, Key, end_of, functions_of, users_of
+from onfi_tools.promises import NONE, answers_for, names_of, with_one
 
 PARTS = ("src", "specs", "proofs")
 TRAIT = re.compile(r"(?:pub(?:\([a-z]+\))? )?(?:trait\b|impl\b.* for )")
@@ -38,10 +39,19 @@ class Trial(NamedTuple):
     pairs: Tuple[Pair, ...]
     keys: FrozenSet[Key]
     number: int
+    # The clause that refuses it, where no other is looked at.
+    clause: str = ""
+
+    @property
+    def edited(self) -> FrozenSet[Tuple[str, str]]:
+        return frozenset((it.path, it.item) for it in self.pairs)
 
 
-def edited(text: str, body: int, pairs: Iterable[Pair]) -> str:
-    """A text with the pairs made in it: in the part from `body` on, or else before it."""
+NO_TRIAL = Trial("", False, (), frozenset(), 0)
+
+
+def edited(text: str, body: int, pairs: Iterable[Pair]) -> Tuple[str, str]:
+    """A text's head and its body, which begins at `body`, with the pairs made in them: in the body, or else in the head."""
     head, rest = text[:body], text[body:]
     for pair in pairs:
         if rest.count(pair.old) == 1:
@@ -50,7 +60,7 @@ def edited(text: str, body: int, pairs: Iterable[Pair]) -> str:
             head = head.replace(pair.old, pair.new)
         else:
             raise BadEdit(f"an old text stands {rest.count(pair.old)} times in {pair.item}: {pair.old}")
-    return head + rest
+    return head, rest
 
 
 def by_item(pairs: Iterable[Pair]) -> Dict[Tuple[str, str], List[Pair]]:
@@ -95,6 +105,10 @@ class Sources:
         indent = len(self.lines[function.path][function.first]) - len(self.lines[function.path][function.first].lstrip())
         alone = re.search(rf"^ {{{indent}}}\{{$", text, re.M) or re.search(r"\{$", text, re.M)
         return alone.start() if alone and function in self.functions else 0
+
+    def head_in(self, function: Function) -> str:
+        """Its text before its body."""
+        return self.text_of(function)[: self.body_in(function)]
 
     def head_of(self, function: Function) -> str:
         """The head of the impl or trait that a function stands in."""
@@ -150,16 +164,18 @@ class Sources:
         home = self.home_of(owner)
         return None if home is None else PurePosixPath(*home, owner, f"{place.name}_edit_{number}")
 
-    def trial(self, name: str, pairs: Sequence[Pair], number: int, is_twin: bool) -> Trial:
+    def trial(self, name: str, pairs: Sequence[Pair], number: int, is_twin: bool, clause: str = "") -> Trial:
         """What is tried for these pairs, which have to apply; of a constant or a type, at the functions that name it."""
         items = {item: self.named(*item) for item in by_item(pairs)}
         for item, own in by_item(pairs).items():
             edited(self.text_of(items[item]), self.body_in(items[item]), own)
         if not items:
             raise BadEdit("it has no pair")
+        if clause and clause != NONE and not any(clause in names_of(self.head_in(it)) for it in items.values()):
+            raise BadEdit(f"no function that it changes has a clause {clause}")
         if all(self.place_beside(it, number) for it in items.values()):
             keys = frozenset((it.path, self.owner_beside(it) or "", f"{it.name}_edit_{number}") for it in items.values())
-            return Trial(name, is_twin, tuple(pairs), keys, number)
+            return Trial(name, is_twin, tuple(pairs), keys, number, clause)
         inside = [it for it in items.values() if it in self.functions]
         users = [user for it in items.values() if it not in self.functions for user in users_of(self.texts, it.name)]
         if not inside and not users:
@@ -201,14 +217,14 @@ class Sources:
             if (self.folder / part).is_dir():
                 shutil.copytree(self.folder / part, copy / part)
         in_place = frozenset(key for it in trials for key in self.units(it))
-        made = [it for trial in trials for it in self.made_by(trial)]
-        made += [(it, self.stub_of(it), 0) for it in self.write_holes(copy / "proofs", in_place) if self.can_be_stub(it)]
+        made = [(*it, trial) for trial in trials for it in self.made_by(trial)]
+        made += [(it, self.stub_of(it), NO_TRIAL) for it in self.write_holes(copy / "proofs", in_place) if self.can_be_stub(it)]
         texts = {path: list(lines) for path, lines in self.lines.items()}
-        for function, text, number in sorted(made, key=lambda it: (-it[0].first, -it[2])):
+        for function, text, trial in sorted(made, key=lambda it: (-it[0].first, -it[2].number)):
             lines = texts[function.path]
-            if number:
+            if trial.number:
                 self.add_sibling(lines, function, text)
-                self.write_proofs(copy / "proofs", function, number)
+                self.write_proofs(copy / "proofs", function, trial)
             else:
                 lines[self.first_of(function) : function.last + 1] = text.split("\n")
         for path, lines in texts.items():
@@ -225,12 +241,21 @@ class Sources:
         uses = re.findall(r"^    ghost use [^;]*;", block, re.M)
         lines += [f"impl {owner} {{", *"\n".join(uses).split("\n"), *text.split("\n"), "}", ""]
 
-    def made_by(self, trial: Trial) -> List[Tuple[Function, str, int]]:
-        """The texts that a trial gives functions, with their siblings' number; of a cycle of calls each function has a sibling."""
-        texts = {function: edited(self.text_of(function), self.body_in(function), pairs)
-                 for item, pairs in by_item(trial.pairs).items() for function in [self.named(*item)]}
+    def made_by(self, trial: Trial) -> List[Tuple[Function, str]]:
+        """The texts that a trial gives functions; of a cycle of calls each function has a sibling."""
+        texts = {function: self.edited_text(function, pairs, trial) for item, pairs in by_item(trial.pairs).items() for function in [self.named(*item)]}
         mates = {mate: self.text_of(mate) for function in texts if trial.number for mate in self.unit_of(function)}
-        return [(it, self.renamed(text, it, trial.number), trial.number) for it, text in {**mates, **texts}.items()]
+        return [(it, self.renamed(text, it, trial.number)) for it, text in {**mates, **texts}.items()]
+
+    def edited_text(self, function: Function, pairs: Sequence[Pair], trial: Trial) -> str:
+        head, body = edited(self.text_of(function), self.body_in(function), pairs)
+        return (with_one(head, trial.clause) if self.clauses_gone(function, trial) else head) + body
+
+    def clauses_gone(self, function: Function, trial: Trial) -> List[str]:
+        """The clauses that an edited function's sibling does without, since another one refuses it."""
+        names = names_of(self.head_in(function))
+        is_alone = trial.number and trial.clause in [*names, NONE] and not self.cycle_of(function)
+        return [it for it in names if it != trial.clause] if is_alone else []
 
     def renamed(self, text: str, function: Function, number: int) -> str:
         """A function's text under its sibling's name; in a cycle of calls it calls siblings."""
@@ -240,8 +265,9 @@ class Sources:
         called = rf"|(?:(?<![\w.])|(?<=self\.))(?:{names})(?=\()|(?<=#\[cycle\(){cycle}(?=\))" if cycle else ""
         return re.sub(rf"(?<=\bfn )(?:{names})\b{called}", rf"\g<0>_edit_{number}", text)
 
-    def write_proofs(self, proofs: Path, function: Function, number: int) -> None:
+    def write_proofs(self, proofs: Path, function: Function, trial: Trial) -> None:
         """Gives a sibling its function's proofs, in which its own names are the sibling's."""
+        number = trial.number
         place, beside = self.place_of(function), self.place_beside(function, number)
         assert place is not None and beside is not None
         sibling = proofs / beside
@@ -253,34 +279,44 @@ class Sources:
         part = re.compile(rf"(?<![\w'])(?:{names})(?![\w'])")
         for file in (self.folder / "proofs" / place).glob("*.antt"):
             sibling.mkdir(parents=True, exist_ok=True)
-            text = step.sub(lambda it: part.sub(rf"\g<0>_edit_{number}", it[0]), file.read_text(encoding="utf-8"))
+            text = self.answers(file.read_text(encoding="utf-8"), function, trial)
+            text = step.sub(lambda it: part.sub(rf"\g<0>_edit_{number}", it[0]), text)
             text = own.sub(lambda it: it[1] + parts if it[1] else f"{function.name}_edit_{number}", text)
             (sibling / file.name).write_text(text, encoding="utf-8")
 
+    def answers(self, text: str, function: Function, trial: Trial) -> str:
+        """A proof file of a function, as far as the clause that refuses a trial asks for it."""
+        changed = [it.name for it in self.unit_of(function) if (it.path, "::".join(filter(None, (it.owner, it.name)))) in trial.edited]
+        if trial.clause not in [name for it in self.unit_of(function) if it.name in changed for name in [*names_of(self.head_in(it)), NONE]]:
+            return text
+        return answers_for(text, trial.clause, "|".join(changed), self.clauses_gone(function, trial))
+
     def can_be_stub(self, function: Function) -> bool:
-        """Whether nothing asks for a function's body: neither a constant that calls it, nor its type, nor a cycle of calls."""
-        text = self.text_of(function)
-        head = text[: self.body_in(function)]
-        return not re.search(r"\bconst fn\b|-> .*\bimpl\b", head) and not self.cycle_of(function)
+        """Whether nothing asks for a function's body: neither a constant that calls it, nor its type."""
+        return not re.search(r"\bconst fn\b|-> .*\bimpl\b", self.head_in(function))
 
     def stub_of(self, function: Function) -> str:
         """A function's text with a body that calls nothing and does nothing; its proof is a hole, so nothing is said of it."""
         end = self.lines[function.path][function.last].partition("}")[0] + "}"
-        return self.text_of(function)[: self.body_in(function)] + "{ loop {}\n" + end
+        return re.sub(rf" *{CYCLE.pattern}\n", "", self.head_in(function)) + "{ loop {}\n" + end
 
     def write_holes(self, proofs: Path, kept: FrozenSet[Key]) -> List[Function]:
         """Puts a hole in place of the proofs of functions but these, and gives those functions."""
         given: List[Function] = []
         for function in self.functions:
-            place, text = self.place_of(function), self.text_of(function)
-            if place is None or function.key in kept or not self.body_in(function) or "#[test]" in text:
+            place = self.place_of(function)
+            if place is None or function.key in kept or not self.body_in(function) or "#[test]" in self.text_of(function):
                 continue
             # (a method of a trait needs none where it has no proof of its own, and may have no body)
-            if (TRAIT.match(self.head_of(function)) or CYCLE.search(text)) and not (self.folder / "proofs" / place).is_dir():
+            if TRAIT.match(self.head_of(function)) and not (self.folder / "proofs" / place).is_dir():
                 continue
             shutil.rmtree(proofs / place, ignore_errors=True)
-            (proofs / place).mkdir(parents=True)
-            dotted = ".".join([self.crate, "proofs", *place.parts, *(["Statement"] if place.name == function.name else [])])
-            (proofs / place / "Proof.antt").write_text(HOLE.format(path=dotted, name=place.name), encoding="utf-8")
+            self.write_hole(proofs, place.with_name(function.name) if self.can_be_stub(function) else place, function)
             given.append(function)
         return given
+
+    def write_hole(self, proofs: Path, place: PurePosixPath, function: Function) -> None:
+        """Puts a hole in place of a function's proofs; of one of a cycle of calls that does nothing they stand where those of any other do."""
+        dotted = ".".join([self.crate, "proofs", *place.parts, *(["Statement"] if place.name == function.name else [])])
+        (proofs / place).mkdir(parents=True, exist_ok=True)
+        (proofs / place / "Proof.antt").write_text(HOLE.format(path=dotted, name=place.name), encoding="utf-8")

@@ -39,8 +39,15 @@ class Row(NamedTuple):
     calls: List[str]
 
 
+def is_unproved(libraries: Path) -> bool:
+    """Whether the library is one of `make try-library`, which checks as it runs and so takes more stack and code than the proved one."""
+    return b"onfi_c: unproved" in (libraries / "libonfi.so").read_bytes()
+
+
 def lacks(machine: Machine, libraries: Path) -> str:
     """What isn't here of what trying a processor takes; empty where all is."""
+    if is_unproved(libraries):
+        return "the library is unproved and checks as it runs"
     if not all(map(shutil.which, [machine.compiler[0], *machine.emulator[:1]])):
         return f"Debian's {machine.packages} are not installed"
     return "" if (libraries / machine.folder / "libonfi.a").is_file() else f"{libraries / machine.folder} has no libonfi.a"

@@ -1,9 +1,8 @@
 //! Audits of logs, for C.
-ghost use Rattle.std.specs.Prelude.{None, Some};
 ghost use Rattle.onfi_calls.specs.AuditBegun as audit_begun_spec;
 ghost use Rattle.onfi_calls.specs.AuditPhase as audit_phase_spec;
 
-use onfi_calls::{PlainAudit, PlainChannel, PlainLengths, PlainLogBroken, PlainLun, PlainPhase};
+use onfi_calls::{PlainAudit, PlainChannel, PlainLogBroken, PlainPhase};
 use std::alloc::Global;
 
 /// Is [`onfi_audit_begin`](onfi_calls::onfi_audit_begin) for C.
@@ -11,26 +10,11 @@ use std::alloc::Global;
 pub extern "C" fn onfi_audit_begin(
     alloc: Global,
     channel: &PlainChannel,
-    luns: &[PlainLun],
     audit: &mut PlainAudit,
 ) -> u32
-    ensures { audit_begun_spec.GivesAudit None channel.now luns.now audit.old audit.new result }
+    ensures { audit_begun_spec.GivesAudit channel.now audit.old audit.new result }
 {
-    onfi_calls::onfi_audit_begin(alloc, channel, luns, audit)
-}
-
-/// Is [`onfi_audit_begin_by`](onfi_calls::onfi_audit_begin_by) for C.
-#[unsafe(no_mangle)]
-pub extern "C" fn onfi_audit_begin_by(
-    alloc: Global,
-    lengths: &PlainLengths,
-    channel: &PlainChannel,
-    luns: &[PlainLun],
-    audit: &mut PlainAudit,
-) -> u32
-    ensures { audit_begun_spec.GivesAudit (Some lengths.now) channel.now luns.now audit.old audit.new result }
-{
-    onfi_calls::onfi_audit_begin_by(alloc, lengths, channel, luns, audit)
+    onfi_calls::onfi_audit_begin(alloc, channel, audit)
 }
 
 /// Is [`onfi_audit_phase`](onfi_calls::onfi_audit_phase) for C.

@@ -1,13 +1,11 @@
 //! Channels that go phase by phase, for C.
 ghost use Rattle.std.specs.Prelude.{◌≡◌};
 ghost use Rattle.onfi_calls.specs.Dispatching as spec;
-ghost use Rattle.onfi_calls.specs.Said.{want_of};
+ghost use Rattle.onfi_calls.specs.Problem.{want_of};
 ghost use Rattle.onfi_steady.specs.Dispatcher.{accept_refusal, accepted_again, again_refusal};
 ghost use Rattle.onfi_steady.specs.Waiting.{accepted};
 
-use onfi_calls::{
-    PlainChannel, PlainDispatcher, PlainGeometry, PlainLengths, PlainLun, PlainPhase, PlainWant,
-};
+use onfi_calls::{PlainChannel, PlainDispatcher, PlainGeometry, PlainPhase, PlainWant};
 use std::alloc::Global;
 
 /// Is [`onfi_dispatcher_begin`](onfi_calls::onfi_dispatcher_begin) for C.
@@ -15,14 +13,12 @@ use std::alloc::Global;
 pub extern "C" fn onfi_dispatcher_begin(
     alloc: Global,
     dispatcher: &mut PlainDispatcher,
-    lengths: &PlainLengths,
     channel: &PlainChannel,
-    luns: &[PlainLun],
     geometry: &PlainGeometry,
 ) -> u32
-    ensures { spec.GivesBegun lengths.now channel.now luns.now geometry.now dispatcher.old dispatcher.new result }
+    ensures { spec.GivesBegun channel.now geometry.now dispatcher.old dispatcher.new result }
 {
-    onfi_calls::onfi_dispatcher_begin(alloc, dispatcher, lengths, channel, luns, geometry)
+    onfi_calls::onfi_dispatcher_begin(alloc, dispatcher, channel, geometry)
 }
 
 /// Is [`onfi_dispatcher_accept`](onfi_calls::onfi_dispatcher_accept) for C.

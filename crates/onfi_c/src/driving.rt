@@ -1,14 +1,11 @@
 //! What a driver asks and says of each phase, for C.
-ghost use Rattle.onfi_calls.specs.SaidGeometry.{GivesRow};
-ghost use Rattle.std.specs.Prelude.{None, Some, take};
+ghost use Rattle.onfi_calls.specs.Geometry.{GivesRow};
+ghost use Rattle.std.specs.Prelude.{take};
 ghost use Rattle.onfi_calls.specs.Due.{GivesDue};
 ghost use Rattle.onfi_calls.specs.Ran.{GivesRan};
 ghost use Rattle.onfi_calls.specs.Output as output_spec;
 
-use onfi_calls::{
-    PlainChannel, PlainGeometry, PlainLengths, PlainLun, PlainOutput, PlainPhase, PlainSchedule,
-    PlainWant,
-};
+use onfi_calls::{PlainChannel, PlainGeometry, PlainOutput, PlainPhase, PlainSchedule, PlainWant};
 use std::alloc::Global;
 
 /// Is [`onfi_row`](onfi_calls::onfi_row) for C.
@@ -30,34 +27,14 @@ pub extern "C" fn onfi_row(
 pub extern "C" fn onfi_due(
     alloc: Global,
     channel: &PlainChannel,
-    luns: &[PlainLun],
     wants: &[PlainWant],
     geometry: &PlainGeometry,
     schedule: &PlainSchedule,
     phase: &mut PlainPhase,
 ) -> u32
-    ensures { GivesDue None channel.now luns.now wants.now geometry.now schedule.now phase.old phase.new result }
+    ensures { GivesDue channel.now wants.now geometry.now schedule.now phase.old phase.new result }
 {
-    onfi_calls::onfi_due(alloc, channel, luns, wants, geometry, schedule, phase)
-}
-
-/// Is [`onfi_due_by`](onfi_calls::onfi_due_by) for C.
-#[unsafe(no_mangle)]
-pub extern "C" fn onfi_due_by(
-    alloc: Global,
-    lengths: &PlainLengths,
-    channel: &PlainChannel,
-    luns: &[PlainLun],
-    wants: &[PlainWant],
-    geometry: &PlainGeometry,
-    schedule: &PlainSchedule,
-    phase: &mut PlainPhase,
-) -> u32
-    ensures { GivesDue (Some lengths.now) channel.now luns.now wants.now geometry.now schedule.now phase.old phase.new result }
-{
-    onfi_calls::onfi_due_by(
-        alloc, lengths, channel, luns, wants, geometry, schedule, phase,
-    )
+    onfi_calls::onfi_due(alloc, channel, wants, geometry, schedule, phase)
 }
 
 /// Is [`onfi_ran`](onfi_calls::onfi_ran) for C.
@@ -65,7 +42,6 @@ pub extern "C" fn onfi_due_by(
 pub extern "C" fn onfi_ran(
     alloc: Global,
     channel: &mut PlainChannel,
-    luns: &mut [PlainLun],
     wants: &mut [PlainWant; 8],
     count: &mut usize,
     schedule: &mut PlainSchedule,
@@ -74,37 +50,11 @@ pub extern "C" fn onfi_ran(
     started: u64,
 ) -> u32
     ensures { GivesRan
-        (record { lengths = None; channel = channel.old; luns = luns.old; wants = take count.old wants.old; schedule = schedule.old })
-        (record { lengths = None; channel = channel.new; luns = luns.new; wants = take count.new wants.new; schedule = schedule.new })
+        (record { channel = channel.old; wants = take count.old wants.old; schedule = schedule.old })
+        (record { channel = channel.new; wants = take count.new wants.new; schedule = schedule.new })
         wants.old wants.new count.old count.new lun number started result }
 {
-    onfi_calls::onfi_ran(
-        alloc, channel, luns, wants, count, schedule, lun, number, started,
-    )
-}
-
-/// Is [`onfi_ran_by`](onfi_calls::onfi_ran_by) for C.
-#[unsafe(no_mangle)]
-pub extern "C" fn onfi_ran_by(
-    alloc: Global,
-    lengths: &PlainLengths,
-    channel: &mut PlainChannel,
-    luns: &mut [PlainLun],
-    wants: &mut [PlainWant; 8],
-    count: &mut usize,
-    schedule: &mut PlainSchedule,
-    lun: u8,
-    number: u8,
-    started: u64,
-) -> u32
-    ensures { GivesRan
-        (record { lengths = Some lengths.now; channel = channel.old; luns = luns.old; wants = take count.old wants.old; schedule = schedule.old })
-        (record { lengths = Some lengths.now; channel = channel.new; luns = luns.new; wants = take count.new wants.new; schedule = schedule.new })
-        wants.old wants.new count.old count.new lun number started result }
-{
-    onfi_calls::onfi_ran_by(
-        alloc, lengths, channel, luns, wants, count, schedule, lun, number, started,
-    )
+    onfi_calls::onfi_ran(alloc, channel, wants, count, schedule, lun, number, started)
 }
 
 /// Is [`onfi_output_of`](onfi_calls::onfi_output_of) for C.

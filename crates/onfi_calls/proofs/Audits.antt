@@ -1,6 +1,6 @@
 -- A struct that keeps what a log has left says it.
-use Rattle.std.proofs.Common.{◌≡◌, ℕ, zero, suc, ◌+◌, ◌*◌, ◌%◌, ◌^◌, ◌<◌, ◌≤◌, Bool, true, false, List, [], ◌∷◌, ◌++◌, length, map, take, drop, get_or, Option, Some, None, inl, inr, refl, sym, ap, ◌∙◌, subst, arith, length-set}
-use Rattle.std.specs.Prelude.{◌==◌, ◌||◌, nat_lt, if◌then◌else◌, slice_get, replicate}
+use Rattle.std.proofs.Common.{◌≡◌, ℕ, zero, suc, ◌+◌, ◌*◌, ◌%◌, ◌^◌, ◌<◌, ◌≤◌, Bool, true, false, List, [], ◌∷◌, ◌++◌, length, map, take, drop, get_or, Option, Some, None, inl, inr, refl, sym, ap, ◌∙◌, subst, arith, length-set, length-take-le}
+use Rattle.std.specs.Prelude.{◌==◌, ◌||◌, nat_lt, if◌then◌else◌, slice_get, slice_set, replicate}
 use Rattle.std.specs.List.{AllByRecursion as Each, list_any}
 use Rattle.std.proofs.Math.Seq.{take-append_seam}
 use Rattle.std.proofs.lemmas.Bool.{cases_Bool, eq-eqb, ne_eqb, le-ltb}
@@ -22,22 +22,18 @@ use Rattle.onfi_group.specs.declared.rules.Rules.{Rules}
 use Rattle.onfi_request.specs.declared.want.Want.{Want}
 use Rattle.onfi_calls.specs.declared.audit.PlainAudit.{PlainAudit}
 use Rattle.onfi_calls.specs.declared.audit.PlainStage.{PlainStage}
-use Rattle.onfi_calls.specs.declared.lun.PlainLun.{PlainLun}
+use Rattle.onfi_calls.specs.declared.channel.PlainLun.{PlainLun}
 use Rattle.onfi_calls.specs.declared.phase.PlainPhase.{PlainPhase}
 use Rattle.onfi_calls.specs.AuditPhase.{Brought, BroughtIf, IsAsked, begins, begins_on, begun_by, line_of}
-use Rattle.onfi_calls.specs.AuditSaid.{IsAuditSaid, IsFit, kept, lun_in, no_lun, no_stage, stage_of, stages_in, written_lun, written_stage}
+use Rattle.onfi_calls.specs.Audit.{IsAuditSaid, IsFit, kept, no_lun, no_stage, stage_of, stages_in, stages_of, with_group, written_lun, written_stage}
 use Rattle.onfi_calls.specs.Due.{number_of_kind}
 use Rattle.onfi_calls.specs.Ran.{no_want}
-use Rattle.onfi_calls.specs.Said.{has_bad_count, has_no_operation, members_of, operation_in, wants_of}
-use Rattle.onfi_calls.specs.Written.{filled, written_want}
-use Rattle.onfi_calls.proofs.InOrders.{both_false}
+use Rattle.onfi_calls.specs.Problem.{IsTiming, has_bad_count, has_bad_kind, has_bad_member, luns_of, members_of, operation_in, wants_of}
+use Rattle.onfi_calls.specs.PlainSchedule.{filled, written_want}
+use Rattle.onfi_calls.proofs.Filled.{filled_next}
 use Rattle.onfi_calls.proofs.Standing.{IsPlain, are_plain, first_keeps, kind_again, wants_again}
 
--- Tests of lists
-
-pub any_map : {A B : Type 0} (f : B → Bool) (g : A → B) (xs : List A) → list_any f (map g xs) ≡ list_any (λ x. f (g x)) xs
-any_map f g [] = refl
-any_map f g (x ∷ xs) = ap (λ b. f (g x) || b) (any_map f g xs)
+-- Lists
 
 -- places that are filled begin with what fills them
 pub filled_front : {A B : Type 0} (f : A → B) (n : ℕ) (rest : B) (xs : List A) → take (length xs) (filled n rest (map f xs)) ≡ map f xs
@@ -53,22 +49,40 @@ each_more P xs at d low so_far one = subst (Each P) (sym (take_more xs at d low)
 pub each_all : {A : Type 0} (P : A → Type 0) (xs : List A) (at : ℕ) → length xs ≤ at → Each P (take at xs) → Each P xs
 each_all P xs at over so_far = subst (Each P) (take_all at xs over) so_far
 
--- what none has, none of the first has
-any_front : {A : Type 0} (f : A → Bool) (n : ℕ) (xs ys : List A) → length xs ≤ n → list_any f (take n (xs ++ ys)) ≡ false → list_any f xs ≡ false
-any_front f n [] ys low none = refl
-any_front f zero (x ∷ xs) ys low none = absurd (omega (arith, low))
-any_front f (suc n) (x ∷ xs) ys low none =
-    let (one, more) = both_false (f x) (list_any f (take n (xs ++ ys))) none in
-    let rest = any_front f n xs ys (omega (arith, low)) more in
-    rw (one, rest) refl
+-- one LUN more
+take_stages : (bits : ℕ) (luns : List PlainLun) (ss : List PlainStage) (at : ℕ) (d : PlainLun) (e : PlainStage) → at < length luns → at < length ss
+    → stages_of bits (take (at + 1) luns) ss ≡ stages_of bits (take at luns) ss ++ stage_of bits (get_or luns at d) (get_or ss at e) ∷ []
+take_stages bits [] ss at d e low fit = absurd (omega (arith, low))
+take_stages bits (lun ∷ luns) [] at d e low fit = absurd (omega (arith, fit))
+take_stages bits (lun ∷ luns) (s ∷ ss) zero d e low fit = refl
+take_stages bits (lun ∷ luns) (s ∷ ss) (suc at) d e low fit =
+    let next : suc at + 1 ≡ suc (at + 1) = omega arith in
+    ap (λ n. stages_of bits (take n (lun ∷ luns)) (s ∷ ss)) next
+    ∙ ap (λ xs. stage_of bits lun s ∷ xs) (take_stages bits luns ss at d e (omega (arith, low)) (omega (arith, fit)))
 
-pub counts_in : (n : ℕ) (ss : List PlainStage) → list_any has_bad_count (take n (filled 8 no_lun (map lun_in (take n ss)))) ≡ false
-    → list_any (λ s. has_bad_count s.lun) (take n ss) ≡ false
-counts_in n ss none =
-    let mapped = length-map (take n ss) lun_in in
-    let taken = length-take n ss in
-    let low : length (map lun_in (take n ss)) ≤ n = omega (arith, mapped, taken) in
-    sym (any_map has_bad_count lun_in (take n ss)) ∙ any_front has_bad_count n (map lun_in (take n ss)) _ low none
+count_stages : (bits : ℕ) (luns : List PlainLun) (ss : List PlainStage) → length luns ≤ length ss → length (stages_of bits luns ss) ≡ length luns
+count_stages bits [] ss few = refl
+count_stages bits (lun ∷ luns) [] few = absurd (omega (arith, few))
+count_stages bits (lun ∷ luns) (s ∷ ss) few = ap suc (count_stages bits luns ss (omega (arith, few)))
+
+-- those of the LUNs that are there
+pub stages_front : (bits : ℕ) (luns : List PlainLun) (ss : List PlainStage) (made : List LunStage) → length luns ≤ length ss → made ≡ filled 8 (stage.Free 0) (stages_of bits luns ss)
+    → take (length luns) made ≡ stages_of bits luns ss
+stages_front bits luns ss made few is =
+    let said = stages_of bits luns ss in
+    ap (take (length luns)) is ∙ ap (λ n. take n (filled 8 (stage.Free 0) said)) (sym (count_stages bits luns ss few))
+    ∙ take-append_seam said (drop (length said) (replicate 8 (stage.Free 0)))
+
+pub stages_more : (bits : ℕ) (luns : List PlainLun) (ss : List PlainStage) (at : ℕ) (d : PlainLun) (e : PlainStage) (y : LunStage) (made : List LunStage) → at < length luns → at < length ss
+    → length luns ≤ 8 → length ss ≡ 8 → y ≡ stage_of bits (get_or luns at d) (get_or ss at e) → made ≡ filled 8 (stage.Free 0) (stages_of bits (take at luns) ss)
+    → slice_set made at y ≡ filled 8 (stage.Free 0) (stages_of bits (take (at + 1) luns) ss)
+stages_more bits luns ss at d e y made low fit few all is so_far =
+    let front = stages_of bits (take at luns) ss in
+    let taken : length (take at luns) ≡ at = length-take-le at luns (omega (arith, low)) in
+    let count : length front ≡ at = count_stages bits (take at luns) ss (omega (arith, taken, low, few, all)) ∙ taken in
+    let next = filled_next 8 (stage.Free 0) y front (omega (arith, count, low, few)) in
+    ap (λ zs. slice_set zs at y) so_far ∙ ap (λ i. slice_set (filled 8 (stage.Free 0) front) i y) (sym count) ∙ next
+    ∙ ap (λ z. filled 8 (stage.Free 0) (front ++ z ∷ [])) is ∙ ap (filled 8 (stage.Free 0)) (sym (take_stages bits luns ss at d e low fit))
 
 -- What is written is in its range
 
@@ -78,28 +92,28 @@ written_kind Program = refl
 written_kind Erase = refl
 written_kind (ReadSectors first count) = let none : count % 8 * 32 % 32 ≡ 0 = omega arith in ap (nat_lt 2) none
 
-written_kinds : (ws : List Want) → list_any has_no_operation (map written_want ws) ≡ false
+written_kinds : (ws : List Want) → list_any has_bad_kind (map written_want ws) ≡ false
 written_kinds [] = refl
 written_kinds (w ∷ ws) = let a = written_kind w.kind in let b = written_kinds ws in rw (a, b) refl
 
-written_members : (group : List Want) (next since : ℕ) → members_of (written_lun group next since) ≡ map written_want group
+written_members : (group : List Want) (next since : ℕ) → members_of (with_group group next since) ≡ map written_want group
 written_members group next since = filled_front written_want 4 no_want group
 
-stage_kinds : (x : LunStage) → list_any has_no_operation (members_of (written_stage x).lun) ≡ false
+stage_kinds : (x : LunStage) → has_bad_member (written_lun x) ≡ false
 stage_kinds (stage.Free since) = refl
-stage_kinds (stage.Running group next ready) = ap (list_any has_no_operation) (written_members group next ready) ∙ written_kinds group
-stage_kinds (stage.Open group more ready) = ap (list_any has_no_operation) (written_members group 0 ready) ∙ written_kinds group
+stage_kinds (stage.Running group next ready) = ap (list_any has_bad_kind) (written_members group next ready) ∙ written_kinds group
+stage_kinds (stage.Open group more ready) = ap (list_any has_bad_kind) (written_members group 0 ready) ∙ written_kinds group
 
-all_kinds : (xs : List LunStage) → list_any (λ (l : PlainLun). list_any has_no_operation (members_of l)) (map lun_in (map written_stage xs)) ≡ false
+all_kinds : (xs : List LunStage) → list_any has_bad_member (map written_lun xs) ≡ false
 all_kinds [] = refl
 all_kinds (x ∷ xs) = let a = stage_kinds x in let b = all_kinds xs in rw (a, b) refl
 
-stage_count : (x : LunStage) → IsFit x → has_bad_count (written_stage x).lun ≡ false
+stage_count : (x : LunStage) → IsFit x → has_bad_count (written_lun x) ≡ false
 stage_count (stage.Free since) fit = refl
 stage_count (stage.Running group next ready) fit = le-ltb 4 (length group) fit.1
 stage_count (stage.Open group more ready) fit = le-ltb 4 (length group) fit.1
 
-all_counts : (xs : List LunStage) → Each IsFit xs → list_any has_bad_count (map lun_in (map written_stage xs)) ≡ false
+all_counts : (xs : List LunStage) → Each IsFit xs → list_any has_bad_count (map written_lun xs) ≡ false
 all_counts [] fit = refl
 all_counts (x ∷ xs) fit = let a = stage_count x fit.0 in let b = all_counts xs fit.1 in rw (a, b) refl
 
@@ -111,10 +125,10 @@ IsPlainStage bits (stage.Free since) = Unit {0}
 IsPlainStage bits (stage.Running group next ready) = Each (IsPlain bits) group
 IsPlainStage bits (stage.Open group more ready) = Each (IsPlain bits) group
 
-group_again : (bits : ℕ) (group : List Want) (next since : ℕ) → Each (IsPlain bits) group → wants_of bits (members_of (written_lun group next since)) ≡ group
+group_again : (bits : ℕ) (group : List Want) (next since : ℕ) → Each (IsPlain bits) group → wants_of bits (members_of (with_group group next since)) ≡ group
 group_again bits group next since plain = ap (wants_of bits) (written_members group next since) ∙ wants_again bits group plain
 
-pub stage_again : (bits : ℕ) (x : LunStage) → IsPlainStage bits x → IsFit x → stage_of bits (written_stage x) ≡ x
+pub stage_again : (bits : ℕ) (x : LunStage) → IsPlainStage bits x → IsFit x → stage_of bits (written_lun x) (written_stage x) ≡ x
 stage_again bits (stage.Free since) plain fit = refl
 stage_again bits (stage.Running group next ready) plain fit =
     let least = fit.0 in
@@ -125,11 +139,11 @@ stage_again bits (stage.Open group more ready) plain fit =
     let some : (length group == 0) ≡ false = ne_eqb (length group) 0 (λ e. omega (arith, e, least)) in
     rw some (ap (λ ws. stage.Open ws more ready) (group_again bits group 0 ready plain))
 
-stages_again : (bits : ℕ) (xs : List LunStage) → Each (IsPlainStage bits) xs → Each IsFit xs → map (stage_of bits) (map written_stage xs) ≡ xs
-stages_again bits [] plain fit = refl
-stages_again bits (x ∷ xs) plain fit =
-    ap (λ y. y ∷ map (stage_of bits) (map written_stage xs)) (stage_again bits x plain.0 fit.0)
-    ∙ ap (λ ys. x ∷ ys) (stages_again bits xs plain.1 fit.1)
+stages_again : (bits : ℕ) (xs : List LunStage) (more : List PlainStage) → Each (IsPlainStage bits) xs → Each IsFit xs → stages_of bits (map written_lun xs) (map written_stage xs ++ more) ≡ xs
+stages_again bits [] more plain fit = refl
+stages_again bits (x ∷ xs) more plain fit =
+    ap (λ y. y ∷ stages_of bits (map written_lun xs) (map written_stage xs ++ more)) (stage_again bits x plain.0 fit.0)
+    ∙ ap (λ ys. x ∷ ys) (stages_again bits xs more plain.1 fit.1)
 
 pub same_parts : (t : Timing) (r : Rules) (b c n : ℕ) (ls ms : List LunStage) (ws : List Want) → b ≡ c → ms ≡ ls → ws ≡ []
     → (let a : Audit = record { timing = t; rules = r; bus_free = b; luns = ls; wants = ws; accepted = n } in a) ≡ resuming t r c ms n
@@ -146,35 +160,35 @@ pub kept_says : (s : PlainAudit) (a c : Audit) → IsAuditSaid s a → Stays s.c
     → Each IsFit c.luns → IsAuditSaid (kept s c) c
 kept_says s a c said stays none few fit =
     let bits = s.channel.rules.plane_bits in
-    let front : stages_in (kept s c) ≡ map written_stage c.luns = filled_front written_stage 8 no_stage c.luns in
-    let counts : list_any has_bad_count (map lun_in (stages_in (kept s c))) ≡ false =
-    ap (λ xs. list_any has_bad_count (map lun_in xs)) front ∙ all_counts c.luns fit in
-    let kinds : list_any (λ (l : PlainLun). list_any has_no_operation (members_of l)) (map lun_in (stages_in (kept s c))) ≡ false =
-    ap (λ xs. list_any (λ (l : PlainLun). list_any has_no_operation (members_of l)) (map lun_in xs)) front ∙ all_kinds c.luns in
+    let front : luns_of (kept s c).channel ≡ map written_lun c.luns = filled_front written_lun 8 no_lun c.luns in
+    let counts : list_any has_bad_count (luns_of (kept s c).channel) ≡ false = ap (list_any has_bad_count) front ∙ all_counts c.luns fit in
+    let kinds : list_any has_bad_member (luns_of (kept s c).channel) ≡ false = ap (list_any has_bad_member) front ∙ all_kinds c.luns in
     let timing = stays.timing in
     let rules = stays.rules in
+    let spans : IsTiming s.channel c.timing = rw timing said.timing in
+    let good = said.said.timing in
     record {
-      few = few;
-      said = record { timing = said.said.timing; plane_bits = said.said.plane_bits; counts = counts; kinds = rw kinds refl };
-      timing = rw timing said.timing;
+      said = record { few = few; timing = record { kinds = good.kinds; sectors = good.sectors }; plane_bits = said.said.plane_bits; counts = counts; kinds = rw kinds refl };
+      timing = record { kinds = spans.kinds; sectors = spans.sectors };
       rules = rw rules said.rules;
-      is = same_parts c.timing c.rules c.bus_free c.bus_free c.accepted c.luns (map (stage_of bits) (stages_in (kept s c))) c.wants refl
-          (ap (map (stage_of bits)) front ∙ stages_again bits c.luns stays.plain fit) none;
+      is = same_parts c.timing c.rules c.bus_free c.bus_free c.accepted c.luns (stages_in (kept s c)) c.wants refl
+          (ap (λ ls. stages_of bits ls (kept s c).stage) front ∙ stages_again bits c.luns (drop (length (map written_stage c.luns)) (replicate 8 no_stage)) stays.plain fit) none;
     }
 
 -- What is said stays plain
 
-said_stage : (bits : ℕ) (s : PlainStage) → IsPlainStage bits (stage_of bits s)
-said_stage bits s = elim (cases_Bool (s.lun.members == 0)) [
+said_stage : (bits : ℕ) (lun : PlainLun) (s : PlainStage) → IsPlainStage bits (stage_of bits lun s)
+said_stage bits lun s = elim (cases_Bool (lun.members == 0)) [
   | inl free ↦ rw free tt
   | inr runs ↦ (
-      let each = are_plain bits (members_of s.lun) in
+      let each = are_plain bits (members_of lun) in
       elim (cases_Bool (s.is_open == 0)) [ inl shut ↦ rw (runs, shut) each | inr more ↦ rw (runs, more) each ])
 ]
 
-said_stages : (bits : ℕ) (ss : List PlainStage) → Each (IsPlainStage bits) (map (stage_of bits) ss)
-said_stages bits [] = tt
-said_stages bits (s ∷ ss) = (said_stage bits s, said_stages bits ss)
+said_stages : (bits : ℕ) (luns : List PlainLun) (ss : List PlainStage) → Each (IsPlainStage bits) (stages_of bits luns ss)
+said_stages bits [] ss = tt
+said_stages bits (lun ∷ luns) [] = tt
+said_stages bits (lun ∷ luns) (s ∷ ss) = (said_stage bits lun s, said_stages bits luns ss)
 
 module _ (bits : ℕ) (a : Audit) (line : Line) (plain : Each (IsPlainStage bits) a.luns) where
   same : Stays bits a a
@@ -295,18 +309,23 @@ brought_opens bits a b p none of_bits brought = by (begins a p) brought
         let all : Each (IsPlain bits) (a.wants ++ begun_by a p ∷ []) = subst (λ ws. Each (IsPlain bits) (ws ++ begun_by a p ∷ [])) (sym none) (one, tt) in
         subst (IsOpened bits a) (sym e) (record { timing = refl; rules = refl; luns = refl; wants = all })
 
-said_luns : (s : PlainAudit) (a : Audit) → IsAuditSaid s a → a.luns ≡ map (stage_of s.channel.rules.plane_bits) (stages_in s)
+said_luns : (s : PlainAudit) (a : Audit) → IsAuditSaid s a → a.luns ≡ stages_in s
 said_luns s a said = ap (λ (x : Audit). x.luns) said.is
 
 said_none : (s : PlainAudit) (a : Audit) → IsAuditSaid s a → a.wants ≡ []
 said_none s a said = ap (λ (x : Audit). x.wants) said.is
 
+fewer_stages : (bits : ℕ) (luns : List PlainLun) (ss : List PlainStage) → length (stages_of bits luns ss) ≤ length luns
+fewer_stages bits [] ss = omega arith
+fewer_stages bits (lun ∷ luns) [] = omega arith
+fewer_stages bits (lun ∷ luns) (s ∷ ss) = let more = fewer_stages bits luns ss in omega (arith, more)
+
 pub said_few : (s : PlainAudit) (a : Audit) → IsAuditSaid s a → length a.luns ≤ 8
 said_few s a said =
     let count = ap length (said_luns s a said) in
-    let mapped = length-map (stages_in s) (stage_of s.channel.rules.plane_bits) in
-    let taken = length-take s.luns s.lun in
-    let few = said.few in
+    let mapped = fewer_stages s.channel.rules.plane_bits (luns_of s.channel) s.stage in
+    let taken = length-take s.channel.lun_count s.channel.lun in
+    let few = said.said.few in
     omega (arith, count, mapped, taken, few)
 
 -- what is left after a phase that was asked
@@ -316,7 +335,7 @@ asked_stays s p b asked =
     let a = asked.audit in
     let opened = brought_opens bits a b p (said_none s a asked.said) asked.said.rules.plane_bits asked.brought in
     let plain : Each (IsPlainStage bits) b.luns =
-    subst (Each (IsPlainStage bits)) (sym (opened.luns ∙ said_luns s a asked.said)) (said_stages bits (stages_in s)) in
+    subst (Each (IsPlainStage bits)) (sym (opened.luns ∙ said_luns s a asked.said)) (said_stages bits (luns_of s.channel) s.stage) in
     let ran = after_stays bits b (line_of p) plain opened.wants in
     record { timing = ran.timing ∙ opened.timing; rules = ran.rules ∙ opened.rules; count = ran.count ∙ ap length opened.luns; plain = ran.plain }
 
@@ -359,7 +378,7 @@ ready_none a lun moment (Some x) none = none
 said_ready : (s : PlainAudit) (a : Audit) (lun moment : ℕ) → IsAuditSaid s a → Stays s.channel.rules.plane_bits a (readied a lun moment)
 said_ready s a lun moment said =
     let bits = s.channel.rules.plane_bits in
-    ready_on bits a lun moment (slice_get a.luns lun) refl (subst (Each (IsPlainStage bits)) (sym (said_luns s a said)) (said_stages bits (stages_in s)))
+    ready_on bits a lun moment (slice_get a.luns lun) refl (subst (Each (IsPlainStage bits)) (sym (said_luns s a said)) (said_stages bits (luns_of s.channel) s.stage))
 
 pub ready_few : (s : PlainAudit) (a c : Audit) (lun moment : ℕ) → IsAuditSaid s a → c ≡ readied a lun moment → length c.luns ≤ 8
 ready_few s a c lun moment said is =

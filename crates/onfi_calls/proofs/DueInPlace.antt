@@ -13,13 +13,13 @@ use Rattle.onfi_flight.specs.Flight.{Flight, IsDue}
 use Rattle.onfi_flight.specs.Turns.{IsTurn}
 use Rattle.onfi_flight.proofs.Begins.{first_is_due, next_is_due}
 use Rattle.onfi_calls.specs.declared.least.Start.{Start}
-use Rattle.onfi_calls.specs.declared.lun.PlainLun.{PlainLun}
-use Rattle.onfi_calls.specs.declared.lun.PlainWant.{PlainWant}
+use Rattle.onfi_calls.specs.declared.channel.PlainLun.{PlainLun}
+use Rattle.onfi_calls.specs.declared.channel.PlainWant.{PlainWant}
 use Rattle.onfi_calls.specs.declared.schedule.PlainGroup.{PlainGroup}
 use Rattle.onfi_calls.specs.declared.schedule.PlainSchedule.{PlainSchedule}
 use Rattle.onfi_calls.specs.InOrder.{IsFirst, flight_of, start_of}
-use Rattle.onfi_calls.specs.Said.{members_of, state_of, states_of, wants_of}
-use Rattle.onfi_calls.specs.SaidSchedule.{group_of, groups_of, rest_of, rests_of}
+use Rattle.onfi_calls.specs.Problem.{members_of, state_of, states_of, wants_of}
+use Rattle.onfi_calls.specs.ReadSchedule.{group_of, groups_of, rest_of, rests_of}
 
 -- what a LUN does that says a group, or none
 pub runs : (bits : ℕ) (luns : List PlainLun) (at : ℕ) (lun : PlainLun) → slice_get luns at ≡ Some lun → (lun.members == 0) ≡ false

@@ -4,9 +4,9 @@ use Rattle.std.proofs.lemmas.List.{length-map}
 use Rattle.std.proofs.Math.Seq.{take-append_seam}
 use Rattle.onfi_problem.specs.declared.lun_state.LunState.{LunState}
 use Rattle.onfi_problem.specs.declared.lun_state.LunState.TheVariants.{Free}
-use Rattle.onfi_calls.specs.declared.lun.PlainLun.{PlainLun}
-use Rattle.onfi_calls.specs.Said.{state_of, states_of}
-use Rattle.onfi_calls.specs.Written.{filled}
+use Rattle.onfi_calls.specs.declared.channel.PlainLun.{PlainLun}
+use Rattle.onfi_calls.specs.Problem.{state_of, states_of}
+use Rattle.onfi_calls.specs.PlainSchedule.{filled}
 
 pub states_said : (bits : ℕ) (luns : List PlainLun) (whole : List LunState) → whole ≡ filled 8 (Free 0) (states_of bits luns) → take (length luns) whole ≡ states_of bits luns
 states_said bits luns whole is =

@@ -3,7 +3,7 @@ use Rattle.std.proofs.Common.{◌≡◌, ◌<◌, ◌≤◌, ℕ, zero, suc, ◌
 use Rattle.std.specs.Prelude.{slice_set}
 use Rattle.std.proofs.lemmas.List.{length-map, length-replicate, take_all}
 use Rattle.onfi_flight.proofs.Lists.{mapped_more}
-use Rattle.onfi_calls.specs.Written.{filled}
+use Rattle.onfi_calls.specs.PlainSchedule.{filled}
 
 -- the place after them is filled
 pub filled_next : {A : Type 0} (n : ℕ) (rest y : A) (xs : List A) → length xs < n → slice_set (filled n rest xs) (length xs) y ≡ filled n rest (xs ++ y ∷ [])

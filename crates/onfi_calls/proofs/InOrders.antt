@@ -15,16 +15,15 @@ use Rattle.onfi_problem.specs.Left.{InLimits}
 use Rattle.onfi_problem.specs.Problem.{HasLengths, IsProblem, IsRunning, IsSmall, IsWant}
 use Rattle.onfi_problem.proofs.Sums.{luns_run}
 use Rattle.onfi_calls.specs.declared.channel.PlainChannel.{PlainChannel}
-use Rattle.onfi_calls.specs.declared.lengths.PlainLengths.{PlainLengths}
-use Rattle.onfi_calls.specs.declared.lun.PlainLun.{PlainLun}
-use Rattle.onfi_calls.specs.declared.lun.PlainWant.{PlainWant}
+use Rattle.onfi_calls.specs.declared.channel.PlainLun.{PlainLun}
+use Rattle.onfi_calls.specs.declared.channel.PlainWant.{PlainWant}
 use Rattle.onfi_calls.specs.declared.schedule.PlainGroup.{PlainGroup}
 use Rattle.onfi_calls.specs.declared.schedule.PlainRest.{PlainRest}
 use Rattle.onfi_calls.specs.declared.schedule.PlainSchedule.{PlainSchedule}
 use Rattle.onfi_calls.specs.Flights.{IsFlightSaid}
 use Rattle.onfi_calls.specs.InOrder.{AreEarly, RiseFrom, flight_of, has_page, is_foreign, is_half, is_odd_group, is_odd_rest, is_odd_schedule, problem_said}
-use Rattle.onfi_calls.specs.Said.{AreRules, IsTiming, have_lacking, kind_of, operation_in, read_of, sectors_in, state_of, states_of, want_of, wants_of}
-use Rattle.onfi_calls.specs.SaidSchedule.{groups_of, is_bad_group, is_bad_rest, is_bad_schedule, is_late, rest_of, rests_of, starts_of}
+use Rattle.onfi_calls.specs.Problem.{AreRules, IsTiming, have_lacking, kind_of, luns_of, operation_in, read_of, sectors_in, state_of, states_of, want_of, wants_of}
+use Rattle.onfi_calls.specs.ReadSchedule.{groups_of, is_bad_group, is_bad_rest, is_bad_schedule, is_late, rest_of, rests_of, starts_of}
 use Rattle.onfi_calls.proofs.Horizons.{horizon_early}
 use Rattle.onfi_calls.proofs.Orders.{rise_of}
 
@@ -190,16 +189,17 @@ pub some_tells : {A P : Type 0} (o : Option A) → P → IfSome o (λ _. P)
 some_tells None p = tt
 some_tells (Some x) p = p
 
-pub flight_said : (by : Option PlainLengths) (channel : PlainChannel) (luns : List PlainLun) (wants : List PlainWant) (schedule : PlainSchedule) (timing : Timing) (rules : Rules) → IsTiming by channel.timing timing
-    → have_lacking by luns wants ≡ false → HasLengths (problem_said timing rules channel.bus_free luns wants) → AreRules channel.rules rules → is_odd_schedule schedule ≡ false → InLimits (problem_said timing rules channel.bus_free luns wants)
-    → IsFlightSaid by channel luns wants schedule (flight_of timing rules channel.bus_free luns wants schedule)
-flight_said by channel luns wants schedule timing rules is_timing lengths measured are even limits = record {
+pub flight_said : (channel : PlainChannel) (wants : List PlainWant) (schedule : PlainSchedule) (timing : Timing) (rules : Rules) → IsTiming channel timing
+    → have_lacking channel wants ≡ false → HasLengths (problem_said timing rules channel.bus_free (luns_of channel) wants) → AreRules channel.rules rules → is_odd_schedule schedule ≡ false
+    → InLimits (problem_said timing rules channel.bus_free (luns_of channel) wants)
+    → IsFlightSaid channel wants schedule (flight_of timing rules channel.bus_free (luns_of channel) wants schedule)
+flight_said channel wants schedule timing rules is_timing lengths measured are even limits = record {
   said = record {
     problem = record {
       timing = is_timing;
       rules = are;
       bus_free = refl;
-      states = ap (λ b. states_of b luns) are.plane_bits;
+      states = ap (λ b. states_of b (luns_of channel)) are.plane_bits;
       requests = ap (λ b. wants_of b wants) are.plane_bits;
     };
     lengths = lengths;

@@ -13,7 +13,7 @@ use Rattle.onfi_calls.specs.declared.least.Start.{Start}
 use Rattle.onfi_calls.specs.declared.schedule.PlainGroup.{PlainGroup}
 use Rattle.onfi_calls.specs.declared.schedule.PlainRest.{PlainRest}
 use Rattle.onfi_calls.specs.InOrder.{some_start, start_of}
-use Rattle.onfi_calls.specs.SaidSchedule.{group_of, rest_of, starts_of}
+use Rattle.onfi_calls.specs.ReadSchedule.{group_of, rest_of, starts_of}
 
 -- one list of starts more
 pub least_more : {A : Type 0} (f : A → List ℕ) (xs : List A) (at : ℕ) (d : A) (least r : Option Start) → at < length xs → LeastSoFar (map f xs) at (some_start least)

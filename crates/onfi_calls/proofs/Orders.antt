@@ -6,9 +6,9 @@ use Rattle.std.proofs.lemmas.List.{drop_all}
 use Rattle.onfi_request.specs.declared.want.Want.{Want}
 use Rattle.onfi_group.specs.Words.{Pairs}
 use Rattle.onfi_problem.proofs.Places.{drop_next}
-use Rattle.onfi_calls.specs.declared.lun.PlainWant.{PlainWant}
+use Rattle.onfi_calls.specs.declared.channel.PlainWant.{PlainWant}
 use Rattle.onfi_calls.specs.InOrder.{RiseFrom}
-use Rattle.onfi_calls.specs.Said.{wants_of}
+use Rattle.onfi_calls.specs.Problem.{wants_of}
 
 -- Numbers that rise
 

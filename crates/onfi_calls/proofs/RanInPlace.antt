@@ -12,15 +12,15 @@ use Rattle.onfi_flight.specs.Turns.{starts_in}
 use Rattle.onfi_flight.specs.Times.{later_group, later_starts}
 use Rattle.onfi_flight.proofs.Lists.{mapped_more}
 use Rattle.onfi_script.specs.PlanLine.{want_named}
-use Rattle.onfi_calls.specs.declared.lun.PlainWant.{PlainWant}
+use Rattle.onfi_calls.specs.declared.channel.PlainWant.{PlainWant}
 use Rattle.onfi_calls.specs.declared.schedule.PlainGroup.{PlainGroup}
 use Rattle.onfi_calls.specs.declared.schedule.PlainRest.{PlainRest}
 use Rattle.onfi_calls.specs.declared.schedule.PlainSchedule.{PlainSchedule}
 use Rattle.onfi_calls.specs.InOrder.{is_half}
-use Rattle.onfi_calls.specs.RanPlain.{later_rest, later_said, others, plain_behind, said_by, written_rests}
-use Rattle.onfi_calls.specs.Said.{want_of, wants_of}
-use Rattle.onfi_calls.specs.SaidSchedule.{group_of, rest_of, starts_of}
-use Rattle.onfi_calls.specs.Written.{filled, no_rest, written_group, written_rest}
+use Rattle.onfi_calls.specs.Delay.{later_rest, later_said, others, plain_behind, said_by, written_rests}
+use Rattle.onfi_calls.specs.Problem.{want_of, wants_of}
+use Rattle.onfi_calls.specs.ReadSchedule.{group_of, rest_of, starts_of}
+use Rattle.onfi_calls.specs.PlainSchedule.{filled, no_rest, written_group, written_rest}
 use Rattle.onfi_calls.proofs.Filled.{filled_next}
 
 -- Starts

@@ -20,14 +20,14 @@ use Rattle.onfi_steady.specs.Next.{move_by}
 use Rattle.onfi_steady.specs.Dispatcher.{begun_books, due_wants, states_of}
 use Rattle.onfi_steady.proofs.Changing.{all_filter}
 use Rattle.onfi_calls.specs.declared.device.PlainGeometry.{PlainGeometry}
-use Rattle.onfi_calls.specs.declared.lun.PlainLun.{PlainLun}
-use Rattle.onfi_calls.specs.declared.lun.PlainWant.{PlainWant}
+use Rattle.onfi_calls.specs.declared.channel.PlainLun.{PlainLun}
+use Rattle.onfi_calls.specs.declared.channel.PlainWant.{PlainWant}
 use Rattle.onfi_calls.specs.declared.plain_dispatcher.PlainDispatcher.{PlainDispatcher}
 use Rattle.onfi_calls.specs.declared.status.Status.TheVariants.{BadKind, BadPlace, Clock, NothingDue}
 use Rattle.onfi_calls.specs.Device.{written_geometry}
 use Rattle.onfi_calls.specs.Dispatching.{IsPhaseOutside, has_outside, is_idle, is_late, is_on, is_outside, want_refusal}
 use Rattle.onfi_calls.specs.Due.{IsOutside, page_of}
-use Rattle.onfi_calls.specs.Said.{has_no_operation, members_of, states_of as states_said, want_of, wants_of as wants_said}
+use Rattle.onfi_calls.specs.Problem.{has_bad_kind, luns_of, members_of, states_of as states_said, want_of, wants_of as wants_said}
 use Rattle.onfi_calls.specs.Serving.{BeginningServes, IsHad, IsLunHad, IsServed, NextServes, RunningServes, TakingServes}
 use Rattle.onfi_calls.proofs.InOrders.{both_false}
 
@@ -47,7 +47,7 @@ on_had : (g : PlainGeometry) (bits : ℕ) (w : PlainWant) → is_on g w ≡ true
 on_had g bits w on = (grind (arith, nat_tests), grind (arith, nat_tests), grind (arith, nat_tests))
 
 taken_had : (d : PlainDispatcher) (w : PlainWant) → want_refusal d w ≡ None → IsHad d.device.geometry (want_of d.device.plane_bits w)
-taken_had d w none = elim (cases_Bool (has_no_operation w)) [
+taken_had d w none = elim (cases_Bool (has_bad_kind w)) [
   | inl k ↦ (let q : want_refusal d w ≡ Some BadKind = rw k refl in absurd cc)
   | inr k ↦ elim (cases_Bool (is_on d.device.geometry w)) [
     | inl on ↦ on_had d.device.geometry d.device.plane_bits w on
@@ -84,10 +84,10 @@ luns_had g bits (lun ∷ luns) none =
     ]
 
 pub beginning_serves : BeginningServes
-beginning_serves lengths channel luns geometry d begun = record {
+beginning_serves channel geometry d begun = record {
   waiting = tt;
   running = subst (λ (g : PlainGeometry). All (IsLunHad g) (states_of d.dispatcher)) (sym begun.of.geometry_is)
-      (subst (All (IsLunHad geometry)) (sym (begun.of.states ∙ begun.said.states)) (luns_had geometry channel.rules.plane_bits luns begun.of.there));
+      (subst (All (IsLunHad geometry)) (sym (begun.of.states ∙ begun.said.states)) (luns_had geometry channel.rules.plane_bits (luns_of channel) begun.of.there));
 }
 
 -- Next

@@ -29,18 +29,17 @@ use Rattle.onfi_flight.specs.Flight.{Flight, IsDue, IsFlight, IsPhase, after_lat
 use Rattle.onfi_flight.proofs.Begins.{due_lun, placed_is}
 use Rattle.onfi_flight.proofs.Stays.{late_stays}
 use Rattle.onfi_calls.specs.declared.channel.PlainChannel.{PlainChannel}
-use Rattle.onfi_calls.specs.declared.lengths.PlainLengths.{PlainLengths}
-use Rattle.onfi_calls.specs.declared.lun.PlainLun.{PlainLun}
-use Rattle.onfi_calls.specs.declared.lun.PlainWant.{PlainWant}
+use Rattle.onfi_calls.specs.declared.channel.PlainLun.{PlainLun}
+use Rattle.onfi_calls.specs.declared.channel.PlainWant.{PlainWant}
 use Rattle.onfi_calls.specs.declared.ran.Behind.{Behind}
 use Rattle.onfi_calls.specs.declared.schedule.PlainSchedule.{PlainSchedule}
 use Rattle.onfi_calls.specs.declared.status.Status.TheVariants as status
 use Rattle.onfi_calls.specs.Due.{number_of_kind}
-use Rattle.onfi_calls.specs.Ran.{Flies, IsBehind, IsDueThere, IsRan, Kept, kept_behind, lun_in, no_want, telling}
+use Rattle.onfi_calls.specs.Ran.{Flies, channel_then, IsBehind, IsDueThere, IsRan, Kept, kept_behind, lun_in, no_want, telling}
 use Rattle.onfi_calls.specs.Refused.{IsBadProblem, IsFaultSaid}
-use Rattle.onfi_calls.specs.Said.{AreRules, IsSaid, IsTiming, kind_of, members_of, operation_in, read_of, sectors_in, state_of, states_of, want_of, wants_of}
+use Rattle.onfi_calls.specs.Problem.{AreRules, IsSaid, IsTiming, kind_of, luns_of, members_of, operation_in, read_of, sectors_in, state_of, states_of, want_of, wants_of}
 use Rattle.onfi_calls.specs.Status.{problem_status}
-use Rattle.onfi_calls.specs.Written.{filled, written_schedule, written_want}
+use Rattle.onfi_calls.specs.PlainSchedule.{filled, written_schedule, written_want}
 use Rattle.onfi_calls.proofs.Stated.{kept_lengths}
 
 -- Why what is said is no problem
@@ -60,22 +59,13 @@ only_late p NoLengths small ip has tells = absurd (tells.2 has)
 only_late p Clock small ip has tells = tells.3
 only_late p Memory small ip has tells = absurd tells
 
-pub too_many : (by : Option PlainLengths) (channel : PlainChannel) (luns : List PlainLun) (wants : List PlainWant) (timing : Timing) → IsTiming by channel.timing timing → channel.rules.plane_bits ≤ 2
-    → (8 < length luns) ⊎ (8 < length wants) → IsFaultSaid by channel luns wants status.TooMany
-too_many by channel luns wants timing is_timing bits many =
+pub too_many : (channel : PlainChannel) (wants : List PlainWant) (timing : Timing) → IsTiming channel timing → channel.rules.plane_bits ≤ 2 → 8 < length wants → IsFaultSaid channel wants status.TooMany
+too_many channel wants timing is_timing bits many =
     let said = channel.rules in
     let rules : Rules = record { read = said.read; write = said.write; strict = said.strict; plane_bits = said.plane_bits; few_planes = bits } in (
-      problem_of timing rules channel.bus_free (states_of said.plane_bits luns) (wants_of said.plane_bits wants),
+      problem_of timing rules channel.bus_free (states_of said.plane_bits (luns_of channel)) (wants_of said.plane_bits wants),
       record { timing = is_timing; rules = record { read = refl; write = refl; strict = refl; plane_bits = refl }; bus_free = refl; states = refl; requests = refl },
-      λ small.
-          let few_luns = small.few_luns in
-          let few_wants = small.wants in
-          let all_luns = length-map luns (state_of said.plane_bits) in
-          let all_wants = length-map wants (want_of said.plane_bits) in
-          elim many [
-            | inl more ↦ omega (arith, few_luns, all_luns, more)
-            | inr more ↦ omega (arith, few_wants, all_wants, more)
-          ],
+      λ small. let few_wants = small.wants in let all_wants = length-map wants (want_of said.plane_bits) in omega (arith, few_wants, all_wants, many),
     )
 
 -- where a flight is no legal one, what is left of its schedule isn't legal
@@ -189,23 +179,30 @@ waiting_fewer (Some at) group wants = filter_shorter (λ w. not (is_member group
 
 -- All of it
 
+-- one of the first is set
+pub take_set : {A : Type 0} (n : ℕ) (xs : List A) (i : ℕ) (x : A) → i < length (take n xs) → take n (slice_set xs i x) ≡ slice_set (take n xs) i x
+take_set zero xs i x low = absurd (omega (arith, low))
+take_set (suc n) [] i x low = absurd (omega (arith, low))
+take_set (suc n) (y ∷ xs) zero x low = refl
+take_set (suc n) (y ∷ xs) (suc i) x low = ap (λ zs. y ∷ zs) (take_set n xs i x (omega (arith, low)))
+
 pub set_there : {A : Type 0} (xs : List A) (i : ℕ) (x : A) → i < length xs → slice_get (slice_set xs i x) i ≡ Some x
 set_there [] i x low = absurd (omega (arith, low))
 set_there (y ∷ xs) zero x low = refl
 set_there (y ∷ xs) (suc i) x low = set_there xs i x (omega (arith, low))
 
-module _ (by : Option PlainLengths) (channel : PlainChannel) (luns : List PlainLun) (wants : List PlainWant) (f : Flight) (due : Due) (started : ℕ) (said : IsSaid by channel luns wants f.now) (is : IsDue f due) where
+module _ (channel : PlainChannel) (wants : List PlainWant) (f : Flight) (due : Due) (started : ℕ) (said : IsSaid channel wants f.now) (is : IsDue f due) where
   abbrev g : Flight
   g = after_late f due started
 
   abbrev state : LunState
   state = lun_after f.now.timing due.group due.phase (started + phase_length (group_spans f.now.timing due.group) (length due.group) due.phase)
 
-  pub plain_there : due.lun < length luns
+  pub plain_there : due.lun < length (luns_of channel)
   plain_there =
       let low = due_lun f due is in
       let same = ap length said.states in
-      let mapped = length-map luns (state_of channel.rules.plane_bits) in
+      let mapped = length-map (luns_of channel) (state_of channel.rules.plane_bits) in
       omega (arith, low, same, mapped)
 
   luns_are : g.now.luns ≡ slice_set f.now.luns due.lun state
@@ -214,8 +211,8 @@ module _ (by : Option PlainLengths) (channel : PlainChannel) (luns : List PlainL
   wants_are : g.now.wants ≡ wants_behind due.place due.group f.now.wants
   wants_are = ap (λ (p : Problem). p.wants) (placed_is f due started is)
 
-  pub same_luns : length g.now.luns ≡ length luns
-  same_luns = ap length luns_are ∙ length-set f.now.luns due.lun state ∙ ap length said.states ∙ length-map luns (state_of channel.rules.plane_bits)
+  pub same_luns : length g.now.luns ≡ length (luns_of channel)
+  same_luns = ap length luns_are ∙ length-set f.now.luns due.lun state ∙ ap length said.states ∙ length-map (luns_of channel) (state_of channel.rules.plane_bits)
 
   pub fewer_wants : length g.now.wants ≤ length wants
   fewer_wants =
@@ -226,34 +223,38 @@ module _ (by : Option PlainLengths) (channel : PlainChannel) (luns : List PlainL
       omega (arith, few, same, all, mapped)
 
   -- what the LUN says then it does
-  lun_says : (lun : PlainLun) → ((x : LunState) → slice_get g.now.luns due.lun ≡ Some x → lun ≡ lun_in x (telling luns due.place due.lun due.group)) → state_of channel.rules.plane_bits lun ≡ state
+  lun_says : (lun : PlainLun) → ((x : LunState) → slice_get g.now.luns due.lun ≡ Some x → lun ≡ lun_in x (telling (luns_of channel) due.place due.lun due.group)) → state_of channel.rules.plane_bits lun ≡ state
   lun_says lun written =
       let plain = subst (Each (IsPlain channel.rules.plane_bits)) (sym said.requests) (are_plain channel.rules.plane_bits wants) in
-      let told = tells_by channel.rules.plane_bits due.place f.now due.lun due.group due.phase luns is.phase is.is_move said.states plain in
+      let told = tells_by channel.rules.plane_bits due.place f.now due.lun due.group due.phase (luns_of channel) is.phase is.is_move said.states plain in
       let at = ap (λ xs. slice_get xs due.lun) luns_are ∙ set_there f.now.luns due.lun state (due_lun f due is) in
       ap (state_of channel.rules.plane_bits) (written state at)
       ∙ goes_on f.now.timing due.group due.phase (started + phase_length (group_spans f.now.timing due.group) (length due.group) due.phase)
-      channel.rules.plane_bits (telling luns due.place due.lun due.group) state refl told.some told.tells
+      channel.rules.plane_bits (telling (luns_of channel) due.place due.lun due.group) state refl told.some told.tells
+
+  timing_then : IsTiming channel g.now.timing
+  timing_then = subst (IsTiming channel) (sym (ap (λ (p : Problem). p.timing) (placed_is f due started is))) said.timing
 
   -- what is said of the bus, of that LUN and of what waits, is the problem then
   pub said_then : (bus_free : ℕ) (lun : PlainLun) (waiting : List PlainWant) → bus_free ≡ g.now.bus_free
-      → ((x : LunState) → slice_get g.now.luns due.lun ≡ Some x → lun ≡ lun_in x (telling luns due.place due.lun due.group)) → wants_of channel.rules.plane_bits waiting ≡ g.now.wants
-      → IsSaid by (record channel { bus_free = bus_free }) (slice_set luns due.lun lun) waiting g.now
+      → ((x : LunState) → slice_get g.now.luns due.lun ≡ Some x → lun ≡ lun_in x (telling (luns_of channel) due.place due.lun due.group)) → wants_of channel.rules.plane_bits waiting ≡ g.now.wants
+      → IsSaid (channel_then channel bus_free due.lun lun) waiting g.now
   said_then bus_free lun waiting bus written left = record {
-    timing = subst (IsTiming by channel.timing) (sym (ap (λ (p : Problem). p.timing) (placed_is f due started is))) said.timing;
+    timing = record { kinds = timing_then.kinds; sectors = timing_then.sectors };
     rules = subst (AreRules channel.rules) (sym (ap (λ (p : Problem). p.rules) (placed_is f due started is))) said.rules;
     bus_free = sym bus;
-    states = luns_are ∙ ap (λ xs. slice_set xs due.lun state) said.states ∙ ap (slice_set (states_of channel.rules.plane_bits luns) due.lun) (sym (lun_says lun written))
-        ∙ sym (map_set (state_of channel.rules.plane_bits) luns due.lun lun);
+    states = luns_are ∙ ap (λ xs. slice_set xs due.lun state) said.states ∙ ap (slice_set (states_of channel.rules.plane_bits (luns_of channel)) due.lun) (sym (lun_says lun written))
+        ∙ sym (map_set (state_of channel.rules.plane_bits) (luns_of channel) due.lun lun)
+        ∙ ap (states_of channel.rules.plane_bits) (sym (take_set channel.lun_count channel.lun due.lun lun plain_there));
     requests = sym left;
   }
 
 -- that of the bus, of the LUN, of what waits and of the schedule is what a caller keeps then
 pub ran_then : (old : Kept) (f : Flight) (due : Due) (lun number started bus_free : ℕ) (behind : PlainLun) (waiting : List PlainWant) (schedule : PlainSchedule) → Flies old f → IsDueThere f due lun number
     → due.start ≤ started → bus_free ≡ (after_late f due started).now.bus_free
-    → ((x : LunState) → slice_get (after_late f due started).now.luns due.lun ≡ Some x → behind ≡ lun_in x (telling old.luns due.place due.lun due.group))
+    → ((x : LunState) → slice_get (after_late f due started).now.luns due.lun ≡ Some x → behind ≡ lun_in x (telling (luns_of old.channel) due.place due.lun due.group))
     → wants_of old.channel.rules.plane_bits waiting ≡ (after_late f due started).now.wants → schedule ≡ written_schedule (after_late f due started).left → InLimits (after_late f due started).now
-    → IsRan old (record { lengths = old.lengths; channel = record old.channel { bus_free = bus_free }; luns = slice_set old.luns lun behind; wants = waiting; schedule = schedule }) lun number started
+    → IsRan old (record { channel = channel_then old.channel bus_free lun behind; wants = waiting; schedule = schedule }) lun number started
 ran_then old f due lun number started bus_free behind waiting schedule said there on_time bus written left later limits = record {
   flight = f;
   said = said;
@@ -261,8 +262,8 @@ ran_then old f due lun number started bus_free behind waiting schedule said ther
   there = there;
   on_time = on_time;
   legal = λ legal. (late_stays f due started (flies f said.limits legal) there.is on_time).legal;
-  after = subst (λ n. IsSaid old.lengths (record old.channel { bus_free = bus_free }) (slice_set old.luns n behind) waiting (after_late f due started).now) there.lun_is
-      (said_then old.lengths old.channel old.luns old.wants f due started said.said.problem there.is bus_free behind waiting bus written left);
+  after = subst (λ n. IsSaid (channel_then old.channel bus_free n behind) waiting (after_late f due started).now) there.lun_is
+      (said_then old.channel old.wants f due started said.said.problem there.is bus_free behind waiting bus written left);
   limits = limits;
   measured = kept_lengths f.now (move_of due) started said.measured there.is.is_move;
   later = later;
@@ -270,7 +271,7 @@ ran_then old f due lun number started bus_free behind waiting schedule said ther
 
 -- what stands after the due phase is what a caller keeps then
 pub ran_behind : (old : Kept) (f : Flight) (due : Due) (lun number started : ℕ) (b : Behind) → Flies old f → IsDueThere f due lun number → due.start ≤ started
-    → IsBehind old.luns due (after_late f due started) b → InLimits (after_late f due started).now → IsRan old (kept_behind old lun b) lun number started
+    → IsBehind (luns_of old.channel) due (after_late f due started) b → InLimits (after_late f due started).now → IsRan old (kept_behind old lun b) lun number started
 ran_behind old f due lun number started b said there on_time written limits =
     let bits = old.channel.rules.plane_bits in
     let behind : (after_late f due started).now.wants ≡ wants_behind due.place due.group f.now.wants = ap (λ (p : Problem). p.wants) (placed_is f due started there.is) in

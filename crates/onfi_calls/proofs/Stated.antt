@@ -22,10 +22,10 @@ use Rattle.onfi_problem.proofs.Wants.{All-filter, first_has}
 use Rattle.onfi_flight.specs.Flight.{Flight}
 use Rattle.onfi_flight.proofs.Lists.{All-set}
 use Rattle.onfi_calls.specs.declared.channel.PlainChannel.{PlainChannel}
-use Rattle.onfi_calls.specs.declared.lengths.PlainLengths.{PlainLengths}
-use Rattle.onfi_calls.specs.declared.lun.PlainLun.{PlainLun}
-use Rattle.onfi_calls.specs.declared.lun.PlainWant.{PlainWant}
-use Rattle.onfi_calls.specs.Said.{IsSaid, StatesSo, has_bad_kind, has_bad_member, have_bad_kind, have_lacking, kind_of, lacks_length, lacks_post, has_lacking, members_of, operation_in, read_of, sectors_in, state_of, states_of, wants_of}
+use Rattle.onfi_calls.specs.declared.channel.PlainLengths.{PlainLengths}
+use Rattle.onfi_calls.specs.declared.channel.PlainLun.{PlainLun}
+use Rattle.onfi_calls.specs.declared.channel.PlainWant.{PlainWant}
+use Rattle.onfi_calls.specs.Problem.{IsSaid, have_lacking, kind_of, lacks_length, lacks_post, has_lacking, luns_of, members_of, operation_in, read_of, sectors_in, state_of, states_of, wants_of}
 use Rattle.onfi_calls.specs.Refused.{IsBadProblem, IsMeasured, is_long}
 use Rattle.onfi_calls.specs.Status.{lacking_status}
 use Rattle.onfi_calls.proofs.InOrders.{both_false}
@@ -56,15 +56,6 @@ sectors_stated lengths timing has w good = elim (cases_Bool (operation_in w.kind
   | inr other ↦ elim (cases_Bool (operation_in w.kind == 1)) [ inl program ↦ rw (other, program) refl | inr erase ↦ rw (other, erase) refl ]
 ]
 
-pages_stated : (timing : Timing) (w : PlainWant) → has_bad_kind None w ≡ false → IsStated timing (kind_of w.kind)
-pages_stated timing w good = by_number w.kind good
-  where
-    by_number : (kind : ℕ) → nat_lt 2 kind ≡ false → IsStated timing (kind_of kind)
-    by_number zero good = refl
-    by_number (suc zero) good = refl
-    by_number (suc (suc zero)) good = refl
-    by_number (suc (suc (suc kind))) good = absurd (let t = lt-ltb 2 (suc (suc (suc kind))) (omega arith) in false≢true (sym good ∙ t))
-
 module _ (test : PlainWant → Bool) (timing : Timing) (bits : ℕ) (each : (w : PlainWant) → test w ≡ false → IsStated timing (kind_of w.kind)) where
   are_stated : (wants : List PlainWant) → list_any test wants ≡ false → AreStated timing (wants_of bits wants)
   are_stated [] good = tt
@@ -79,20 +70,18 @@ module _ (test : PlainWant → Bool) (timing : Timing) (bits : ℕ) (each : (w :
       let (one, more) = both_false (list_any test (members_of lun)) (list_any (λ l. list_any test (members_of l)) luns) good in
       (lun_stated lun one, luns_stated luns more)
 
-pub are_lengths : (by : Option PlainLengths) (timing : Timing) (bits : ℕ) (luns : List PlainLun) (wants : List PlainWant) → StatesSo by timing
-    → have_bad_kind by luns wants ≡ false → have_lacking by luns wants ≡ false → AreStated timing (wants_of bits wants) × Each (IsLunStated timing) (states_of bits luns)
-are_lengths None timing bits luns wants so kinds lacking =
-    let (in_luns, in_wants) = both_false (list_any (has_bad_member None) luns) (list_any (has_bad_kind None) wants) kinds in
-    (are_stated (has_bad_kind None) timing bits (pages_stated timing) wants in_wants, luns_stated (has_bad_kind None) timing bits (pages_stated timing) luns in_luns)
-are_lengths (Some lengths) timing bits luns wants so kinds lacking =
+pub are_lengths : (channel : PlainChannel) (wants : List PlainWant) (timing : Timing) (bits : ℕ) → HasPosts timing channel.lengths.sectors → have_lacking channel wants ≡ false
+    → AreStated timing (wants_of bits wants) × Each (IsLunStated timing) (states_of bits (luns_of channel))
+are_lengths channel wants timing bits has lacking =
+    let lengths = channel.lengths in
+    let luns = luns_of channel in
     let (in_luns, in_wants) = both_false (list_any (has_lacking lengths) luns) (list_any (lacks_length lengths) wants) lacking in
-    let each = sectors_stated lengths timing so in
+    let each = sectors_stated lengths timing has in
     (are_stated (lacks_length lengths) timing bits each wants in_wants, luns_stated (lacks_length lengths) timing bits each luns in_luns)
 
-pub said_lengths : (by : Option PlainLengths) (channel : PlainChannel) (luns : List PlainLun) (wants : List PlainWant) (p : Problem) → IsSaid by channel luns wants p
-    → have_bad_kind by luns wants ≡ false → have_lacking by luns wants ≡ false → HasLengths p
-said_lengths by channel luns wants p said kinds lacking =
-    let stated = are_lengths by p.timing channel.rules.plane_bits luns wants said.timing.sectors kinds lacking in
+pub said_lengths : (channel : PlainChannel) (wants : List PlainWant) (p : Problem) → IsSaid channel wants p → have_lacking channel wants ≡ false → HasLengths p
+said_lengths channel wants p said lacking =
+    let stated = are_lengths channel wants p.timing channel.rules.plane_bits said.timing.sectors lacking in
     record { wants = subst (AreStated p.timing) (sym said.requests) stated.0; luns = subst (Each (IsLunStated p.timing)) (sym said.states) stated.1 }
 
 -- Lengths stay stated
@@ -131,6 +120,5 @@ lacking_told p (Some Clock) tells = (tells.0, tells.1, refl)
 lacking_told p (Some Memory) tells = absurd tells
 
 -- .. of a flight with those lengths
-pub measured_by : {by : Option PlainLengths} {channel : PlainChannel} {luns : List PlainLun} {wants : List PlainWant} (f g : Flight) → f ≡ g
-    → IsMeasured by channel luns wants g.now.timing → IsMeasured by channel luns wants f.now.timing
-measured_by {by = by} {channel = channel} {luns = luns} {wants = wants} f g is measured = subst (λ (h : Flight). IsMeasured by channel luns wants h.now.timing) (sym is) measured
+pub measured_by : {channel : PlainChannel} {wants : List PlainWant} (f g : Flight) → f ≡ g → IsMeasured channel wants g.now.timing → IsMeasured channel wants f.now.timing
+measured_by {channel = channel} {wants = wants} f g is measured = subst (λ (h : Flight). IsMeasured channel wants h.now.timing) (sym is) measured

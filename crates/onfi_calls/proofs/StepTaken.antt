@@ -24,17 +24,16 @@ use Rattle.onfi_flight.specs.Times.{later}
 use Rattle.onfi_flight.proofs.Begins.{due_lun, placed_is}
 use Rattle.onfi_flight.proofs.Lists.{All-set}
 use Rattle.onfi_calls.specs.declared.channel.PlainChannel.{PlainChannel}
-use Rattle.onfi_calls.specs.declared.lengths.PlainLengths.{PlainLengths}
-use Rattle.onfi_calls.specs.declared.lun.PlainLun.{PlainLun}
-use Rattle.onfi_calls.specs.declared.lun.PlainWant.{PlainWant}
+use Rattle.onfi_calls.specs.declared.channel.PlainLun.{PlainLun}
+use Rattle.onfi_calls.specs.declared.channel.PlainWant.{PlainWant}
 use Rattle.onfi_calls.specs.declared.ran.Step.{Step}
 use Rattle.onfi_calls.specs.declared.schedule.PlainSchedule.{PlainSchedule}
 use Rattle.onfi_calls.specs.InOrder.{AreEarly, flight_of}
-use Rattle.onfi_calls.specs.Ran.{GivesRan, IsRan, Kept, gives_ran, lun_in, telling}
-use Rattle.onfi_calls.specs.RanPlain.{IsStep, end_of, plain_behind}
-use Rattle.onfi_calls.specs.Said.{wants_of}
-use Rattle.onfi_calls.specs.SaidSchedule.{schedule_of}
-use Rattle.onfi_calls.specs.Written.{written_schedule}
+use Rattle.onfi_calls.specs.Ran.{GivesRan, IsRan, Kept, channel_then, gives_ran, lun_in, telling}
+use Rattle.onfi_calls.specs.Delay.{IsStep, end_of, plain_behind}
+use Rattle.onfi_calls.specs.Problem.{luns_of, wants_of}
+use Rattle.onfi_calls.specs.ReadSchedule.{schedule_of}
+use Rattle.onfi_calls.specs.PlainSchedule.{written_schedule}
 use Rattle.onfi_calls.proofs.Horizons.{horizon_early, wait_short}
 use Rattle.onfi_calls.proofs.InOrders.{times_early}
 use Rattle.onfi_calls.proofs.RanInPlace.{left_again}
@@ -68,13 +67,14 @@ limits_after timing rules bus_free luns wants schedule due started limits early 
     record { small = small; problem = problem; horizon = omega (arith, less) }
 
 -- what is kept then is what it leaves
-pub step_kept : (by : Option PlainLengths) (channel : PlainChannel) (luns : List PlainLun) (wants : List PlainWant) (schedule : PlainSchedule) (lun number started : ℕ) (step : Step) (waiting : List PlainWant) (new : PlainSchedule)
-    → IsStep by channel luns wants schedule lun number started step → waiting ≡ plain_behind step.due.place step.due.group wants
+pub step_kept : (channel : PlainChannel) (wants : List PlainWant) (schedule : PlainSchedule) (lun number started : ℕ) (step : Step) (waiting : List PlainWant) (new : PlainSchedule)
+    → IsStep channel wants schedule lun number started step → waiting ≡ plain_behind step.due.place step.due.group wants
     → ((all : List Want) → new ≡ written_schedule (later (started - step.due.start) (left_behind (schedule_of all schedule) step.due)))
-    → IsRan (record { lengths = by; channel = channel; luns = luns; wants = wants; schedule = schedule })
-    (record { lengths = by; channel = record channel { bus_free = step.ended }; luns = slice_set luns lun step.lun; wants = waiting; schedule = new }) lun number started
-step_kept by channel luns wants schedule lun number started step waiting new taken left later_is =
-    let old : Kept = record { lengths = by; channel = channel; luns = luns; wants = wants; schedule = schedule } in
+    → IsRan (record { channel = channel; wants = wants; schedule = schedule })
+    (record { channel = channel_then channel step.ended lun step.lun; wants = waiting; schedule = new }) lun number started
+step_kept channel wants schedule lun number started step waiting new taken left later_is =
+    let luns = luns_of channel in
+    let old : Kept = record { channel = channel; wants = wants; schedule = schedule } in
     let f : Flight = flight_of taken.timing taken.rules channel.bus_free luns wants schedule in
     let due = step.due in
     let is = taken.there.is in
@@ -104,17 +104,17 @@ left_fewer None group wants = omega arith
 left_fewer (Some at) group wants = filter_shorter (λ (w : PlainWant). not (list_any (λ (m : Want). m.id == w.id) group)) wants
 
 -- .. in the caller's memory
-pub step_given : (by : Option PlainLengths) (channel : PlainChannel) (luns : List PlainLun) (room_old : List PlainWant) (count : ℕ) (schedule : PlainSchedule) (lun number started : ℕ) (step : Step) (waiting : List PlainWant)
-    (new : PlainSchedule) (at n : ℕ) (room : List PlainWant) → IsStep by channel luns (take count room_old) schedule lun number started step
+pub step_given : (channel : PlainChannel) (room_old : List PlainWant) (count : ℕ) (schedule : PlainSchedule) (lun number started : ℕ) (step : Step) (waiting : List PlainWant)
+    (new : PlainSchedule) (at n : ℕ) (room : List PlainWant) → IsStep channel (take count room_old) schedule lun number started step
     → waiting ≡ plain_behind step.due.place step.due.group (take count room_old)
     → ((all : List Want) → new ≡ written_schedule (later (started - step.due.start) (left_behind (schedule_of all schedule) step.due))) → at ≡ lun → n ≡ length waiting
     → room ≡ waiting ++ drop (length waiting) room_old
-    → GivesRan (record { lengths = by; channel = channel; luns = luns; wants = take count room_old; schedule = schedule })
-    (record { lengths = by; channel = record channel { bus_free = step.ended }; luns = slice_set luns at step.lun; wants = take n room; schedule = new }) room_old room count n lun number started 0
-step_given by channel luns room_old count schedule lun number started step waiting new at n room taken left later_is same_lun same_count is =
-    let old : Kept = record { lengths = by; channel = channel; luns = luns; wants = take count room_old; schedule = schedule } in
-    let now : ℕ → List PlainWant → Kept = λ i ws. record { lengths = by; channel = record channel { bus_free = step.ended }; luns = slice_set luns i step.lun; wants = ws; schedule = new } in
-    let kept_is : IsRan old (now lun waiting) lun number started = step_kept by channel luns (take count room_old) schedule lun number started step waiting new taken left later_is in
+    → GivesRan (record { channel = channel; wants = take count room_old; schedule = schedule })
+    (record { channel = channel_then channel step.ended at step.lun; wants = take n room; schedule = new }) room_old room count n lun number started 0
+step_given channel room_old count schedule lun number started step waiting new at n room taken left later_is same_lun same_count is =
+    let old : Kept = record { channel = channel; wants = take count room_old; schedule = schedule } in
+    let now : ℕ → List PlainWant → Kept = λ i ws. record { channel = channel_then channel step.ended i step.lun; wants = ws; schedule = new } in
+    let kept_is : IsRan old (now lun waiting) lun number started = step_kept channel (take count room_old) schedule lun number started step waiting new taken left later_is in
     let rest = drop (length waiting) room_old in
     let front : take n room ≡ waiting = ap (take n) is ∙ ap (λ k. take k (waiting ++ rest)) same_count ∙ take-append_seam waiting rest in
     let behind : drop n room ≡ drop n room_old =
@@ -126,9 +126,9 @@ step_given by channel luns room_old count schedule lun number started step waiti
     (omega (arith, same_count, told, fewer, taken_few)) behind refl
 
 -- its LUN is there
-pub step_there : (by : Option PlainLengths) (channel : PlainChannel) (luns : List PlainLun) (wants : List PlainWant) (schedule : PlainSchedule) (lun number started : ℕ) (step : Step) (at : ℕ)
-    → IsStep by channel luns wants schedule lun number started step → at ≡ lun → at < length luns
-step_there by channel luns wants schedule lun number started step at taken same =
-    let low = plain_there by channel luns wants (flight_of taken.timing taken.rules channel.bus_free luns wants schedule) step.due started taken.said.said.problem taken.there.is in
+pub step_there : (channel : PlainChannel) (wants : List PlainWant) (schedule : PlainSchedule) (lun number started : ℕ) (step : Step) (at : ℕ)
+    → IsStep channel wants schedule lun number started step → at ≡ lun → at < length (luns_of channel)
+step_there channel wants schedule lun number started step at taken same =
+    let low = plain_there channel wants (flight_of taken.timing taken.rules channel.bus_free (luns_of channel) wants schedule) step.due started taken.said.said.problem taken.there.is in
     let lun_is = taken.there.lun_is in
     omega (arith, same, low, lun_is)

@@ -16,9 +16,9 @@ use Rattle.onfi_calls.specs.declared.log_broken.PlainLogBroken.{PlainLogBroken}
 use Rattle.onfi_calls.specs.declared.phase.PlainPhase.{PlainPhase}
 use Rattle.onfi_calls.specs.declared.status.Status.{Status}
 use Rattle.onfi_calls.specs.declared.status.Status.TheVariants.{BadKind, BadLun, Clock, Illegal, Memory, NoLengths, TooMany}
-use Rattle.onfi_calls.specs.AuditSaid.{IsAuditSaid, IsNoAudit}
+use Rattle.onfi_calls.specs.Audit.{IsAuditSaid, IsNoAudit}
 use Rattle.onfi_calls.specs.LogBroken.{unbroken, written_breach}
-use Rattle.onfi_calls.specs.Said.{kind_of, operation_in}
+use Rattle.onfi_calls.specs.Problem.{kind_of, operation_in}
 use Rattle.onfi_calls.specs.Status.{number_of}
 
 -- neither a kind nor a read of some sectors

@@ -1,5 +1,5 @@
 -- The condition that a schedule breaks, as a plain struct says it.
-use Rattle.std.specs.Prelude.{◌≡◌, ℕ, ◌<◌, List, Option, true, false}
+use Rattle.std.specs.Prelude.{◌≡◌, ℕ, ◌<◌, List, true, false}
 use Rattle.onfi_problem.specs.Problem.{Problem}
 use Rattle.onfi_schedule.specs.Schedule.{Legal, Schedule}
 use Rattle.onfi_schedule.specs.Breaks.{Breaks}
@@ -16,13 +16,11 @@ use Rattle.onfi_schedule.specs.declared.phase_name.PhaseName.{PhaseName}
 use Rattle.onfi_calls.specs.declared.broken.PlainBroken.{PlainBroken}
 use Rattle.onfi_calls.specs.declared.broken.PlainNamed.{PlainNamed}
 use Rattle.onfi_calls.specs.declared.channel.PlainChannel.{PlainChannel}
-use Rattle.onfi_calls.specs.declared.lengths.PlainLengths.{PlainLengths}
-use Rattle.onfi_calls.specs.declared.lun.PlainLun.{PlainLun}
-use Rattle.onfi_calls.specs.declared.lun.PlainWant.{PlainWant}
+use Rattle.onfi_calls.specs.declared.channel.PlainWant.{PlainWant}
 use Rattle.onfi_calls.specs.declared.schedule.PlainSchedule.{PlainSchedule}
 use Rattle.onfi_calls.specs.declared.status.Status.{Status}
 use Rattle.onfi_calls.specs.declared.status.Status.TheVariants.{Illegal}
-use Rattle.onfi_calls.specs.SaidLegal.{IsNoSchedule, IsScheduleSaid}
+use Rattle.onfi_calls.specs.Stand.{IsNoSchedule, IsScheduleSaid}
 use Rattle.onfi_calls.specs.Status.{number_of}
 
 abbrev pub part_number : Part → ℕ
@@ -130,8 +128,8 @@ pub data IsJudged (p : Problem) (s : Schedule) (broken : PlainBroken) (result : 
   is_illegal : IsBroken p s broken → result ≡ number_of Illegal → IsJudged p s broken result
 
 -- a caller is told that the schedule is legal, or which condition it breaks; or by a number why there is none, and nothing else
-pub data GivesBreach (by : Option PlainLengths) (channel : PlainChannel) (luns : List PlainLun) (wants : List PlainWant) (schedule : PlainSchedule) (old new : PlainBroken) (result : ℕ) : Type 0 where
-  gives_breach : (p : Problem) (s : Schedule) → IsScheduleSaid by channel luns wants schedule p s → IsJudged p s new result
-      → GivesBreach by channel luns wants schedule old new result
-  refuses_breach : (status : Status) → IsNoSchedule by channel luns wants schedule status → new ≡ old → result ≡ number_of status
-      → GivesBreach by channel luns wants schedule old new result
+pub data GivesBreach (channel : PlainChannel) (wants : List PlainWant) (schedule : PlainSchedule) (old new : PlainBroken) (result : ℕ) : Type 0 where
+  gives_breach : (p : Problem) (s : Schedule) → IsScheduleSaid channel wants schedule p s → IsJudged p s new result
+      → GivesBreach channel wants schedule old new result
+  refuses_breach : (status : Status) → IsNoSchedule channel wants schedule status → new ≡ old → result ≡ number_of status
+      → GivesBreach channel wants schedule old new result

@@ -20,9 +20,8 @@ use Rattle.onfi_steady.specs.Waiting.{Books, channel}
 use Rattle.onfi_calls.specs.declared.channel.PlainChannel.{PlainChannel}
 use Rattle.onfi_calls.specs.declared.device.PlainGeometry.{PlainGeometry}
 use Rattle.onfi_calls.specs.declared.plain_dispatcher.PlainDispatcher.{PlainDispatcher}
-use Rattle.onfi_calls.specs.declared.lengths.PlainLengths.{PlainLengths}
-use Rattle.onfi_calls.specs.declared.lun.PlainLun.{PlainLun}
-use Rattle.onfi_calls.specs.declared.lun.PlainWant.{PlainWant}
+use Rattle.onfi_calls.specs.declared.channel.PlainLun.{PlainLun}
+use Rattle.onfi_calls.specs.declared.channel.PlainWant.{PlainWant}
 use Rattle.onfi_calls.specs.declared.phase.PlainPhase.{PlainPhase}
 use Rattle.onfi_calls.specs.declared.status.Status.{Status}
 use Rattle.onfi_calls.specs.declared.status.Status.TheVariants.{BadGeometry, BadKind, BadLun, BadPlace, Clock, NoLengths, NotWaiting, NothingDue}
@@ -31,8 +30,8 @@ use Rattle.onfi_calls.specs.Device.{written_geometry}
 use Rattle.onfi_calls.specs.Due.{IsOutside, IsWritten}
 use Rattle.onfi_calls.specs.Flights.{IsNoFlight}
 use Rattle.onfi_calls.specs.InOrder.{has_page}
-use Rattle.onfi_calls.specs.Said.{IsSaid, has_no_operation, lacks_length, members_of}
-use Rattle.onfi_calls.specs.SaidGeometry.{IsNoGeometry}
+use Rattle.onfi_calls.specs.Problem.{IsSaid, has_bad_kind, lacks_length, luns_of, members_of}
+use Rattle.onfi_calls.specs.Geometry.{IsNoGeometry}
 use Rattle.onfi_calls.specs.Status.{accept_status, number_of, ran_status, ready_status}
 
 -- the device has the page that a request names
@@ -50,44 +49,44 @@ no_books rules = record { rules = rules; waiting = []; newest = None }
 -- Begin
 
 -- a dispatcher keeps this channel, of which nothing waits
-pub record IsBegunOf (p : Problem) (lengths : PlainLengths) (channel : PlainChannel) (luns : List PlainLun) (geometry : PlainGeometry) (d : PlainDispatcher) : Type 0 where
+pub record IsBegunOf (p : Problem) (channel : PlainChannel) (geometry : PlainGeometry) (d : PlainDispatcher) : Type 0 where
   pub is : IsOf p.timing (no_books p.rules) d.dispatcher
   pub states : states_of d.dispatcher ≡ p.luns
   pub bus_free : d.dispatcher.bus_free ≡ p.bus_free
-  pub lengths_are : d.device.lengths ≡ lengths
+  pub lengths_are : d.device.lengths ≡ channel.lengths
   pub geometry_is : d.device.geometry ≡ geometry
-  pub there : list_any (has_outside geometry) luns ≡ false
+  pub there : list_any (has_outside geometry) (luns_of channel) ≡ false
   pub plane_bits : d.device.plane_bits ≡ channel.rules.plane_bits
 
 -- .. the channel that is said
-pub record IsBegun (lengths : PlainLengths) (channel : PlainChannel) (luns : List PlainLun) (geometry : PlainGeometry) (d : PlainDispatcher) : Type 0 where
+pub record IsBegun (channel : PlainChannel) (geometry : PlainGeometry) (d : PlainDispatcher) : Type 0 where
   pub problem : Problem
-  pub said : IsSaid (Some lengths) channel luns [] problem
+  pub said : IsSaid channel [] problem
   pub limits : InLimits problem
   pub measured : HasLengths problem
-  pub of : IsBegunOf problem lengths channel luns geometry d
+  pub of : IsBegunOf problem channel geometry d
 
 -- no device is said, or one that lacks a page of what runs
-abbrev pub IsNoDevice : PlainGeometry → List PlainLun → Status → Type 0
-IsNoDevice geometry luns status = (IsNoGeometry geometry × (status ≡ BadGeometry)) ⊎ ((list_any (has_outside geometry) luns ≡ true) × (status ≡ BadPlace))
+abbrev pub IsNoDevice : PlainChannel → PlainGeometry → Status → Type 0
+IsNoDevice channel geometry status = (IsNoGeometry geometry × (status ≡ BadGeometry)) ⊎ ((list_any (has_outside geometry) (luns_of channel) ≡ true) × (status ≡ BadPlace))
 
 -- why none is kept: the first of these
-pub data IsUnbegun (lengths : PlainLengths) (channel : PlainChannel) (luns : List PlainLun) (geometry : PlainGeometry) (status : Status) : Type 0 where
-  is_no_channel : IsNoFlight (Some lengths) channel luns [] no_schedule status → IsUnbegun lengths channel luns geometry status
-  is_no_device : (p : Problem) → IsSaid (Some lengths) channel luns [] p → InLimits p → HasLengths p → IsNoDevice geometry luns status
-      → IsUnbegun lengths channel luns geometry status
+pub data IsUnbegun (channel : PlainChannel) (geometry : PlainGeometry) (status : Status) : Type 0 where
+  is_no_channel : IsNoFlight channel [] no_schedule status → IsUnbegun channel geometry status
+  is_no_device : (p : Problem) → IsSaid channel [] p → InLimits p → HasLengths p → IsNoDevice channel geometry status
+      → IsUnbegun channel geometry status
 
 -- a caller keeps the channel; or a number says why not, and all is as it was
-pub data GivesBegun (lengths : PlainLengths) (channel : PlainChannel) (luns : List PlainLun) (geometry : PlainGeometry) (old new : PlainDispatcher) (result : ℕ) : Type 0 where
-  begins : IsBegun lengths channel luns geometry new → result ≡ 0 → GivesBegun lengths channel luns geometry old new result
-  begins_not : (status : Status) → IsUnbegun lengths channel luns geometry status → new ≡ old → result ≡ number_of status → GivesBegun lengths channel luns geometry old new result
+pub data GivesBegun (channel : PlainChannel) (geometry : PlainGeometry) (old new : PlainDispatcher) (result : ℕ) : Type 0 where
+  begins : IsBegun channel geometry new → result ≡ 0 → GivesBegun channel geometry old new result
+  begins_not : (status : Status) → IsUnbegun channel geometry status → new ≡ old → result ≡ number_of status → GivesBegun channel geometry old new result
 
 -- Requests
 
 -- why the device can't have a request: the first of these
 abbrev pub want_refusal : PlainDispatcher → PlainWant → Option Status
 want_refusal d w =
-    if has_no_operation w then Some BadKind else
+    if has_bad_kind w then Some BadKind else
     (if not (is_on d.device.geometry w) then Some BadPlace else
     (if has_page w then Some BadLun else
     (if lacks_length d.device.lengths w then Some NoLengths else None)))

@@ -1,5 +1,5 @@
 -- The phase that is due, as a plain struct gives it.
-use Rattle.std.specs.Prelude.{◌≡◌, ◌⊎◌, ℕ, ◌+◌, ◌*◌, ◌%◌, ◌==◌, nat_le, Bool, true, false, List, length, Some, Option}
+use Rattle.std.specs.Prelude.{◌≡◌, ◌⊎◌, ℕ, ◌+◌, ◌*◌, ◌%◌, ◌==◌, nat_le, Bool, true, false, List, length, Some}
 use Rattle.onfi_addr.specs.declared.geometry.Geometry.{Geometry}
 use Rattle.onfi_addr.specs.declared.place.Place.{Place}
 use Rattle.onfi_addr.specs.Rows.{IsInRange, row_of}
@@ -17,16 +17,14 @@ use Rattle.onfi_flight.specs.declared.due.Due.{Due}
 use Rattle.onfi_flight.specs.Flight.{Flight, IsDue, IsOver, IsStuck, member_of}
 use Rattle.onfi_calls.specs.declared.channel.PlainChannel.{PlainChannel}
 use Rattle.onfi_calls.specs.declared.device.PlainGeometry.{PlainGeometry}
-use Rattle.onfi_calls.specs.declared.lengths.PlainLengths.{PlainLengths}
-use Rattle.onfi_calls.specs.declared.lun.PlainLun.{PlainLun}
-use Rattle.onfi_calls.specs.declared.lun.PlainWant.{PlainWant}
+use Rattle.onfi_calls.specs.declared.channel.PlainWant.{PlainWant}
 use Rattle.onfi_calls.specs.declared.phase.PlainPhase.{PlainPhase}
 use Rattle.onfi_calls.specs.declared.schedule.PlainSchedule.{PlainSchedule}
 use Rattle.onfi_calls.specs.declared.status.Status.{Status}
 use Rattle.onfi_calls.specs.declared.status.Status.TheVariants.{BadGeometry, BadPlace, Illegal, NothingDue}
 use Rattle.onfi_calls.specs.Device.{written_geometry}
 use Rattle.onfi_calls.specs.Flights.{IsFlightSaid, IsNoFlight}
-use Rattle.onfi_calls.specs.SaidGeometry.{IsNoGeometry}
+use Rattle.onfi_calls.specs.Geometry.{IsNoGeometry}
 use Rattle.onfi_calls.specs.Status.{number_of}
 
 -- kinds as numbers: of the operation, and above it how many sectors a read puts out
@@ -112,21 +110,21 @@ abbrev pub IsOverTold : PlainGeometry → Status → Type 0
 IsOverTold geometry status = (IsNoGeometry geometry × (status ≡ BadGeometry)) ⊎ ((device : Geometry) × (geometry ≡ written_geometry device) × (status ≡ NothingDue))
 
 -- the phase that is due of what is said: the undone one of least start, which may run; of a legal schedule that which comes next
-pub record IsDueSaid (by : Option PlainLengths) (channel : PlainChannel) (luns : List PlainLun) (wants : List PlainWant) (geometry : PlainGeometry) (schedule : PlainSchedule) (phase : PlainPhase) : Type 0 where
+pub record IsDueSaid (channel : PlainChannel) (wants : List PlainWant) (geometry : PlainGeometry) (schedule : PlainSchedule) (phase : PlainPhase) : Type 0 where
   pub flight : Flight
-  pub said : IsFlightSaid by channel luns wants schedule flight
+  pub said : IsFlightSaid channel wants schedule flight
   pub due : Due
   pub is : IsDue flight due
   pub on : IsOnDevice flight.now.timing geometry due phase
 
 -- why none is given: the first of these
-pub data IsNoneDue (by : Option PlainLengths) (channel : PlainChannel) (luns : List PlainLun) (wants : List PlainWant) (geometry : PlainGeometry) (schedule : PlainSchedule) (status : Status) : Type 0 where
-  is_no_flight : IsNoFlight by channel luns wants schedule status → IsNoneDue by channel luns wants geometry schedule status
-  is_illegal : (f : Flight) → IsFlightSaid by channel luns wants schedule f → IsStuck f → status ≡ Illegal → IsNoneDue by channel luns wants geometry schedule status
-  is_over : (f : Flight) → IsFlightSaid by channel luns wants schedule f → IsOver f.left → IsDone f.now → IsOverTold geometry status → IsNoneDue by channel luns wants geometry schedule status
-  is_off : (f : Flight) → IsFlightSaid by channel luns wants schedule f → (due : Due) → IsDue f due → IsOffDevice geometry due status → IsNoneDue by channel luns wants geometry schedule status
+pub data IsNoneDue (channel : PlainChannel) (wants : List PlainWant) (geometry : PlainGeometry) (schedule : PlainSchedule) (status : Status) : Type 0 where
+  is_no_flight : IsNoFlight channel wants schedule status → IsNoneDue channel wants geometry schedule status
+  is_illegal : (f : Flight) → IsFlightSaid channel wants schedule f → IsStuck f → status ≡ Illegal → IsNoneDue channel wants geometry schedule status
+  is_over : (f : Flight) → IsFlightSaid channel wants schedule f → IsOver f.left → IsDone f.now → IsOverTold geometry status → IsNoneDue channel wants geometry schedule status
+  is_off : (f : Flight) → IsFlightSaid channel wants schedule f → (due : Due) → IsDue f due → IsOffDevice geometry due status → IsNoneDue channel wants geometry schedule status
 
 -- a caller is given the phase that is due, or a number that says why there is none, and nothing else
-pub data GivesDue (by : Option PlainLengths) (channel : PlainChannel) (luns : List PlainLun) (wants : List PlainWant) (geometry : PlainGeometry) (schedule : PlainSchedule) (old new : PlainPhase) (result : ℕ) : Type 0 where
-  gives_due : IsDueSaid by channel luns wants geometry schedule new → result ≡ 0 → GivesDue by channel luns wants geometry schedule old new result
-  refuses_due : (status : Status) → IsNoneDue by channel luns wants geometry schedule status → new ≡ old → result ≡ number_of status → GivesDue by channel luns wants geometry schedule old new result
+pub data GivesDue (channel : PlainChannel) (wants : List PlainWant) (geometry : PlainGeometry) (schedule : PlainSchedule) (old new : PlainPhase) (result : ℕ) : Type 0 where
+  gives_due : IsDueSaid channel wants geometry schedule new → result ≡ 0 → GivesDue channel wants geometry schedule old new result
+  refuses_due : (status : Status) → IsNoneDue channel wants geometry schedule status → new ≡ old → result ≡ number_of status → GivesDue channel wants geometry schedule old new result

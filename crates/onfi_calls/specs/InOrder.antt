@@ -13,13 +13,13 @@ use Rattle.onfi_flight.specs.declared.turn.Turn.TheVariants as turn
 use Rattle.onfi_calls.specs.declared.least.Least.{Least}
 use Rattle.onfi_calls.specs.declared.least.Least.TheVariants as least
 use Rattle.onfi_calls.specs.declared.least.Start.{Start}
-use Rattle.onfi_calls.specs.declared.lun.PlainLun.{PlainLun}
-use Rattle.onfi_calls.specs.declared.lun.PlainWant.{PlainWant}
+use Rattle.onfi_calls.specs.declared.channel.PlainLun.{PlainLun}
+use Rattle.onfi_calls.specs.declared.channel.PlainWant.{PlainWant}
 use Rattle.onfi_calls.specs.declared.schedule.PlainGroup.{PlainGroup}
 use Rattle.onfi_calls.specs.declared.schedule.PlainRest.{PlainRest}
 use Rattle.onfi_calls.specs.declared.schedule.PlainSchedule.{PlainSchedule}
-use Rattle.onfi_calls.specs.Said.{operation_in, states_of, wants_of}
-use Rattle.onfi_calls.specs.SaidSchedule.{groups_of, rest_of, rests_of, schedule_of, starts_of}
+use Rattle.onfi_calls.specs.Problem.{operation_in, states_of, wants_of}
+use Rattle.onfi_calls.specs.ReadSchedule.{groups_of, rest_of, rests_of, schedule_of, starts_of}
 
 -- numbers rise from `floor` on, and stay below that one
 abbrev pub RiseFrom : ℕ → ℕ → List PlainWant → Type 0

@@ -10,8 +10,8 @@ use Rattle.onfi_calls.specs.declared.phase.PlainPhase.{PlainPhase}
 use Rattle.onfi_calls.specs.declared.status.Status.{Status}
 use Rattle.onfi_calls.specs.declared.status.Status.TheVariants.{BadGeometry, BadKind, BadSectors}
 use Rattle.onfi_calls.specs.Device.{written_geometry}
-use Rattle.onfi_calls.specs.Said.{kind_of, operation_in}
-use Rattle.onfi_calls.specs.SaidGeometry.{IsNoGeometry}
+use Rattle.onfi_calls.specs.Problem.{kind_of, operation_in}
+use Rattle.onfi_calls.specs.Geometry.{IsNoGeometry}
 use Rattle.onfi_calls.specs.Status.{number_of}
 
 -- a read that names sectors puts out those from that one on

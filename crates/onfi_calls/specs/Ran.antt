@@ -10,17 +10,16 @@ use Rattle.onfi_schedule.specs.Schedule.{Legal}
 use Rattle.onfi_flight.specs.declared.due.Due.{Due}
 use Rattle.onfi_flight.specs.Flight.{Flight, IsDue, IsOver, IsStuck, after_late, latest_late}
 use Rattle.onfi_calls.specs.declared.channel.PlainChannel.{PlainChannel}
-use Rattle.onfi_calls.specs.declared.lengths.PlainLengths.{PlainLengths}
-use Rattle.onfi_calls.specs.declared.lun.PlainLun.{PlainLun}
-use Rattle.onfi_calls.specs.declared.lun.PlainWant.{PlainWant}
+use Rattle.onfi_calls.specs.declared.channel.PlainLun.{PlainLun}
+use Rattle.onfi_calls.specs.declared.channel.PlainWant.{PlainWant}
 use Rattle.onfi_calls.specs.declared.ran.Behind.{Behind}
 use Rattle.onfi_calls.specs.declared.schedule.PlainSchedule.{PlainSchedule}
 use Rattle.onfi_calls.specs.declared.status.Status.{Status}
 use Rattle.onfi_calls.specs.declared.status.Status.TheVariants.{TooMany, Clock, Illegal, NothingDue, NotDue, TooSoon}
 use Rattle.onfi_calls.specs.Flights.{IsFlightSaid, IsNoFlight}
-use Rattle.onfi_calls.specs.Said.{IsSaid}
+use Rattle.onfi_calls.specs.Problem.{IsSaid}
 use Rattle.onfi_calls.specs.Status.{number_of}
-use Rattle.onfi_calls.specs.Written.{filled, written_schedule, written_want}
+use Rattle.onfi_calls.specs.PlainSchedule.{filled, written_schedule, written_want}
 
 abbrev pub no_want : PlainWant
 no_want = record { id = 0; kind = 0; lun = 0; block = 0; page = 0 }
@@ -42,27 +41,27 @@ pub record IsBehind (luns : List PlainLun) (due : Due) (f : Flight) (b : Behind)
   pub wants : b.wants.items ≡ map written_want f.now.wants
   pub schedule : b.schedule ≡ written_schedule f.left
 
--- what a caller says of sectors, if he does, and keeps of a channel; these wants wait
+-- what a caller keeps of a channel; these wants wait
 pub record Kept : Type 0 where
-  pub lengths : Option PlainLengths
   pub channel : PlainChannel
-  pub luns : List PlainLun
   pub wants : List PlainWant
   pub schedule : PlainSchedule
+
+-- the channel once its bus is free then, and that LUN does this
+abbrev pub channel_then : PlainChannel → ℕ → ℕ → PlainLun → PlainChannel
+channel_then channel bus_free lun now = record channel { bus_free = bus_free; lun = slice_set channel.lun lun now }
 
 -- what is kept once a phase of that LUN ran
 abbrev pub kept_behind : Kept → ℕ → Behind → Kept
 kept_behind old lun b = record {
-  lengths = old.lengths;
-  channel = record old.channel { bus_free = b.bus_free };
-  luns = slice_set old.luns lun b.lun;
+  channel = channel_then old.channel b.bus_free lun b.lun;
   wants = b.wants.items;
   schedule = b.schedule;
 }
 
 -- the problem that is kept, and what is left of its schedule
 abbrev pub Flies : Kept → Flight → Type 0
-Flies k f = IsFlightSaid k.lengths k.channel k.luns k.wants k.schedule f
+Flies k f = IsFlightSaid k.channel k.wants k.schedule f
 
 -- the phase that is due is of that LUN and has that number
 pub record IsDueThere (f : Flight) (due : Due) (lun number : ℕ) : Type 0 where
@@ -79,7 +78,7 @@ pub record IsRan (old new : Kept) (lun number started : ℕ) : Type 0 where
   pub there : IsDueThere flight due lun number
   pub on_time : due.start ≤ started
   pub legal : Legal flight.now flight.left → Legal (after_late flight due started).now (after_late flight due started).left
-  pub after : IsSaid new.lengths new.channel new.luns new.wants (after_late flight due started).now
+  pub after : IsSaid new.channel new.wants (after_late flight due started).now
   pub limits : InLimits (after_late flight due started).now
   pub measured : HasLengths (after_late flight due started).now
   pub later : new.schedule ≡ written_schedule (after_late flight due started).left
@@ -91,7 +90,7 @@ IsLate f due started = (2 ^ 62 ≤ latest_late f due started) ⊎ (2 ^ 62 ≤ ho
 
 -- why nothing is done: the first of these
 pub data IsNotRan (old : Kept) (lun number started : ℕ) (status : Status) : Type 0 where
-  is_no_flight : IsNoFlight old.lengths old.channel old.luns old.wants old.schedule status → IsNotRan old lun number started status
+  is_no_flight : IsNoFlight old.channel old.wants old.schedule status → IsNotRan old lun number started status
   is_illegal : (f : Flight) → Flies old f → IsStuck f → status ≡ Illegal → IsNotRan old lun number started status
   is_over : (f : Flight) → Flies old f → IsOver f.left → IsDone f.now → status ≡ NothingDue → IsNotRan old lun number started status
   is_not_due : (f : Flight) → Flies old f → (due : Due) → IsDue f due → ((due.lun ≡ lun) × (due.phase ≡ number) → ⊥) → status ≡ NotDue → IsNotRan old lun number started status

@@ -9,14 +9,12 @@ use Rattle.onfi_steady.specs.Dispatcher.{HasRun, accepted_again, begun_books, du
 use Rattle.onfi_steady.specs.Waiting.{Books, accepted}
 use Rattle.onfi_calls.specs.declared.channel.PlainChannel.{PlainChannel}
 use Rattle.onfi_calls.specs.declared.device.PlainGeometry.{PlainGeometry}
-use Rattle.onfi_calls.specs.declared.lengths.PlainLengths.{PlainLengths}
-use Rattle.onfi_calls.specs.declared.lun.PlainLun.{PlainLun}
-use Rattle.onfi_calls.specs.declared.lun.PlainWant.{PlainWant}
+use Rattle.onfi_calls.specs.declared.channel.PlainWant.{PlainWant}
 use Rattle.onfi_calls.specs.declared.plain_dispatcher.PlainDispatcher.{PlainDispatcher}
 use Rattle.onfi_calls.specs.declared.status.Status.{Status}
 use Rattle.onfi_calls.specs.declared.status.Status.TheVariants.{BadPlace}
 use Rattle.onfi_calls.specs.Dispatching.{IsBegun, IsNoneNext, no_books, want_refusal}
-use Rattle.onfi_calls.specs.Said.{want_of}
+use Rattle.onfi_calls.specs.Problem.{want_of}
 
 -- the device has the page of a request
 abbrev pub IsHad : PlainGeometry → Want → Type 0
@@ -38,8 +36,8 @@ NextServes = (timing : Timing) (books : Books) (d : PlainDispatcher) (now : ℕ)
 
 -- it is so of a dispatcher that begins
 abbrev pub BeginningServes : Type 0
-BeginningServes = (lengths : PlainLengths) (channel : PlainChannel) (luns : List PlainLun) (geometry : PlainGeometry) (d : PlainDispatcher)
-    → (begun : IsBegun lengths channel luns geometry d) → IsServed d.device.geometry (no_books begun.problem.rules) (states_of d.dispatcher)
+BeginningServes = (channel : PlainChannel) (geometry : PlainGeometry) (d : PlainDispatcher)
+    → (begun : IsBegun channel geometry d) → IsServed d.device.geometry (no_books begun.problem.rules) (states_of d.dispatcher)
 
 -- .. of one that takes a request, or takes it again
 pub record IsStillServed (d : PlainDispatcher) (books : Books) (luns : List LunState) (w : PlainWant) : Type 0 where

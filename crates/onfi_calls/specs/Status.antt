@@ -13,7 +13,7 @@ use Rattle.onfi_steady.specs.declared.fault.RanFault.TheVariants as ran
 use Rattle.onfi_steady.specs.declared.fault.ReadyFault.{ReadyFault}
 use Rattle.onfi_steady.specs.declared.fault.ReadyFault.TheVariants as ready
 use Rattle.onfi_calls.specs.declared.status.Status.{Status}
-use Rattle.onfi_calls.specs.declared.status.Status.TheVariants.{Done, NoRoom, Memory, BadLimit, Over, ZeroSpan, LongSpan, BadPlaneBits, BadKind, BadMembers, TooMany, BadLun, Clock, BadPlace, BadGeometry, BadOrder, NoLengths, BadSectors, BadSchedule, NothingDue, NotDue, TooSoon, NotWaiting, BadDispatcher, BadHeader, BadToken, TooManyTokens, OtherOption, Illegal, Short, Trailing, Width, BoundLow, YieldNoFit, YieldLoop, NotEnd, EndsBefore, PageShort, NoCopy, WideBus, NoStatusEnhanced, NoColumnEnhanced, NoMultiLun, LunCount, PlaneBits, Zero, RowTooWide, ColumnTooWide, TooLarge, SheetMissing, SheetRepeated, SheetUnknown, SheetNotANumber, SheetZeroCycle, SheetTooLong, StrobeMissing, StrobeRepeated, StrobeUnknown, StrobeNotANumber, UnknownNode, OtherLeft, Sooner, TooManyNodes}
+use Rattle.onfi_calls.specs.declared.status.Status.TheVariants.{Done, NoRoom, Memory, BadLimit, Over, BadBy, BadWords, ZeroSpan, LongSpan, BadPlaneBits, BadKind, BadMembers, TooMany, BadLun, Clock, BadPlace, BadGeometry, BadOrder, NoLengths, BadSectors, BadSchedule, NothingDue, NotDue, TooSoon, NotWaiting, BadDispatcher, BadHeader, BadToken, TooManyTokens, OtherOption, Illegal, Short, Trailing, Width, BoundLow, YieldNoFit, YieldLoop, NotEnd, EndsBefore, PageShort, NoCopy, WideBus, NoStatusEnhanced, NoColumnEnhanced, NoMultiLun, LunCount, PlaneBits, Zero, RowTooWide, ColumnTooWide, TooLarge, SheetMissing, SheetRepeated, SheetUnknown, SheetNotANumber, SheetZeroCycle, SheetTooLong, StrobeMissing, StrobeRepeated, StrobeUnknown, StrobeNotANumber, UnknownNode, OtherLeft, Sooner, TooManyNodes}
 
 abbrev pub number_of : Status → ℕ
 number_of Done = 0
@@ -21,6 +21,8 @@ number_of NoRoom = 3
 number_of Memory = 4
 number_of BadLimit = 5
 number_of Over = 6
+number_of BadBy = 7
+number_of BadWords = 9
 number_of ZeroSpan = 10
 number_of LongSpan = 11
 number_of BadPlaneBits = 12
@@ -87,6 +89,8 @@ text_of NoRoom = codes "a text is longer than the room for it"
 text_of Memory = codes "memory was refused"
 text_of BadLimit = codes "a search opens 1 to 1,048,576 nodes"
 text_of Over = codes "the limit of nodes was met and the search isn't over"
+text_of BadBy = codes "a way to plan that is none"
+text_of BadWords = codes "words that ask for nothing that is answered"
 text_of ZeroSpan = codes "a phase without length"
 text_of LongSpan = codes "a length or a wait of 2^50 ns or more"
 text_of BadPlaneBits = codes "more than 2 bits name the plane"

@@ -1,13 +1,13 @@
 //! Phases of a log, judged one at a time.
 ghost use Rattle.std.specs.Prelude.{◌≡◌, ℕ, ◌≤◌, ◌<◌, ◌^◌, nat_lt, length, IfOk, IfErr};
 ghost use Rattle.onfi_calls.specs.AuditPhase as spec;
-ghost use Rattle.onfi_calls.specs.AuditSaid.{IsAuditSaid};
+ghost use Rattle.onfi_calls.specs.Audit.{IsAuditSaid};
 ghost use Rattle.onfi_audit.specs.Audit.{Audit as Left, after_line};
 
 use crate::audit::{PlainAudit, audit_of, keep};
 use crate::log_broken::{PlainLogBroken, UNBROKEN, plain_log_breach};
 use crate::phase::PlainPhase;
-use crate::said::kind_of;
+use crate::problem::kind_of;
 use crate::status::Status;
 use onfi_audit::{AcceptFault, Audit, Line, LogBreach, LunStage};
 use std::alloc::Global;

@@ -1,13 +1,11 @@
 //! Which condition of a legal schedule one that plain structs say breaks.
-ghost use Rattle.std.specs.Prelude.{◌≡◌, None, Some, IfNone, IfSome};
+ghost use Rattle.std.specs.Prelude.{◌≡◌, IfNone, IfSome};
 ghost use Rattle.onfi_schedule.specs.Schedule.{Legal};
 ghost use Rattle.onfi_calls.specs.Broken as spec;
 
-use crate::channel::PlainChannel;
-use crate::lengths::PlainLengths;
-use crate::lun::{PlainLun, PlainWant};
+use crate::channel::{PlainChannel, PlainLun, PlainWant};
 use crate::schedule::PlainSchedule;
-use crate::stand::{Stand, read_stand, read_stand_by};
+use crate::stand::{Stand, read_stand};
 use crate::status::Status;
 use onfi_schedule::{Breach, Difference, Owner, Part, PhaseName, find_breach};
 use std::alloc::Global;
@@ -288,16 +286,16 @@ fn find_broken(stand: &Stand) -> Option<PlainBroken>
 }
 
 /// Gives the condition that is broken, or that none is.
-fn give_broken(stand: &Stand, told: &mut PlainBroken) -> u32
-    ensures { spec.IsJudged stand.now.problem.problem stand.now.schedule told.new result }
+fn give_broken(stand: &Stand, broken: &mut PlainBroken) -> u32
+    ensures { spec.IsJudged stand.now.problem.problem stand.now.schedule broken.new result }
 {
     match find_broken(stand) {
         Some(breach) => {
-            *told = breach;
+            *broken = breach;
             Status::Illegal.number()
         }
         None => {
-            *told = UNBROKEN;
+            *broken = UNBROKEN;
             0
         }
     }
@@ -307,39 +305,17 @@ fn give_broken(stand: &Stand, told: &mut PlainBroken) -> u32
 /// [`find_breach`](onfi_schedule::find_breach) looks at them. No certificate is looked at.
 ///
 /// Answers 0 where it is legal; the number of `Illegal` where it isn't, with the condition; else the first of the numbers that
-/// [`onfi_plan`](crate::planning::onfi_plan) answers for the channel, or that of `BadSchedule`, and what is broken is as it was.
+/// [`onfi_plan`](crate::plan::onfi_plan) answers for the channel, or that of `BadSchedule`, and what is broken is as it was.
 pub fn onfi_breach(
     alloc: Global,
     channel: &PlainChannel,
-    luns: &[PlainLun],
     wants: &[PlainWant],
     schedule: &PlainSchedule,
     broken: &mut PlainBroken,
 ) -> u32
-    ensures { spec.GivesBreach None channel.now luns.now wants.now schedule.now broken.old broken.new result }
+    ensures { spec.GivesBreach channel.now wants.now schedule.now broken.old broken.new result }
 {
-    match read_stand(alloc, channel, luns, wants, schedule) {
-        Ok(stand) => give_broken(&stand, broken),
-        Err(status) => status.number(),
-    }
-}
-
-/// The same as [`onfi_breach`], where reads may put out some sectors: their posts are those of `lengths`.
-///
-/// Answers what `onfi_breach` does, `LongSpan` also of these posts, after those of a channel's lengths, and after `BadLun` that of
-/// `NoLengths`.
-pub fn onfi_breach_by(
-    alloc: Global,
-    lengths: &PlainLengths,
-    channel: &PlainChannel,
-    luns: &[PlainLun],
-    wants: &[PlainWant],
-    schedule: &PlainSchedule,
-    broken: &mut PlainBroken,
-) -> u32
-    ensures { spec.GivesBreach (Some lengths.now) channel.now luns.now wants.now schedule.now broken.old broken.new result }
-{
-    match read_stand_by(alloc, lengths, channel, luns, wants, schedule) {
+    match read_stand(alloc, channel, wants, schedule) {
         Ok(stand) => give_broken(&stand, broken),
         Err(status) => status.number(),
     }

@@ -29,11 +29,45 @@ pub struct PlainRules {
     pub plane_bits: u8,
 }
 
-/// A channel: its lengths, its rules, and from when on its bus is free, in ns.
+/// How long outputs of some sectors hold the bus: the posts of reads of one to seven sectors, in ns, each below 2^50; 0 where
+/// none is stated.
+#[repr(C)]
+#[derive(Clone, Copy)]
+pub struct PlainLengths {
+    pub sectors: [u64; 7],
+}
+
+/// A request: its number, its kind (0 read, 1 program, 2 erase), its LUN, block and page; an erase names page 0.
+#[repr(C)]
+#[derive(Clone, Copy, Default)]
+pub struct PlainWant {
+    pub id: u64,
+    pub kind: u8,
+    pub lun: u8,
+    pub block: u16,
+    pub page: u16,
+}
+
+/// What a LUN does: nothing, where `members` is 0, and a group may begin on it from `since`; or it runs the group of the
+/// first `members` wants, up to 4, of which phases 0 to `next - 1` are over and the next may start from `since`, in ns.
+#[repr(C)]
+#[derive(Clone, Copy)]
+pub struct PlainLun {
+    pub since: u64,
+    pub members: u8,
+    pub next: u8,
+    pub member: [PlainWant; 4],
+}
+
+/// A channel as it stands: the lengths of its phases, those of reads of some sectors, its rules, from when on its bus is free, in ns,
+/// and what the first `lun_count` LUNs do, up to 8.
 #[repr(C)]
 #[derive(Clone, Copy)]
 pub struct PlainChannel {
     pub timing: PlainTiming,
+    pub lengths: PlainLengths,
     pub rules: PlainRules,
     pub bus_free: u64,
+    pub lun_count: u8,
+    pub lun: [PlainLun; 8],
 }

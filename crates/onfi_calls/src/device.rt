@@ -1,4 +1,4 @@
-use crate::channel::{PlainRules, PlainTiming};
+use crate::channel::{PlainLengths, PlainRules, PlainTiming};
 
 /// What of a device its addressing rests on, and what it may do at the same time.
 #[repr(C)]
@@ -29,11 +29,12 @@ pub struct PlainGeometry {
     pub multi_plane_reads: bool,
 }
 
-/// A device: its lengths, what it may group, and its geometry.
+/// A device: its lengths, those of reads of some sectors, what it may group, and its geometry.
 #[repr(C)]
 #[derive(Clone, Copy)]
 pub struct PlainDevice {
     pub timing: PlainTiming,
+    pub lengths: PlainLengths,
     pub rules: PlainRules,
     pub geometry: PlainGeometry,
 }

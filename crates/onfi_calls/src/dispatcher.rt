@@ -5,14 +5,11 @@ ghost use Rattle.onfi_calls.specs.Dispatching as spec;
 ghost use Rattle.onfi_problem.specs.Kept.{problem_of};
 ghost use Rattle.onfi_steady.specs.LunBooks.{HasPhaseLeft};
 
-use crate::channel::PlainChannel;
+use crate::channel::{PlainChannel, PlainLun, PlainWant};
 use crate::device::PlainGeometry;
 use crate::geometry::geometry_of;
-use crate::lengths::PlainLengths;
-use crate::lun::{PlainLun, PlainWant};
 use crate::plain_dispatcher::{KeptDevice, PlainDispatcher};
-use crate::said::{few_states_of, rules};
-use crate::said_lengths::timing_in_flight;
+use crate::problem::{few_states_of, measure_few, rules};
 use crate::status::Status;
 use onfi_group::Rules;
 use onfi_problem::{LunState, find_fault};
@@ -51,28 +48,27 @@ fn keep(
     timing: &Timing,
     rules: Rules,
     states: &[LunState],
-    lengths: &PlainLengths,
     channel: &PlainChannel,
-    luns: &[PlainLun],
     geometry: &PlainGeometry,
 ) -> Result<PlainDispatcher, Status>
     requires some { 1 ≤ length states.now }
     requires few { length states.now ≤ 8 }
+    requires few_luns { channel.now.lun_count ≤ 8 }
     requires left { Each HasPhaseLeft states.now }
     requires bits { channel.now.rules.plane_bits ≤ 2 }
-    ensures begun { IfOk result (spec.IsBegunOf (problem_of timing.now rules channel.now.bus_free states.now []) lengths.now channel.now luns.now geometry.now) }
-    ensures none { IfErr result (spec.IsNoDevice geometry.now luns.now) }
+    ensures begun { IfOk result (spec.IsBegunOf (problem_of timing.now rules channel.now.bus_free states.now []) channel.now geometry.now) }
+    ensures none { IfErr result (spec.IsNoDevice channel.now geometry.now) }
 {
     if geometry_of(geometry).is_none() {
         return Err(Status::BadGeometry);
     }
-    if have_outside(geometry, luns) {
+    if have_outside(geometry, &channel.lun[..channel.lun_count as usize]) {
         return Err(Status::BadPlace);
     }
     Ok(PlainDispatcher {
         dispatcher: Dispatcher::with_luns(timing, rules, channel.bus_free, states),
         device: KeptDevice {
-            lengths: *lengths,
+            lengths: channel.lengths,
             geometry: *geometry,
             plane_bits: channel.rules.plane_bits,
         },
@@ -82,43 +78,40 @@ fn keep(
 /// What is kept of the channel that is said, or why there is none.
 fn begin(
     alloc: Global,
-    lengths: &PlainLengths,
     channel: &PlainChannel,
-    luns: &[PlainLun],
     geometry: &PlainGeometry,
 ) -> Result<PlainDispatcher, Status>
-    ensures begun { IfOk result (spec.IsBegun lengths.now channel.now luns.now geometry.now) }
-    ensures none { IfErr result (spec.IsUnbegun lengths.now channel.now luns.now geometry.now) }
+    ensures begun { IfOk result (spec.IsBegun channel.now geometry.now) }
+    ensures none { IfErr result (spec.IsUnbegun channel.now geometry.now) }
 {
-    let timing = match timing_in_flight(alloc, lengths, channel, luns, &[]) {
+    let timing = match measure_few(alloc, channel, &[]) {
         Ok(timing) => timing,
         Err(status) => return Err(status),
     };
+    let luns = &channel.lun[..channel.lun_count as usize];
     let states = few_states_of(alloc, channel.rules.plane_bits, luns);
     let states = &states[..luns.len()];
     let rules = rules(&channel.rules);
     match find_fault(&timing, &rules, channel.bus_free, states, &[]) {
         Some(fault) => Err(Status::of_problem(fault)),
-        None => keep(&timing, rules, states, lengths, channel, luns, geometry),
+        None => keep(&timing, rules, states, channel, geometry),
     }
 }
 
-/// Has a dispatcher begin with the channel, its LUNs, the lengths of reads of some sectors and the device as they are said: nothing
-/// waits. All of them are looked at here, and by no later call. This asks for no memory.
+/// Has a dispatcher begin with the channel and the device as they are said: nothing waits. Both are looked at here, and by no later
+/// call. This asks for no memory.
 ///
-/// Answers 0; or the first of the numbers that [`onfi_audit_begin_by`](crate::audit_begin::onfi_audit_begin_by) answers, of
+/// Answers 0; or the first of the numbers that [`onfi_audit_begin`](crate::audit_begin::onfi_audit_begin) answers, of
 /// `BadGeometry`, and of `BadPlace` where the device lacks the page of what a LUN runs; and all is as it was.
 pub fn onfi_dispatcher_begin(
     alloc: Global,
     dispatcher: &mut PlainDispatcher,
-    lengths: &PlainLengths,
     channel: &PlainChannel,
-    luns: &[PlainLun],
     geometry: &PlainGeometry,
 ) -> u32
-    ensures { spec.GivesBegun lengths.now channel.now luns.now geometry.now dispatcher.old dispatcher.new result }
+    ensures { spec.GivesBegun channel.now geometry.now dispatcher.old dispatcher.new result }
 {
-    match begin(alloc, lengths, channel, luns, geometry) {
+    match begin(alloc, channel, geometry) {
         Ok(begun) => {
             *dispatcher = begun;
             0

@@ -1,30 +1,24 @@
 //! The phase that is due.
-ghost use Rattle.std.specs.Prelude.{◌≡◌, ℕ, List, ◌*◌, ◌<◌, ◌≤◌, ◌^◌, false, length, Option, None, Some, IfOk, IfErr, IfNone, IfSome};
-ghost use Rattle.std.specs.List.{list_any};
-ghost use Rattle.onfi_calls.specs.declared.lengths.PlainLengths.{PlainLengths as ALengths};
+ghost use Rattle.std.specs.Prelude.{◌≡◌, ℕ, List, ◌*◌, ◌<◌, ◌≤◌, ◌^◌, length, IfOk, IfErr, IfNone, IfSome};
 ghost use Rattle.onfi_calls.specs.Due.{GivesDue, IsDueSaid, IsNoneDue, IsOffDevice, IsOnDevice, IsOutside, IsOverTold, IsWritten, closer_of as spec_closer_of, number_of_kind, opener_of as spec_opener_of};
 ghost use Rattle.onfi_request.specs.declared.want.Want.{Want as AnyWant};
 ghost use Rattle.onfi_timing.specs.declared.timing.Timing.{Timing as AnyTiming};
 ghost use Rattle.onfi_steady.specs.LunBooks.{IsGroupPhase};
 ghost use Rattle.onfi_calls.specs.Refused.{IsMeasured};
-ghost use Rattle.onfi_calls.specs.Said.{AreRules, has_bad_count};
 
-use crate::channel::PlainChannel;
+use crate::channel::{PlainChannel, PlainWant};
 use crate::device::PlainGeometry;
-use crate::due_plain::due_in_order;
-use crate::flight::{fill, timing_of};
+use crate::flight::fill;
 use crate::geometry::geometry_of;
-use crate::lengths::PlainLengths;
-use crate::lun::{PlainLun, PlainWant};
+use crate::least_due::due_in_order;
 use crate::phase::PlainPhase;
+use crate::problem::{measure_few, rules};
 use crate::row::row_in;
-use crate::said::rules;
-use crate::said_lengths::timing_in_flight;
 use crate::schedule::PlainSchedule;
 use crate::status::Status;
 use onfi_addr::{Geometry, Place};
 use onfi_flight::{Due, Flight, Next};
-use onfi_group::{Rules, phase_length};
+use onfi_group::phase_length;
 use onfi_steady::GroupPhase;
 use onfi_timing::{Kind, Operation, Timing};
 use std::alloc::Global;
@@ -154,24 +148,19 @@ pub fn over_status(geometry: &PlainGeometry) -> Status
 fn due_in_flight(
     alloc: Global,
     timing: &Timing,
-    rules: Rules,
     channel: &PlainChannel,
-    luns: &[PlainLun],
     wants: &[PlainWant],
     geometry: &PlainGeometry,
     schedule: &PlainSchedule,
 ) -> Result<PlainPhase, Status>
-    requires bits { channel.now.rules.plane_bits ≤ 2 }
-    requires counts { list_any has_bad_count luns.now ≡ false }
-    requires few { (length luns.now ≤ 8) × (length wants.now ≤ 8) }
-    requires rules { AreRules channel.now.rules rules }
-    ensures due { (by : Option ALengths) → IsMeasured by channel.now luns.now wants.now timing.now
-        → IfOk result (IsDueSaid by channel.now luns.now wants.now geometry.now schedule.now) }
-    ensures none { (by : Option ALengths) → IsMeasured by channel.now luns.now wants.now timing.now
-        → IfErr result (IsNoneDue by channel.now luns.now wants.now geometry.now schedule.now) }
+    requires measured { IsMeasured channel.now wants.now timing.now }
+    requires few { length wants.now ≤ 8 }
+    ensures due { IfOk result (IsDueSaid channel.now wants.now geometry.now schedule.now) }
+    ensures none { IfErr result (IsNoneDue channel.now wants.now geometry.now schedule.now) }
 {
-    let mut flight = Flight::idle(alloc, *timing, rules, channel.bus_free, luns.len() as u8);
-    match fill(alloc, &mut flight, channel, luns, wants, schedule) {
+    let rules = rules(&channel.rules);
+    let mut flight = Flight::idle(alloc, *timing, rules, channel.bus_free, channel.lun_count);
+    match fill(alloc, &mut flight, channel, wants, schedule) {
         Ok(()) => {}
         Err(status) => return Err(status),
     }
@@ -187,61 +176,35 @@ fn due_of(
     alloc: Global,
     timing: &Timing,
     channel: &PlainChannel,
-    luns: &[PlainLun],
     wants: &[PlainWant],
     geometry: &PlainGeometry,
     schedule: &PlainSchedule,
 ) -> Result<PlainPhase, Status>
-    requires bits { channel.now.rules.plane_bits ≤ 2 }
-    requires counts { list_any has_bad_count luns.now ≡ false }
-    requires few { (length luns.now ≤ 8) × (length wants.now ≤ 8) }
-    ensures due { (by : Option ALengths) → IsMeasured by channel.now luns.now wants.now timing.now
-        → IfOk result (IsDueSaid by channel.now luns.now wants.now geometry.now schedule.now) }
-    ensures none { (by : Option ALengths) → IsMeasured by channel.now luns.now wants.now timing.now
-        → IfErr result (IsNoneDue by channel.now luns.now wants.now geometry.now schedule.now) }
+    requires measured { IsMeasured channel.now wants.now timing.now }
+    requires few { length wants.now ≤ 8 }
+    ensures due { IfOk result (IsDueSaid channel.now wants.now geometry.now schedule.now) }
+    ensures none { IfErr result (IsNoneDue channel.now wants.now geometry.now schedule.now) }
 {
     let rules = rules(&channel.rules);
-    if let Some(due) = due_in_order(alloc, &rules, channel, luns, wants, schedule) {
+    if let Some(due) = due_in_order(alloc, &rules, timing, channel, wants, schedule) {
         return phase_on(timing, geometry, &due);
     }
-    due_in_flight(
-        alloc, timing, rules, channel, luns, wants, geometry, schedule,
-    )
+    due_in_flight(alloc, timing, channel, wants, geometry, schedule)
 }
 
-/// The same of a channel whose lengths are all that is said of them.
+/// The same of a caller's channel.
 fn find_due(
     alloc: Global,
     channel: &PlainChannel,
-    luns: &[PlainLun],
     wants: &[PlainWant],
     geometry: &PlainGeometry,
     schedule: &PlainSchedule,
 ) -> Result<PlainPhase, Status>
-    ensures due { IfOk result (IsDueSaid None channel.now luns.now wants.now geometry.now schedule.now) }
-    ensures none { IfErr result (IsNoneDue None channel.now luns.now wants.now geometry.now schedule.now) }
+    ensures due { IfOk result (IsDueSaid channel.now wants.now geometry.now schedule.now) }
+    ensures none { IfErr result (IsNoneDue channel.now wants.now geometry.now schedule.now) }
 {
-    match timing_of(channel, luns, wants) {
-        Ok(timing) => due_of(alloc, &timing, channel, luns, wants, geometry, schedule),
-        Err(status) => Err(status),
-    }
-}
-
-/// The same with lengths of reads of some sectors.
-fn due_by(
-    alloc: Global,
-    lengths: &PlainLengths,
-    channel: &PlainChannel,
-    luns: &[PlainLun],
-    wants: &[PlainWant],
-    geometry: &PlainGeometry,
-    schedule: &PlainSchedule,
-) -> Result<PlainPhase, Status>
-    ensures due { IfOk result (IsDueSaid (Some lengths.now) channel.now luns.now wants.now geometry.now schedule.now) }
-    ensures none { IfErr result (IsNoneDue (Some lengths.now) channel.now luns.now wants.now geometry.now schedule.now) }
-{
-    match timing_in_flight(alloc, lengths, channel, luns, wants) {
-        Ok(timing) => due_of(alloc, &timing, channel, luns, wants, geometry, schedule),
+    match measure_few(alloc, channel, wants) {
+        Ok(timing) => due_of(alloc, &timing, channel, wants, geometry, schedule),
         Err(status) => Err(status),
     }
 }
@@ -250,46 +213,20 @@ fn due_by(
 /// address that a driver gives out for it. That it may run is looked at, and nothing else of the schedule: of one that isn't
 /// legal a phase may be given. This asks for no memory.
 ///
-/// Answers 0; or the first of the numbers that [`onfi_plan`](crate::planning::onfi_plan) answers for the channel, but for
+/// Answers 0; or the first of the numbers that [`onfi_plan`](crate::plan::onfi_plan) answers for the channel, but for
 /// `Memory`, and those of `BadSchedule`, of `Illegal` where the phase of least start may not run, or what waits or runs has no
 /// start, and of `BadGeometry`, `NothingDue` and `BadPlace`; and the phase is as it was.
 pub fn onfi_due(
     alloc: Global,
     channel: &PlainChannel,
-    luns: &[PlainLun],
     wants: &[PlainWant],
     geometry: &PlainGeometry,
     schedule: &PlainSchedule,
     phase: &mut PlainPhase,
 ) -> u32
-    ensures { GivesDue None channel.now luns.now wants.now geometry.now schedule.now phase.old phase.new result }
+    ensures { GivesDue channel.now wants.now geometry.now schedule.now phase.old phase.new result }
 {
-    match find_due(alloc, channel, luns, wants, geometry, schedule) {
-        Ok(due) => {
-            *phase = due;
-            0
-        }
-        Err(status) => status.number(),
-    }
-}
-
-/// Gives the phase that is due as [`onfi_due`] does, where reads may put out some sectors: their posts are those of `lengths`.
-///
-/// Answers what `onfi_due` does, `LongSpan` also of these posts, after those of a channel's lengths, and after `BadLun` that of
-/// `NoLengths`; and the phase is as it was.
-pub fn onfi_due_by(
-    alloc: Global,
-    lengths: &PlainLengths,
-    channel: &PlainChannel,
-    luns: &[PlainLun],
-    wants: &[PlainWant],
-    geometry: &PlainGeometry,
-    schedule: &PlainSchedule,
-    phase: &mut PlainPhase,
-) -> u32
-    ensures { GivesDue (Some lengths.now) channel.now luns.now wants.now geometry.now schedule.now phase.old phase.new result }
-{
-    match due_by(alloc, lengths, channel, luns, wants, geometry, schedule) {
+    match find_due(alloc, channel, wants, geometry, schedule) {
         Ok(due) => {
             *phase = due;
             0

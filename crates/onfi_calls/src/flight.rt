@@ -1,33 +1,22 @@
 //! From what a caller says to what is left of a schedule. No call here asks for memory, and none judges the schedule.
-ghost use Rattle.std.specs.Prelude.{◌≡◌, ◌⊎◌, ◌↔◌, ◌<◌, ◌≤◌, false, length, replicate, Option, None, IfErr, IfOk, IsTrue};
+ghost use Rattle.std.specs.Prelude.{◌≡◌, ◌≤◌, false, length, replicate, IfErr, IfOk};
 ghost use Rattle.std.specs.List.{list_any};
 ghost use Rattle.onfi_problem.specs.Kept.{problem_of as parts_of};
 ghost use Rattle.onfi_problem.specs.Faults.{TellsFault};
 ghost use Rattle.onfi_problem.specs.declared.lun_state.LunState.TheVariants.{Free};
-ghost use Rattle.onfi_calls.specs.declared.lengths.PlainLengths.{PlainLengths as ALengths};
-ghost use Rattle.onfi_calls.specs.declared.schedule.PlainSchedule.{PlainSchedule as Plan};
 ghost use Rattle.onfi_calls.specs.Refused.{IsMeasured};
 ghost use Rattle.onfi_calls.specs.Flights.{IsFlightSaid, IsNoFlight};
-ghost use Rattle.onfi_calls.specs.Said as spec;
+ghost use Rattle.onfi_calls.specs.Problem as spec;
 
-use crate::channel::PlainChannel;
-use crate::lun::{PlainLun, PlainWant};
-use crate::said::{few_wants_of, read_timing, state_of};
-use crate::said_schedule::{is_bad_schedule, schedule_of};
+use crate::channel::{PlainChannel, PlainLun, PlainWant};
+use crate::problem::{few_wants_of, state_of};
+use crate::read_schedule::{is_bad_schedule, schedule_of};
 use crate::schedule::PlainSchedule;
 use crate::status::Status;
 use onfi_flight::Flight;
 use onfi_problem::{ProblemFault, find_fault};
 use onfi_request::Want;
-use onfi_timing::Timing;
 use std::alloc::Global;
-
-/// Whether more is said than a problem may have.
-pub fn are_many(luns: &[PlainLun], wants: &[PlainWant]) -> bool
-    ensures { IsTrue result ↔ ((8 < length luns.now) ⊎ (8 < length wants.now)) }
-{
-    luns.len() > 8 || wants.len() > 8
-}
 
 /// Why the problem of a flight, with these wants, is none; none where it is one within its limits.
 pub fn fault_of(flight: &Flight, wants: &[Want]) -> Option<ProblemFault>
@@ -40,23 +29,6 @@ pub fn fault_of(flight: &Flight, wants: &[Want]) -> Option<ProblemFault>
         flight.luns(),
         wants,
     )
-}
-
-/// The lengths of a channel, where all numbers of what is said are in their ranges and it is no more than a problem may have.
-pub fn timing_of(
-    channel: &PlainChannel,
-    luns: &[PlainLun],
-    wants: &[PlainWant],
-) -> Result<Timing, Status>
-    ensures measured { IfOk result (IsMeasured None channel.now luns.now wants.now) }
-    ensures few { IfOk result (λ _. (length luns.now ≤ 8) × (length wants.now ≤ 8)) }
-    ensures none { (schedule : Plan) → IfErr result (IsNoFlight None channel.now luns.now wants.now schedule) }
-{
-    let timing = read_timing(channel, luns, wants)?;
-    if are_many(luns, wants) {
-        return Err(Status::TooMany);
-    }
-    Ok(timing)
 }
 
 /// Has the LUNs of a flight do what is said.
@@ -82,21 +54,18 @@ pub fn fill(
     alloc: Global,
     flight: &mut Flight,
     channel: &PlainChannel,
-    luns: &[PlainLun],
     wants: &[PlainWant],
     schedule: &PlainSchedule,
 ) -> Result<(), Status>
-    requires bits { channel.now.rules.plane_bits ≤ 2 }
-    requires counts { list_any spec.has_bad_count luns.now ≡ false }
-    requires few { (length luns.now ≤ 8) × (length wants.now ≤ 8) }
+    requires measured { IsMeasured channel.now wants.now flight.old.now.timing }
+    requires few { length wants.now ≤ 8 }
     requires rules { spec.AreRules channel.now.rules flight.old.now.rules }
     requires bus_free { flight.old.now.bus_free ≡ channel.now.bus_free }
-    requires idle { flight.old.now.luns ≡ replicate (length luns.now) (Free 0) }
-    ensures said { (by : Option ALengths) → IsMeasured by channel.now luns.now wants.now flight.old.now.timing
-        → IfOk result (λ _. IsFlightSaid by channel.now luns.now wants.now schedule.now flight.new) }
-    ensures none { (by : Option ALengths) → IsMeasured by channel.now luns.now wants.now flight.old.now.timing
-        → IfErr result (IsNoFlight by channel.now luns.now wants.now schedule.now) }
+    requires idle { flight.old.now.luns ≡ replicate channel.now.lun_count (Free 0) }
+    ensures said { IfOk result (λ _. IsFlightSaid channel.now wants.now schedule.now flight.new) }
+    ensures none { IfErr result (IsNoFlight channel.now wants.now schedule.now) }
 {
+    let luns = &channel.lun[..channel.lun_count as usize];
     set_luns(alloc, flight, channel.rules.plane_bits, luns);
     let wants = few_wants_of(channel.rules.plane_bits, wants);
     if let Some(fault) = fault_of(flight, wants.as_slice()) {

@@ -2,7 +2,7 @@
 ghost use Rattle.std.specs.Prelude.{◌≡◌, ◌≤◌, ◌*◌, ◌^◌, ◌↔◌, IsTrue, IfSome, IfNone};
 ghost use Rattle.onfi_addr.specs.Bits.{IsBitCount};
 ghost use Rattle.onfi_calls.specs.Device.{written_geometry};
-ghost use Rattle.onfi_calls.specs.SaidGeometry as spec;
+ghost use Rattle.onfi_calls.specs.Geometry as spec;
 
 use crate::device::PlainGeometry;
 use onfi_addr::Geometry;

@@ -9,10 +9,10 @@ ghost use Rattle.onfi_problem.specs.Left.{InLimits};
 ghost use Rattle.onfi_problem.specs.Problem.{IsRunning};
 ghost use Rattle.onfi_calls.specs.InOrder.{AreEarly, RiseFrom, problem_said};
 ghost use Rattle.onfi_calls.specs.InOrder as spec;
-ghost use Rattle.onfi_calls.specs.Said.{has_bad_count, members_of, state_of, states_of, wants_of};
+ghost use Rattle.onfi_calls.specs.Problem.{has_bad_count, members_of, state_of, states_of, wants_of};
 
-use crate::lun::{PlainLun, PlainWant};
-use crate::said::few_wants_of;
+use crate::channel::{PlainLun, PlainWant};
+use crate::problem::few_wants_of;
 use crate::schedule::{PlainGroup, PlainRest, PlainSchedule};
 use onfi_group::{Rules, is_group};
 

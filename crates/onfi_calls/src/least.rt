@@ -4,7 +4,7 @@ ghost use Rattle.std.specs.List.{list_any};
 ghost use Rattle.onfi_request.specs.declared.want.Want.{Want as AWant};
 ghost use Rattle.onfi_flight.specs.Turns.{IsTurn, LeastSoFar, SoonerOf, starts_in};
 ghost use Rattle.onfi_calls.specs.InOrder.{is_odd_group, is_odd_rest, is_odd_schedule, some_start, turn_of};
-ghost use Rattle.onfi_calls.specs.SaidSchedule as spec;
+ghost use Rattle.onfi_calls.specs.ReadSchedule as spec;
 
 use crate::schedule::{PlainGroup, PlainRest, PlainSchedule};
 

@@ -2,12 +2,12 @@
 ghost use Rattle.std.specs.Prelude.{◌≡◌, true, IfOk, IfErr, IfNone, IfSome};
 ghost use Rattle.onfi_request.specs.Parts.{has_part};
 ghost use Rattle.onfi_calls.specs.Output as spec;
-ghost use Rattle.onfi_calls.specs.SaidGeometry.{IsNoGeometry};
+ghost use Rattle.onfi_calls.specs.Geometry.{IsNoGeometry};
 
 use crate::device::PlainGeometry;
 use crate::geometry::geometry_of;
 use crate::phase::PlainPhase;
-use crate::said::kind_of;
+use crate::problem::kind_of;
 use crate::status::Status;
 use onfi_addr::Geometry;
 use onfi_request::{bytes_out, first_column, has_part};

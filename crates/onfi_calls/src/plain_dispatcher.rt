@@ -1,8 +1,8 @@
 ghost use Rattle.std.specs.Prelude.{◌≤◌};
-ghost use Rattle.onfi_calls.specs.SaidGeometry.{AreColumns, AreCounts, AreRowBits};
+ghost use Rattle.onfi_calls.specs.Geometry.{AreColumns, AreCounts, AreRowBits};
 
+use crate::channel::PlainLengths;
 use crate::device::PlainGeometry;
-use crate::lengths::PlainLengths;
 use onfi_steady::Dispatcher;
 
 /// What it takes to look at a request: the device, the lengths of reads of some sectors, and how many bits of a block number name

@@ -1,30 +1,25 @@
 //! What stands after a phase, in place of what stood before it.
-ghost use Rattle.std.specs.Prelude.{◌≡◌, ◌↔◌, ◌++◌, ◌<◌, ◌≤◌, false, drop, length, map, take, Option, None, Some, IfOk, IfErr, IfSome, IsTrue};
-ghost use Rattle.std.specs.List.{list_any};
-ghost use Rattle.onfi_calls.specs.declared.lengths.PlainLengths.{PlainLengths as ALengths};
+ghost use Rattle.std.specs.Prelude.{◌≡◌, ◌↔◌, ◌++◌, ◌<◌, ◌≤◌, drop, length, map, take, IfOk, IfErr, IfSome, IsTrue};
 ghost use Rattle.onfi_flight.specs.Flight.{IsDue, after_late};
 ghost use Rattle.onfi_problem.specs.Left.{InLimits};
 ghost use Rattle.onfi_problem.specs.Problem.{HasLengths};
 ghost use Rattle.onfi_calls.specs.Ran.{GivesRan, IsLate, IsNotRan, IsRan, Kept, kept_behind};
 ghost use Rattle.onfi_calls.specs.Ran as spec;
-ghost use Rattle.onfi_calls.specs.RanPlain.{IsStep};
+ghost use Rattle.onfi_calls.specs.Delay.{IsStep};
 ghost use Rattle.onfi_calls.specs.Refused.{IsMeasured};
-ghost use Rattle.onfi_calls.specs.Said.{has_bad_count};
-ghost use Rattle.onfi_calls.specs.Written.{filled, written_want};
+ghost use Rattle.onfi_calls.specs.Problem.{luns_of};
+ghost use Rattle.onfi_calls.specs.PlainSchedule.{filled, written_want};
 ghost use Rattle.onfi_calls.specs.declared.status.Status.TheVariants.{Clock};
 
-use crate::channel::PlainChannel;
-use crate::due_plain::due_in_order;
-use crate::flight::{fault_of, fill, timing_of};
+use crate::channel::{PlainChannel, PlainLun, PlainWant};
+use crate::delay::{delay_schedule, lun_after, wants_left};
+use crate::flight::{fault_of, fill};
 use crate::in_order::HALF;
-use crate::lengths::PlainLengths;
-use crate::lun::{PlainLun, PlainWant};
-use crate::ran_plain::{delay_schedule, lun_after, wants_left};
-use crate::said::rules;
-use crate::said_lengths::timing_in_flight;
+use crate::least_due::due_in_order;
+use crate::plain_schedule::{self, plain_want, plain_wants};
+use crate::problem::{measure_few, rules};
 use crate::schedule::PlainSchedule;
 use crate::status::Status;
-use crate::written::{self, plain_want, plain_wants};
 use arrayvec::ArrayVec;
 use onfi_flight::{Due, Flight, Next};
 use onfi_group::phase_length;
@@ -115,7 +110,7 @@ fn stand_after(flight: &Flight, luns: &[PlainLun], due: &Due) -> Behind
         bus_free: flight.bus_free(),
         lun: lun_in(state, &name_group(luns, due)),
         wants: plain_wants(flight.wants()),
-        schedule: written::schedule(flight.left()),
+        schedule: plain_schedule::schedule(flight.left()),
     }
 }
 
@@ -148,29 +143,24 @@ fn run_said(
     alloc: Global,
     timing: &Timing,
     channel: &PlainChannel,
-    luns: &[PlainLun],
     wants: &[PlainWant],
     schedule: &PlainSchedule,
     lun: u8,
     number: u8,
     started: u64,
 ) -> Result<Behind, Status>
-    requires bits { channel.now.rules.plane_bits ≤ 2 }
-    requires counts { list_any has_bad_count luns.now ≡ false }
-    requires few { (length luns.now ≤ 8) × (length wants.now ≤ 8) }
-    requires measured { (by : Option ALengths) × IsMeasured by channel.now luns.now wants.now timing.now }
-    ensures ran { (by : Option ALengths) → IsMeasured by channel.now luns.now wants.now timing.now
-        → let old : Kept = record { lengths = by; channel = channel.now; luns = luns.now; wants = wants.now; schedule = schedule.now } in
+    requires measured { IsMeasured channel.now wants.now timing.now }
+    requires few { length wants.now ≤ 8 }
+    ensures ran { let old : Kept = record { channel = channel.now; wants = wants.now; schedule = schedule.now } in
         IfOk result (λ b. IsRan old (kept_behind old lun b) lun number started) }
-    ensures there { (by : Option ALengths) → IsMeasured by channel.now luns.now wants.now timing.now → IfOk result (λ b. lun < length luns.now) }
-    ensures fewer { (by : Option ALengths) → IsMeasured by channel.now luns.now wants.now timing.now → IfOk result (λ b. length b.wants.items ≤ length wants.now) }
-    ensures none { (by : Option ALengths) → IsMeasured by channel.now luns.now wants.now timing.now
-        → let old : Kept = record { lengths = by; channel = channel.now; luns = luns.now; wants = wants.now; schedule = schedule.now } in
+    ensures there { IfOk result (λ b. lun < length (luns_of channel.now)) }
+    ensures fewer { IfOk result (λ b. length b.wants.items ≤ length wants.now) }
+    ensures none { let old : Kept = record { channel = channel.now; wants = wants.now; schedule = schedule.now } in
         IfErr result (IsNotRan old lun number started) }
 {
     let rules = rules(&channel.rules);
-    let mut flight = Flight::idle(alloc, *timing, rules, channel.bus_free, luns.len() as u8);
-    match fill(alloc, &mut flight, channel, luns, wants, schedule) {
+    let mut flight = Flight::idle(alloc, *timing, rules, channel.bus_free, channel.lun_count);
+    match fill(alloc, &mut flight, channel, wants, schedule) {
         Ok(()) => {}
         Err(status) => return Err(status),
     }
@@ -185,6 +175,7 @@ fn run_said(
     if started < due.start {
         return Err(Status::TooSoon);
     }
+    let luns = &channel.lun[..channel.lun_count as usize];
     match run_late(alloc, &mut flight, &due, started) {
         Ok(()) => Ok(stand_after(&flight, luns, &due)),
         Err(status) => Err(status),
@@ -213,26 +204,23 @@ fn step_in_order(
     alloc: Global,
     timing: &Timing,
     channel: &PlainChannel,
-    luns: &[PlainLun],
     wants: &[PlainWant],
     schedule: &PlainSchedule,
     lun: u8,
     number: u8,
     started: u64,
 ) -> Option<Step>
-    requires bits { channel.now.rules.plane_bits ≤ 2 }
-    requires counts { list_any has_bad_count luns.now ≡ false }
-    requires few { (length luns.now ≤ 8) × (length wants.now ≤ 8) }
-    requires measured { (by : Option ALengths) × IsMeasured by channel.now luns.now wants.now timing.now }
-    ensures { (by : Option ALengths) → IsMeasured by channel.now luns.now wants.now timing.now
-        → IfSome result (IsStep by channel.now luns.now wants.now schedule.now lun number started) }
+    requires measured { IsMeasured channel.now wants.now timing.now }
+    requires few { length wants.now ≤ 8 }
+    ensures { IfSome result (IsStep channel.now wants.now schedule.now lun number started) }
 {
     let rules = rules(&channel.rules);
-    let due = due_in_order(alloc, &rules, channel, luns, wants, schedule)?;
+    let due = due_in_order(alloc, &rules, timing, channel, wants, schedule)?;
     if !is_due(&due, lun, number) || started < due.start || started >= HALF {
         return None;
     }
     let ended = started + phase_length(timing, due.group.members(), usize::from(due.phase));
+    let luns = &channel.lun[..channel.lun_count as usize];
     let lun = lun_after(timing, luns, &due, ended);
     Some(Step { due, ended, lun })
 }
@@ -245,7 +233,6 @@ fn run_in_flight(
     alloc: Global,
     timing: &Timing,
     channel: &mut PlainChannel,
-    luns: &mut [PlainLun],
     wants: &mut [PlainWant; 8],
     count: &mut usize,
     schedule: &mut PlainSchedule,
@@ -253,29 +240,20 @@ fn run_in_flight(
     number: u8,
     started: u64,
 ) -> u32
-    requires bits { channel.old.rules.plane_bits ≤ 2 }
-    requires counts { list_any has_bad_count luns.old ≡ false }
-    requires few { (length luns.old ≤ 8) × (count.old ≤ 8) }
-    requires measured { (by : Option ALengths) × IsMeasured by channel.old luns.old (take count.old wants.old) timing.now }
-    ensures { (by : Option ALengths) → IsMeasured by channel.old luns.old (take count.old wants.old) timing.now → GivesRan
-        (record { lengths = by; channel = channel.old; luns = luns.old; wants = take count.old wants.old; schedule = schedule.old })
-        (record { lengths = by; channel = channel.new; luns = luns.new; wants = take count.new wants.new; schedule = schedule.new })
+    requires few { count.old ≤ 8 }
+    requires measured { IsMeasured channel.old (take count.old wants.old) timing.now }
+    ensures { GivesRan
+        (record { channel = channel.old; wants = take count.old wants.old; schedule = schedule.old })
+        (record { channel = channel.new; wants = take count.new wants.new; schedule = schedule.new })
         wants.old wants.new count.old count.new lun number started result }
 {
+    let waiting = &wants[..*count];
     match run_said(
-        alloc,
-        timing,
-        channel,
-        luns,
-        &wants[..*count],
-        schedule,
-        lun,
-        number,
-        started,
+        alloc, timing, channel, waiting, schedule, lun, number, started,
     ) {
         Ok(behind) => {
             channel.bus_free = behind.bus_free;
-            luns[usize::from(lun)] = behind.lun;
+            channel.lun[usize::from(lun)] = behind.lun;
             *count = behind.wants.len();
             put(wants, behind.wants.as_slice());
             *schedule = behind.schedule;
@@ -290,7 +268,6 @@ fn run_due(
     alloc: Global,
     timing: &Timing,
     channel: &mut PlainChannel,
-    luns: &mut [PlainLun],
     wants: &mut [PlainWant; 8],
     count: &mut usize,
     schedule: &mut PlainSchedule,
@@ -298,29 +275,27 @@ fn run_due(
     number: u8,
     started: u64,
 ) -> u32
-    requires bits { channel.old.rules.plane_bits ≤ 2 }
-    requires counts { list_any has_bad_count luns.old ≡ false }
-    requires few { (length luns.old ≤ 8) × (count.old ≤ 8) }
-    requires measured { (by : Option ALengths) × IsMeasured by channel.old luns.old (take count.old wants.old) timing.now }
-    ensures { (by : Option ALengths) → IsMeasured by channel.old luns.old (take count.old wants.old) timing.now → GivesRan
-        (record { lengths = by; channel = channel.old; luns = luns.old; wants = take count.old wants.old; schedule = schedule.old })
-        (record { lengths = by; channel = channel.new; luns = luns.new; wants = take count.new wants.new; schedule = schedule.new })
+    requires few { count.old ≤ 8 }
+    requires measured { IsMeasured channel.old (take count.old wants.old) timing.now }
+    ensures { GivesRan
+        (record { channel = channel.old; wants = take count.old wants.old; schedule = schedule.old })
+        (record { channel = channel.new; wants = take count.new wants.new; schedule = schedule.new })
         wants.old wants.new count.old count.new lun number started result }
 {
     let waiting = &wants[..*count];
     if let Some(step) = step_in_order(
-        alloc, timing, channel, luns, waiting, schedule, lun, number, started,
+        alloc, timing, channel, waiting, schedule, lun, number, started,
     ) {
         let left = wants_left(&step.due, waiting);
         *schedule = delay_schedule(started - step.due.start, schedule, &step.due);
         channel.bus_free = step.ended;
-        luns[usize::from(lun)] = step.lun;
+        channel.lun[usize::from(lun)] = step.lun;
         *count = left.len();
         put(wants, left.as_slice());
         return 0;
     }
     run_in_flight(
-        alloc, timing, channel, luns, wants, count, schedule, lun, number, started,
+        alloc, timing, channel, wants, count, schedule, lun, number, started,
     )
 }
 
@@ -329,7 +304,7 @@ fn run_due(
 /// and the starts that are left are later by as much as it was. What is left of a legal schedule is legal; of another only
 /// that phase is looked at. This asks for no memory.
 ///
-/// Answers 0; or the first of the numbers that [`onfi_plan`](crate::planning::onfi_plan) answers for the channel, but for
+/// Answers 0; or the first of the numbers that [`onfi_plan`](crate::plan::onfi_plan) answers for the channel, but for
 /// `Memory`, and those of `BadSchedule`, of `Illegal` as [`onfi_due`](crate::due::onfi_due) answers it, of `NothingDue`, of
 /// `NotDue` where LUN and number aren't those of the phase that is due, of `TooSoon`, and of `Clock` where a phase would start
 /// at 2^62 ns or later, or what is left could reach 2^62 ns, so that each later call would refuse it; and all is as it was.
@@ -337,7 +312,6 @@ fn run_due(
 pub fn onfi_ran(
     alloc: Global,
     channel: &mut PlainChannel,
-    luns: &mut [PlainLun],
     wants: &mut [PlainWant; 8],
     count: &mut usize,
     schedule: &mut PlainSchedule,
@@ -346,49 +320,16 @@ pub fn onfi_ran(
     started: u64,
 ) -> u32
     ensures { GivesRan
-        (record { lengths = None; channel = channel.old; luns = luns.old; wants = take count.old wants.old; schedule = schedule.old })
-        (record { lengths = None; channel = channel.new; luns = luns.new; wants = take count.new wants.new; schedule = schedule.new })
+        (record { channel = channel.old; wants = take count.old wants.old; schedule = schedule.old })
+        (record { channel = channel.new; wants = take count.new wants.new; schedule = schedule.new })
         wants.old wants.new count.old count.new lun number started result }
 {
     if *count > 8 {
         return Status::TooMany.number();
     }
-    match timing_of(channel, luns, &wants[..*count]) {
+    match measure_few(alloc, channel, &wants[..*count]) {
         Ok(timing) => run_due(
-            alloc, &timing, channel, luns, wants, count, schedule, lun, number, started,
-        ),
-        Err(status) => status.number(),
-    }
-}
-
-/// Makes of all that is said what stands after the phase that is due as [`onfi_ran`] does, where reads may put out some sectors: their
-/// posts are those of `lengths`.
-///
-/// Answers what `onfi_ran` does, `LongSpan` also of these posts, after those of a channel's lengths, and after `BadLun` that of
-/// `NoLengths`; and all is as it was.
-pub fn onfi_ran_by(
-    alloc: Global,
-    lengths: &PlainLengths,
-    channel: &mut PlainChannel,
-    luns: &mut [PlainLun],
-    wants: &mut [PlainWant; 8],
-    count: &mut usize,
-    schedule: &mut PlainSchedule,
-    lun: u8,
-    number: u8,
-    started: u64,
-) -> u32
-    ensures { GivesRan
-        (record { lengths = Some lengths.now; channel = channel.old; luns = luns.old; wants = take count.old wants.old; schedule = schedule.old })
-        (record { lengths = Some lengths.now; channel = channel.new; luns = luns.new; wants = take count.new wants.new; schedule = schedule.new })
-        wants.old wants.new count.old count.new lun number started result }
-{
-    if 8 < *count {
-        return Status::TooMany.number();
-    }
-    match timing_in_flight(alloc, lengths, channel, luns, &wants[..*count]) {
-        Ok(timing) => run_due(
-            alloc, &timing, channel, luns, wants, count, schedule, lun, number, started,
+            alloc, &timing, channel, wants, count, schedule, lun, number, started,
         ),
         Err(status) => status.number(),
     }

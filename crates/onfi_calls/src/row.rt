@@ -1,7 +1,7 @@
 //! Row addresses.
 ghost use Rattle.std.specs.Prelude.{◌≡◌, IfOk, IfErr};
 ghost use Rattle.onfi_addr.specs.Rows.{IsInRange, row_of};
-ghost use Rattle.onfi_calls.specs.SaidGeometry.{GivesRow, IsNoRow, IsRowSaid};
+ghost use Rattle.onfi_calls.specs.Geometry.{GivesRow, IsNoRow, IsRowSaid};
 
 use crate::device::PlainGeometry;
 use crate::geometry::geometry_of;

@@ -26,22 +26,15 @@ pub struct PlainSchedule {
     pub group: [PlainGroup; 8],
 }
 
-/// A plan: its schedule, when its last phase ends, in ns, and how many nodes the search opened.
+/// A plan: its schedule, when its last phase ends, and before which time nothing ends, both in ns, and how many nodes the search
+/// opened, or its last walk where it walks several times; 0 by the rule.
 #[repr(C)]
 #[derive(Clone, Copy)]
-pub struct PlainPlan {
-    pub schedule: PlainSchedule,
-    pub finish: u64,
-    pub opened: u32,
-}
-
-/// A plan within a limit of nodes: its schedule, when its last phase ends, and before which time nothing ends, both in ns.
-#[repr(C)]
-#[derive(Clone, Copy)]
-pub struct PlainWithin {
+pub struct PlainPlanned {
     pub schedule: PlainSchedule,
     pub finish: u64,
     pub below: u64,
+    pub opened: u32,
 }
 
 /// What a check reports: when the schedule ends, in ns, where it is accepted, and the token that a refusal speaks of.

@@ -1,15 +1,12 @@
 //! From what a caller says to a problem with a schedule of it.
-ghost use Rattle.std.specs.Prelude.{◌≡◌, false, true, None, Some, IfOk, IfErr};
-ghost use Rattle.onfi_calls.specs.SaidLegal.{IsNoSchedule, IsScheduleSaid};
-ghost use Rattle.onfi_calls.specs.SaidSchedule.{is_bad_schedule, schedule_of};
+ghost use Rattle.std.specs.Prelude.{◌≡◌, false, true, IfOk, IfErr};
+ghost use Rattle.onfi_calls.specs.Stand.{IsNoSchedule, IsScheduleSaid};
+ghost use Rattle.onfi_calls.specs.ReadSchedule.{is_bad_schedule, schedule_of};
 ghost use Rattle.onfi_calls.specs.declared.status.Status.TheVariants.{BadSchedule};
 
-use crate::channel::PlainChannel;
-use crate::lengths::PlainLengths;
-use crate::lun::{PlainLun, PlainWant};
-use crate::said::problem_of;
-use crate::said_lengths::problem_by;
-use crate::said_schedule::{is_bad_schedule, schedule_of};
+use crate::channel::{PlainChannel, PlainWant};
+use crate::problem::read_problem;
+use crate::read_schedule::{is_bad_schedule, schedule_of};
 use crate::schedule::PlainSchedule;
 use crate::status::Status;
 use onfi_problem::Problem;
@@ -41,34 +38,14 @@ fn with_schedule(alloc: Global, problem: Problem, schedule: &PlainSchedule) -> R
 pub fn read_stand(
     alloc: Global,
     channel: &PlainChannel,
-    luns: &[PlainLun],
     wants: &[PlainWant],
     schedule: &PlainSchedule,
 ) -> Result<Stand, Status>
-    ensures said { IfOk result (λ t. IsScheduleSaid None channel.now luns.now wants.now schedule.now t.problem.problem t.schedule) }
+    ensures said { IfOk result (λ t. IsScheduleSaid channel.now wants.now schedule.now t.problem.problem t.schedule) }
     ensures begun { IfOk result (λ t. t.problem.all ≡ t.problem.problem.wants) }
-    ensures none { IfErr result (IsNoSchedule None channel.now luns.now wants.now schedule.now) }
+    ensures none { IfErr result (IsNoSchedule channel.now wants.now schedule.now) }
 {
-    match problem_of(alloc, channel, luns, wants) {
-        Ok(problem) => with_schedule(alloc, problem, schedule),
-        Err(status) => Err(status),
-    }
-}
-
-/// The same with lengths of reads of some sectors.
-pub fn read_stand_by(
-    alloc: Global,
-    lengths: &PlainLengths,
-    channel: &PlainChannel,
-    luns: &[PlainLun],
-    wants: &[PlainWant],
-    schedule: &PlainSchedule,
-) -> Result<Stand, Status>
-    ensures said { IfOk result (λ t. IsScheduleSaid (Some lengths.now) channel.now luns.now wants.now schedule.now t.problem.problem t.schedule) }
-    ensures begun { IfOk result (λ t. t.problem.all ≡ t.problem.problem.wants) }
-    ensures none { IfErr result (IsNoSchedule (Some lengths.now) channel.now luns.now wants.now schedule.now) }
-{
-    match problem_by(alloc, lengths, channel, luns, wants) {
+    match read_problem(alloc, channel, wants) {
         Ok(problem) => with_schedule(alloc, problem, schedule),
         Err(status) => Err(status),
     }

@@ -20,6 +20,10 @@ pub enum Status {
     BadLimit,
     /// As many nodes were opened as may be, and the search isn't over.
     Over,
+    /// A plan is to be found in another way than by ONFI_PLAIN, ONFI_WITHIN or ONFI_RULE.
+    BadBy,
+    /// Words that ask for nothing that this call answers.
+    BadWords,
     /// A command or a post takes no time.
     ZeroSpan,
     /// A length or a wait is 2^50 ns or more.
@@ -139,12 +143,14 @@ pub enum Status {
 }
 
 /// Each of them.
-pub const ALL: [Status; 63] = [
+pub const ALL: [Status; 65] = [
     Status::Done,
     Status::NoRoom,
     Status::Memory,
     Status::BadLimit,
     Status::Over,
+    Status::BadBy,
+    Status::BadWords,
     Status::ZeroSpan,
     Status::LongSpan,
     Status::BadPlaneBits,
@@ -216,6 +222,8 @@ impl Status {
             Status::Memory => 4,
             Status::BadLimit => 5,
             Status::Over => 6,
+            Status::BadBy => 7,
+            Status::BadWords => 9,
             Status::ZeroSpan => 10,
             Status::LongSpan => 11,
             Status::BadPlaneBits => 12,
@@ -287,6 +295,8 @@ impl Status {
             Status::Memory => "memory was refused",
             Status::BadLimit => "a search opens 1 to 1,048,576 nodes",
             Status::Over => "the limit of nodes was met and the search isn't over",
+            Status::BadBy => "a way to plan that is none",
+            Status::BadWords => "words that ask for nothing that is answered",
             Status::ZeroSpan => "a phase without length",
             Status::LongSpan => "a length or a wait of 2^50 ns or more",
             Status::BadPlaneBits => "more than 2 bits name the plane",

@@ -1,16 +1,15 @@
 //! Requests that a dispatcher takes, and one that waits no more.
 ghost use Rattle.std.specs.Prelude.{◌≡◌};
 ghost use Rattle.onfi_calls.specs.Dispatching as spec;
-ghost use Rattle.onfi_calls.specs.Said.{want_of};
+ghost use Rattle.onfi_calls.specs.Problem.{want_of};
 ghost use Rattle.onfi_steady.specs.Dispatcher.{accept_refusal, accepted_again, again_refusal};
 ghost use Rattle.onfi_steady.specs.Waiting.{accepted};
 
+use crate::channel::PlainWant;
 use crate::dispatcher::is_on;
 use crate::in_order::has_page;
-use crate::lun::PlainWant;
 use crate::plain_dispatcher::PlainDispatcher;
-use crate::said::want_of;
-use crate::said_lengths::lacks_length;
+use crate::problem::{lacks_length, want_of};
 use crate::status::Status;
 
 /// Why the device can't have a request, if so.

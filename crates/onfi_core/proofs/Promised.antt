@@ -1,10 +1,13 @@
 -- The last plan is as its planner promises.
 use Rattle.std.proofs.Common.{◌≡◌, ℕ, ◌≤◌, inl, inr, Bool, Some, None, refl, sym, ap, ◌∙◌, subst}
 use Rattle.std.specs.Prelude.{Option, Result, Ok, Err, IfOk, IfErr, IfNone, IfSome, IsTrue, MatchOption}
-use Rattle.onfi_schedule.specs.Schedule.{finish}
+use Rattle.onfi_problem.specs.Position.{Position}
+use Rattle.onfi_schedule.specs.Schedule.{Legal, finish}
 use Rattle.onfi_check.specs.Tree.{AcceptsTokens}
 use Rattle.onfi_plan.specs.Certificate.{ShowsBelow}
 use Rattle.onfi_plan.specs.declared.plan.Certificate.{Certificate}
+use Rattle.onfi_plan.specs.declared.plan.Plan.{Plan as APlan}
+use Rattle.onfi_known_check.specs.Laws.{NoneBefore}
 use Rattle.onfi_core.specs.declared.event.Event.{Event}
 use Rattle.onfi_core.specs.declared.event.Event.TheVariants.{Submit, Accept, Plan, Bus, Wait, Ready, Post, Collect}
 use Rattle.onfi_core.specs.declared.half.PlanRefusal.{PlanRefusal}
@@ -15,7 +18,7 @@ use Rattle.onfi_core.specs.declared.outcome.Outcome.TheVariants.{Stopped}
 use Rattle.onfi_core.specs.declared.setup.Setup.{Setup}
 use Rattle.onfi_core.specs.State.{HalfState, ChannelState, Planning}
 use Rattle.onfi_core.specs.Steps.{Does, FinishIsBest, IsAny, IsPlainPlan, IsPlanned, IsPromised, PlainIsPlain, PlansSuch, Step, StepBy, after_refusal, refusal}
-use Rattle.onfi_core.specs.View.{PlanRefused}
+use Rattle.onfi_core.specs.View.{PlanRefused, planning_with}
 
 -- What exact planners plan
 
@@ -27,6 +30,17 @@ finish_is_best plan planned same = record {
   };
   finish = planned.finish;
   shown = subst (ShowsBelow plan.cert plan.problem.wants plan.problem) same planned.shown;
+}
+
+-- a plan of a problem as it began
+pub is_planned : (x : Position) (plan : APlan) → x.all ≡ x.problem.wants → Legal x.problem plan.schedule → finish x.problem plan.schedule ≡ plan.finish → plan.below ≤ plan.finish → NoneBefore x.problem plan.below
+    → ShowsBelow plan.certificate x.all x.problem plan.below → IsPlanned (planning_with x.problem plan)
+is_planned x plan begun legal ends below none shown = record {
+  legal = legal;
+  finish = sym ends;
+  below = below;
+  none_before = none;
+  shown = subst (λ all. ShowsBelow plan.certificate all x.problem plan.below) begun shown;
 }
 
 -- a plan as its planner promises

@@ -95,7 +95,6 @@ pub fn finish_is_best()
 {}
 
 /// What an exact planner plans that gives tokens is shown by tokens, which are accepted for its finish.
-#[tactic(auto, using(crate::proofs::Promised::plain_is_plain))]
 pub fn plain_is_plain()
     ensures { PlainIsPlain }
 {}

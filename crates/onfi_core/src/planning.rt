@@ -32,7 +32,6 @@ pub enum PlanStop {
 }
 
 /// Plans these wants on these LUNs.
-#[tactic(auto, using(crate::proofs::Promised::is_promised))]
 pub fn plan_wants<P: Planner>(
     alloc: Global,
     planner: &P,

@@ -4,6 +4,7 @@
 
 ghost use Rattle.std.specs.Prelude.{IfOk};
 ghost use Rattle.onfi_console.specs.Words.{IsInRange};
+ghost use Rattle.onfi_console.specs.declared.parsed.Named.TheVariants.{Run as ARun};
 
 mod input;
 mod keeping;
@@ -12,12 +13,17 @@ mod why;
 use input::{Inputs, Unread, read};
 use keeping::Keeping;
 use onfi_console::{
-    Input, Parsed, Untaken, escape_bytes, escape_text, is_quiet, message, read_words,
+    EngineFault, Input, Named, Parsed, RunOptions, Untaken, escape_bytes, escape_text, is_quiet,
+    message, read_words,
 };
-use onfi_sim::carry_out;
+use onfi_script::write_with_status;
+use onfi_sim::{carry_out, run_traced};
 use std::fmt::Display;
-use std::io::{Eprint, ErrorKind, Print};
+use std::fs;
+use std::fs::Files;
+use std::io::{Eprint, ErrorKind, Print, Write};
 use std::process::ExitCode;
+use std::sync::Wait;
 use std::thread::Threads;
 use why::find_why;
 
@@ -100,13 +106,13 @@ fn report_unread(
     match fault {
         Unread::File(name, error) => {
             if !parsed.quiet {
-                report_unread_file(rt, name, error);
+                report_file(rt, name, "read", error);
             }
             5
         }
         Unread::Directory(name) => {
             if !parsed.quiet {
-                report_unread_file(rt, name, "it is a directory");
+                report_file(rt, name, "read", "it is a directory");
             }
             5
         }
@@ -115,11 +121,11 @@ fn report_unread(
     }
 }
 
-/// Says which file can't be read, and why.
-fn report_unread_file(rt: &(impl AllocGlobal + Eprint), name: &str, why: impl Display + Drop) {
+/// Says which file can't be `done`, read or written, and why.
+fn report_file(rt: &(impl AllocGlobal + Eprint), name: &str, done: &str, why: impl Display + Drop) {
     let alloc = rt.alloc();
     if let Ok(name) = escape_text(alloc, name) {
-        if let Ok(text) = format!(in alloc; "error: the file '{name}' can't be read: {why}\n") {
+        if let Ok(text) = format!(in alloc; "error: the file '{name}' can't be {done}: {why}\n") {
             let _ = rt.eprint(text.as_str());
         }
     }
@@ -151,6 +157,60 @@ fn report_answer(
     }
 }
 
+/// Runs a script, writes the trace of each channel and then the answer: its status, or 5 where a trace can't be written.
+fn trace_run<R: Threads + Sync + AllocGlobal + Eprint + Files + Wait, W: Write>(
+    rt: &R,
+    parsed: &Parsed<'_>,
+    options: RunOptions,
+    file: &str,
+    script: &[u8],
+    writer: &mut W,
+) -> Result<u8, EngineFault>
+    requires { IsInRange (ARun options) }
+{
+    let alloc = rt.alloc();
+    let Ok(traced) = run_traced(rt, alloc, options, script) else {
+        return write_with_status(writer, b"memory\n", 4);
+    };
+    for (channel, trace) in traced.traces.iter().enumerate() {
+        let Some(trace) = trace else {
+            return write_with_status(writer, b"memory\n", 4);
+        };
+        if !write_trace(rt, parsed, file, channel, trace.as_slice()) {
+            return Ok(5);
+        }
+    }
+    write_with_status(writer, traced.answer.text.as_slice(), traced.answer.status)
+}
+
+/// Writes the trace of a channel: into the file that is named for channel 0, and for another into one of that name, a point and
+/// its number. Whether it was written; where it wasn't, that is said.
+fn write_trace<R: AllocGlobal + Eprint + Files>(
+    rt: &R,
+    parsed: &Parsed<'_>,
+    file: &str,
+    channel: usize,
+    trace: &[u8],
+) -> bool {
+    let written = if channel == 0 {
+        fs::write(rt, file, trace)
+    } else {
+        match format!(in rt.alloc(); "{file}.{channel}") {
+            Ok(name) => fs::write(rt, name.as_str(), trace),
+            Err(_) => return false,
+        }
+    };
+    match written {
+        Ok(()) => true,
+        Err(error) => {
+            if !parsed.quiet {
+                report_file(rt, file, "written", error);
+            }
+            false
+        }
+    }
+}
+
 fn main(rt: HostRuntime) -> ExitCode {
     let given = match collect_words(&rt) {
         Ok(given) => given,
@@ -167,7 +227,13 @@ fn main(rt: HostRuntime) -> ExitCode {
     let mut output = Keeping::new(std::io::writer(&rt), rt.alloc(), parsed.quiet);
     let script = inputs.script.as_slice();
     let text = inputs.text.as_ref().map(|text| text.as_slice());
-    let Ok(status) = carry_out(&rt, rt.alloc(), parsed.named, script, text, &mut output) else {
+    let written = match (parsed.named, parsed.trace_file) {
+        (Named::Run { options }, Some(file)) => {
+            trace_run(&rt, &parsed, options, file, script, &mut output)
+        }
+        _ => carry_out(&rt, rt.alloc(), parsed.named, script, text, &mut output),
+    };
+    let Ok(status) = written else {
         return ExitCode::from(7);
     };
     if !parsed.quiet {

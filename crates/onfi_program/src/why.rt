@@ -48,9 +48,7 @@ fn find_refused_script<T: Threads + Sync>(
 {
     match named {
         Named::Problem { command, .. } => why_of(answer_by(rt, alloc, command, 1, input)),
-        Named::Run { clocked, .. } | Named::RunNext { clocked } => {
-            find_refused_run(alloc, clocked, input)
-        }
+        Named::Run { options } => find_refused_run(alloc, options.clocked, input),
         Named::Device => why_of(describe(alloc, input)),
         Named::Audit { options } => why_of(audit_by(alloc, options, input)),
         Named::Gaps { options } => why_of(audit_gaps(alloc, options, input)),

@@ -36,11 +36,11 @@ pub record IsOpened {P G : Type 0} (setup : Setup) (rows : List Row) (number : �
   pub half_is : lane.channel.sequencer.0.half ≡ first_half setup
   pub gate_is : lane.channel.gate ≡ gate
   pub unfinished : lane.ended ≡ Unfinished
-  pub fresh : IsFresh setup (chip_in lane.channel.sequencer.1)
-  pub faults : (chip_in lane.channel.sequencer.1).faults ≡ all_on (fault_on number) rows
-  pub calls : failing_calls lane.channel.sequencer.1 ≡ all_on (failing_on number) rows
-  pub statuses : failing_statuses lane.channel.sequencer.1 ≡ all_on (unready_on number) rows
-  pub arrays : array_times lane.channel.sequencer.1 ≡ all_on (array_time_on number) rows
+  pub fresh : IsFresh setup (chip_in lane.channel.sequencer.1.1)
+  pub faults : (chip_in lane.channel.sequencer.1.1).faults ≡ all_on (fault_on number) rows
+  pub calls : failing_calls lane.channel.sequencer.1.1 ≡ all_on (failing_on number) rows
+  pub statuses : failing_statuses lane.channel.sequencer.1.1 ≡ all_on (unready_on number) rows
+  pub arrays : array_times lane.channel.sequencer.1.1 ≡ all_on (array_time_on number) rows
 
 -- the channels from that number on, each with its gate
 abbrev pub AreOpened : {P G : Type 0} → Setup → List Row → ℕ → List G → List (Lane (Gated P G)) → Type 0

@@ -1,7 +1,8 @@
 //! What a run needs of a channel's sequencer.
-ghost use Rattle.std.specs.Prelude.{◌≡◌, IsTrue};
+ghost use Rattle.std.specs.Prelude.{◌≡◌, IfSome, IsTrue};
 ghost use Rattle.onfi_run.specs.Ending.{IsOverAt, IsTurnOverAt, is_refusal};
 ghost use Rattle.onfi_run.specs.Keys.{AreEnds, queues_of};
+ghost use Rattle.onfi_record.specs.Recording.{IsTraceText};
 
 use crate::channel_end::ChannelEnd;
 use crate::progress::Progress;
@@ -63,6 +64,10 @@ pub trait Channel {
     /// The next moment after `now` at which an array of its chip is done sooner than stated, in ns of its clock.
     fn next_ready(&self, now: u64) -> Option<u64>
         ensures { result ≡ done_behind self.now now };
+
+    /// The trace of all phases that its bus carried since it opened; none where it isn't kept, or memory was refused to it.
+    fn trace(&self, alloc: Global) -> Option<Vec<u8>>
+        ensures { IfSome result (λ text. IsTraceText text.items) };
 
     /// Makes turns at the greatest moment, and takes replies in, until everything is answered, or says why it isn't.
     fn drain<R: Wait>(

@@ -1,5 +1,5 @@
 //! The end of a run: channels are drained, inboxes emptied, and all ends closed.
-ghost use Rattle.std.specs.Prelude.{◌≡◌, ◌≤◌, ◌++◌, ◌||◌, ℕ, Option, [], ◌∷◌, length, IfOk, IsTrue, map};
+ghost use Rattle.std.specs.Prelude.{◌≡◌, ◌≤◌, ◌++◌, ◌||◌, ℕ, IfSome, Option, [], ◌∷◌, length, IfOk, IsTrue, map};
 ghost use Rattle.std.specs.List.{list_any, zip, AllZip, AllByRecursion as Each};
 ghost use Rattle.onfi_run.specs.Answers.{AddsReplies, IsSuited};
 ghost use Rattle.onfi_run.specs.ByHost.{with_each};
@@ -8,6 +8,7 @@ ghost use Rattle.onfi_run.specs.Ending.{IsOverAt};
 ghost use Rattle.onfi_run.specs.Finishing.{Concludes, Empties, IsFinished, IsGathered, are_complete as spec_are_complete, report_of_none, report_with};
 ghost use Rattle.onfi_run.specs.Keys.{AreEndsOf, AreLinked, ports_of, queues_of};
 ghost use Rattle.onfi_run.specs.Pace.{EndsWithin, IsLaneWithin};
+ghost use Rattle.onfi_record.specs.Recording.{IsTraceText};
 
 use crate::answers::{Answers, Got};
 use crate::channel::{Channel, Drained};
@@ -28,6 +29,7 @@ struct Finished {
     got: [Answers; 4],
     end: ChannelEnd,
     short_of_memory: bool,
+    trace: Option<Vec<u8>>,
 }
 
 /// Collects all that waits for a host in its inbox at that moment, and keeps the answers.
@@ -109,8 +111,10 @@ fn conclude(
     thread: ChannelEnd,
     short_of_memory: bool,
     got: [Answers; 4],
+    trace: Option<Vec<u8>>,
 ) -> Finished
     ensures got { result.got ≡ got }
+    ensures trace { result.trace ≡ trace }
     ensures finished { IsFinished result }
     ensures end { result.end ≡ spec.channel_end drained.end thread (spec_are_complete got) result.short_of_memory }
     ensures over { (nodes : Option ℕ) → IsOverAt nodes drained.end → IsOverAt nodes thread → IsOverAt nodes result.end }
@@ -122,6 +126,7 @@ fn conclude(
         got,
         end: channel_end(drained.end, thread, is_complete, short_of_memory),
         short_of_memory,
+        trace,
     }
 }
 
@@ -153,6 +158,7 @@ fn close_channel<R: Wait, C: Channel + Drop>(
     ensures finished { IsFinished result }
     ensures concludes { Concludes (λ d inboxes. (after : C) × C.drains lane.channel (map (λ p. p.host) ports) (map (λ p. p.inbox) ports) d after inboxes) now lane.ended short_of_memory (map (λ p. p.answers) ports) result }
     ensures over { EndsWithin C.queues lane → IsOverAt (C.queues lane.channel).nodes result.end }
+    ensures trace { IfSome result.trace (λ text. IsTraceText text.items) }
     ensures short { IsTrue (short_of_memory || C.short lane.channel) → IsTrue result.short_of_memory }
 {
     let Lane {
@@ -164,8 +170,9 @@ fn close_channel<R: Wait, C: Channel + Drop>(
     let (hosts, mut inboxes, mut got) = ends_of(ports);
     let drained = channel.drain(rt, alloc, &hosts, &mut inboxes);
     empty_all(rt, now, &mut inboxes, &mut got);
+    let trace = channel.trace(alloc);
     channel.close(rt, hosts, inboxes);
-    conclude(drained, ended, short_of_memory, got)
+    conclude(drained, ended, short_of_memory, got, trace)
 }
 
 /// The host without its ends on the last channel, and these.
@@ -208,11 +215,13 @@ impl Report {
             ends: Vec::new(alloc),
             short_of_memory,
             clock: None,
+            traces: Vec::new(alloc),
         }
     }
 
     /// With one channel more.
     fn with_channel(self, finished: Finished) -> Result<Report, AllocError>
+        requires { IfSome finished.trace (λ text. IsTraceText text.items) }
         ensures { IfOk result (λ more. more ≡ report_with self finished) }
     {
         let Report {
@@ -220,15 +229,18 @@ impl Report {
             mut ends,
             short_of_memory,
             clock,
+            mut traces,
         } = self;
         let (g0, g1, g2, g3) = split_hosts(got);
         let (a0, a1, a2, a3) = split_hosts(finished.got);
         ends.push(finished.end)?;
+        traces.push(finished.trace)?;
         Ok(Report {
             got: [g0.with(a0)?, g1.with(a1)?, g2.with(a2)?, g3.with(a3)?],
             ends,
             short_of_memory: either(short_of_memory, finished.short_of_memory),
             clock,
+            traces,
         })
     }
 }

@@ -9,6 +9,7 @@ use crate::progress::Progress;
 use onfi_chip::SimChip;
 use onfi_plan::Planner;
 use onfi_queue::Host;
+use onfi_record::Recorder;
 use onfi_reply::Inbox;
 use onfi_seq::{Drained as End, Gate, Sequencer, TurnAt};
 use std::alloc::Global;
@@ -17,11 +18,11 @@ use std::sync::Wait;
 /// The most turns of a drain.
 const MOST_TURNS: u64 = 1_000_000;
 
-/// The sequencer of a simulated chip, which plans by a planner of this type, with the gate that is called before each of its
+/// The sequencer of a simulated chip that keeps what its bus carries, which plans by a planner of this type, with the gate that is called before each of its
 /// turns.
 #[derive(Drop)]
 pub(crate) struct Gated<P: Planner, G: Gate> {
-    pub(crate) sequencer: Sequencer<SimChip, P>,
+    pub(crate) sequencer: Sequencer<Recorder<SimChip>, P>,
     pub(crate) gate: G,
 }
 
@@ -65,6 +66,7 @@ fn is_short(end: End, short: bool) -> bool
 
 impl<P: Planner + Drop, G: Gate + Drop> Channel for Gated<P, G> {
     ghost use Rattle.onfi_chip.specs.SimChip.{chip_in, next_ready};
+    ghost use Rattle.onfi_record.specs.Recording.{chip_in as recorded};
     ghost use Rattle.onfi_core.specs.Steps.{IsPromised};
     ghost use Rattle.onfi_seq.specs.Drained.{poster_queues};
     ghost use Rattle.onfi_seq.specs.Sequencer.{seen_in};
@@ -77,11 +79,11 @@ impl<P: Planner + Drop, G: Gate + Drop> Channel for Gated<P, G> {
 
     ghost free = { λ c. c.sequencer.0.half.now.bus_free };
 
-    ghost done_behind = { λ c now. next_ready c.sequencer.1 now };
+    ghost done_behind = { λ c now. next_ready c.sequencer.1.1 now };
 
-    ghost proceeds = { λ now c p c'. Proceeds (IsPromised P.exact P.certifies) now (seen_in chip_in c.sequencer) p (seen_in chip_in c'.sequencer) };
+    ghost proceeds = { λ now c p c'. Proceeds (IsPromised P.exact P.certifies) now (seen_in (recorded chip_in) c.sequencer) p (seen_in (recorded chip_in) c'.sequencer) };
 
-    ghost drains = { λ c hosts inboxes d c' inboxes'. DrainsTo (IsPromised P.exact P.certifies) (seen_in chip_in c.sequencer) hosts inboxes d (seen_in chip_in c'.sequencer) inboxes' };
+    ghost drains = { λ c hosts inboxes d c' inboxes'. DrainsTo (IsPromised P.exact P.certifies) (seen_in (recorded chip_in) c.sequencer) hosts inboxes d (seen_in (recorded chip_in) c'.sequencer) inboxes' };
 
     fn turn<R: Wait>(&mut self, rt: &R, alloc: Global, now: u64) -> Progress {
         let turn = self.sequencer.turn_at(rt, alloc, &mut self.gate, now);
@@ -93,7 +95,11 @@ impl<P: Planner + Drop, G: Gate + Drop> Channel for Gated<P, G> {
     }
 
     fn next_ready(&self, now: u64) -> Option<u64> {
-        self.sequencer.chip().next_ready(now)
+        self.sequencer.chip().chip().next_ready(now)
+    }
+
+    fn trace(&self, alloc: Global) -> Option<Vec<u8>> {
+        self.sequencer.chip().trace(alloc)
     }
 
     fn drain<R: Wait>(

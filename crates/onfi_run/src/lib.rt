@@ -32,6 +32,7 @@ mod stated;
 mod station;
 mod text;
 mod threads;
+mod traced;
 mod way;
 
 pub use answers::{Answers, Got};
@@ -53,4 +54,5 @@ pub use running::{run_freely, run_script, run_script_by};
 pub use setup::setup_of;
 pub use stated::StatedDevice;
 pub use text::report_answer;
+pub use traced::Traced;
 pub use way::Way;

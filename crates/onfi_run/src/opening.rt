@@ -23,6 +23,7 @@ use crate::way::Way;
 use onfi_core::Setup;
 use onfi_plan::Planner;
 use onfi_queue::{Host, Intake};
+use onfi_record::Recorder;
 use onfi_reply::{Inbox, Poster};
 use onfi_script::Row;
 use onfi_seq::{Ends, Gate, Sequencer};
@@ -49,13 +50,13 @@ fn port(host: Host, inbox: Inbox, answers: Answers) -> Port
     }
 }
 
-/// The lane of a channel with its planner and its gate, over a chip that the rows describe, with these ends of its queues.
+/// The lane of a channel that goes that way with its gate, over a chip that the rows describe, with these ends of its queues.
 fn open_lane<P: Planner + Drop, G: Gate + Drop>(
     alloc: Global,
     setup: Setup,
     rows: &[Row],
     channel: u8,
-    planner: P,
+    way: Way<P>,
     gate: G,
     intake: Intake,
     posters: [Poster; 4],
@@ -69,7 +70,16 @@ fn open_lane<P: Planner + Drop, G: Gate + Drop>(
     ensures posters { IfOk result (λ lane. lane.channel.sequencer.0.posters ≡ posters) }
 {
     let chip = chip_of(alloc, &setup, rows, channel)?;
-    let sequencer = Sequencer::open_with(alloc, setup, channel, planner, chip, intake, posters)?;
+    let chip = Recorder::new(alloc, chip, setup.geometry, setup.timing, way.is_traced);
+    let sequencer = Sequencer::open_with(
+        alloc,
+        setup,
+        channel,
+        way.planner,
+        chip,
+        intake,
+        posters,
+    )?;
     Ok(Lane {
         channel: Gated { sequencer, gate },
         ended: ChannelEnd::Unfinished,
@@ -107,13 +117,13 @@ fn ports(hosts: [Host; 4], inboxes: [Inbox; 4], answers: [Answers; 4]) -> [Port;
     ]
 }
 
-/// Opens a channel with its planner and its gate: its lane, and the ports of the four hosts.
+/// Opens a channel that goes that way with its gate: its lane, and the ports of the four hosts.
 fn open_channel<P: Planner + Drop, G: Gate + Drop>(
     alloc: Global,
     setup: Setup,
     rows: &[Row],
     channel: u8,
-    planner: P,
+    way: Way<P>,
     gate: G,
 ) -> Result<(Lane<Gated<P, G>>, [Port; 4]), AllocError>
     requires hosts { setup.hosts ≡ 4 }
@@ -129,7 +139,7 @@ fn open_channel<P: Planner + Drop, G: Gate + Drop>(
         setup,
         rows,
         channel,
-        planner,
+        way,
         gate,
         ends.intake,
         ends.posters,
@@ -216,12 +226,12 @@ impl<P: Planner + Copy + Drop, G: Gate + Drop> Stage<P, G> {
         Ok(Stage { lanes, stations })
     }
 
-    /// As many channels as gates, each with a copy of that planner; gate i is that of channel i.
+    /// As many channels as gates, which go that way, each by a copy of its planner; gate i is that of channel i.
     fn open_each(
         alloc: Global,
         setup: Setup,
         rows: &[Row],
-        planner: P,
+        way: Way<P>,
         gates: Vec<G>,
     ) -> Result<Stage<P, G>, AllocError>
         requires hosts { setup.hosts ≡ 4 }
@@ -235,8 +245,8 @@ impl<P: Planner + Copy + Drop, G: Gate + Drop> Stage<P, G> {
             return Ok(Stage::new(alloc));
         };
         let channel = left.len() as u8;
-        let stage = Stage::open_each(alloc, setup, rows, planner, left)?;
-        let (lane, ports) = open_channel(alloc, setup, rows, channel, planner, gate)?;
+        let stage = Stage::open_each(alloc, setup, rows, way, left)?;
+        let (lane, ports) = open_channel(alloc, setup, rows, channel, way, gate)?;
         stage.with_channel(lane, ports)
     }
 
@@ -262,6 +272,6 @@ impl<P: Planner + Copy + Drop, G: Gate + Drop> Stage<P, G> {
         let setup = setup_of(rows, device, way.limit, way.choice);
         let mut gates = gates;
         gates.truncate(usize::from(setup.channels));
-        Stage::open_each(alloc, setup, rows, way.planner, gates)
+        Stage::open_each(alloc, setup, rows, way, gates)
     }
 }

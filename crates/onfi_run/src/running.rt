@@ -1,5 +1,5 @@
 //! From the bytes of an input to the bytes of its answer.
-ghost use Rattle.std.specs.Prelude.{◌≡◌, ◌≤◌, ℕ, Option, Some, length, map, IfOk, false};
+ghost use Rattle.std.specs.Prelude.{◌≡◌, ◌≤◌, ℕ, Option, Some, length, map, IfOk, IfSome, false};
 ghost use Rattle.std.specs.List.{AllByRecursion as Each};
 ghost use Rattle.onfi_run.specs.declared.gated.Gated.{Gated as AGated};
 ghost use Rattle.onfi_run.specs.declared.simulation.Settled.{Settled as ASettled};
@@ -12,6 +12,7 @@ ghost use Rattle.onfi_run.specs.Prepares.{IsPrepared};
 ghost use Rattle.onfi_run.specs.Running.{IsAnswer, Answers, BeginsAnswer, purpose_of as spec_purpose_of};
 ghost use Rattle.onfi_run.specs.Keys.{AreLinked, HaveSamePorts, ports_of};
 ghost use Rattle.onfi_run.specs.Told.{IsReportOf, Tells};
+ghost use Rattle.onfi_record.specs.Recording.{IsTraceText};
 
 use crate::acts::Course;
 use crate::channel::Channel;
@@ -24,10 +25,11 @@ use crate::report::Report;
 use crate::simulation::{Settled, buses_of, simulate};
 use crate::text::report_answer;
 use crate::threads::run_threads;
+use crate::traced::Traced;
 use crate::way::Way;
 use onfi_plan::{Limit, PlainPlanner, Planner};
 use onfi_script::{
-    Answer, EngineFault, InputFault, Purpose, Stop, answer_refusal, read_all, write_with_status,
+    EngineFault, InputFault, Purpose, Stop, answer_refusal, read_all, write_with_status,
 };
 use onfi_seq::Gate;
 use std::alloc::{AllocError, Global};
@@ -125,16 +127,23 @@ fn answer<R: Threads + Wait + Sync, P: Planner + Copy + Send + Drop, G: Gate + S
     clocked: bool,
     gates: Vec<G>,
     input: &[u8],
-) -> Result<Answer, AllocError>
+) -> Result<Traced, AllocError>
     requires gates { length gates.items ≡ 4 }
-    ensures { IfOk result (λ a. IsAnswer clocked (nodes_by way.choice way.limit) input.now (answer_of a)) }
+    ensures answer { IfOk result (λ t. IsAnswer clocked (nodes_by way.choice way.limit) input.now (answer_of t.answer)) }
+    ensures traces { IfOk result (λ t. Each (λ trace. IfSome trace (λ text. IsTraceText text.items)) t.traces.items) }
 {
     match prepare_for(alloc, purpose_of(clocked), input) {
         Ok(prepared) => {
             let report = run(rt, alloc, way, clocked, gates, &prepared)?;
-            report_answer(alloc, &report)
+            let answer = report_answer(alloc, &report)?;
+            let traces = report.into_traces();
+            Ok(Traced { answer, traces })
         }
-        Err(Stop::Refused(refusal)) => answer_refusal(alloc, refusal),
+        Err(Stop::Refused(refusal)) => {
+            let answer = answer_refusal(alloc, refusal)?;
+            let traces = Vec::new(alloc);
+            Ok(Traced { answer, traces })
+        }
         Err(Stop::Memory) => Err(AllocError),
     }
 }
@@ -205,12 +214,17 @@ pub fn run_script_by<
         Err(InputFault::Memory) => return write_with_status(writer, b"memory\n", 4),
     };
     match answer(rt, alloc, way, clocked, gates, input.as_slice()) {
-        Ok(answer) => write_with_status(writer, answer.text.as_slice(), answer.status),
+        Ok(traced) => write_with_status(
+            writer,
+            traced.answer.text.as_slice(),
+            traced.answer.status,
+        ),
         Err(AllocError) => write_with_status(writer, b"memory\n", 4),
     }
 }
 
-/// The answer to a script, run as [`run_script_by`] does, with gates that hold nothing up: the command `run` of the program.
+/// The answer to a script, run as [`run_script_by`] does, with gates that hold nothing up, and, where the way has traces, that of
+/// each channel by its number: the command `run --trace` of the program.
 ///
 /// # Errors
 /// Where memory was refused.
@@ -220,8 +234,9 @@ pub fn run_freely<R: Threads + Wait + Sync, P: Planner + Copy + Send + Drop>(
     way: Way<P>,
     clocked: bool,
     input: &[u8],
-) -> Result<Answer, AllocError>
-    ensures answer { IfOk result (λ a. IsAnswer clocked (nodes_by way.choice way.limit) input.now (answer_of a)) }
+) -> Result<Traced, AllocError>
+    ensures answer { IfOk result (λ t. IsAnswer clocked (nodes_by way.choice way.limit) input.now (answer_of t.answer)) }
+    ensures traces { IfOk result (λ t. Each (λ trace. IfSome trace (λ text. IsTraceText text.items)) t.traces.items) }
 {
     let gates = no_gates(alloc)?;
     answer(rt, alloc, way, clocked, gates, input)

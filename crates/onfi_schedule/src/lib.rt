@@ -30,4 +30,5 @@ pub use phase_name::{Owner, Part, PhaseName};
 pub use placed::Placed;
 pub use schedule::{Schedule, no_starts};
 pub use starts::Starts;
-pub use tracing::{trace, trace_requests};
+pub use trace_line::{LinePart, TraceLine};
+pub use tracing::{trace, trace_requests, trace_text};

@@ -8,8 +8,8 @@ use onfi_timing::Operation;
 use std::alloc::{AllocError, Global};
 
 /// The part of an operation that a phase is.
-#[derive(Clone, Copy)]
-pub(crate) enum LinePart {
+#[derive(Clone, Copy, Debug, PartialEq, Eq)]
+pub enum LinePart {
     /// The command with its address and data.
     Command,
     /// The data output, or the status.
@@ -17,17 +17,20 @@ pub(crate) enum LinePart {
 }
 
 /// A phase as a trace shows it.
-#[derive(Clone, Copy)]
-pub(crate) struct TraceLine {
-    pub(crate) start: u64,
-    pub(crate) end: u64,
-    pub(crate) lun: u8,
+#[derive(Clone, Copy, Debug, PartialEq, Eq)]
+pub struct TraceLine {
+    /// When it starts and ends, in ns of the channel's clock.
+    pub start: u64,
+    pub end: u64,
+    /// The LUN, from 0.
+    pub lun: u8,
     /// Whether its group is a new one; else it ran on the LUN before.
-    pub(crate) is_new: bool,
-    pub(crate) part: LinePart,
-    pub(crate) want: Want,
+    pub is_new: bool,
+    pub part: LinePart,
+    /// The request that it is of.
+    pub want: Want,
     /// Whether it is the command of the last plane of its group.
-    pub(crate) last: bool,
+    pub last: bool,
 }
 
 impl TraceLine {

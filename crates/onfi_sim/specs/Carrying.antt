@@ -8,8 +8,14 @@ use Rattle.onfi_script.specs.Auditing.{AnswersAuditBy}
 use Rattle.onfi_script.specs.Gaps.{AnswersGaps}
 use Rattle.onfi_script.specs.Text.{Answer, memory}
 use Rattle.onfi_console.specs.declared.parsed.Named.{Named}
-use Rattle.onfi_console.specs.declared.parsed.Named.TheVariants.{Problem, Run, RunNext, Device, Audit, Gaps}
+use Rattle.onfi_console.specs.declared.parsed.Named.TheVariants.{Problem, Run, Device, Audit, Gaps}
+use Rattle.onfi_console.specs.declared.parsed.RunBy.{RunBy}
+use Rattle.onfi_console.specs.declared.parsed.RunBy.TheVariants.{Next, Plans}
+use Rattle.onfi_console.specs.declared.parsed.RunOptions.{RunOptions}
 use Rattle.onfi_console.specs.Described.{IsDescription}
+use Rattle.onfi_core.specs.declared.setup.Choice.{Choice}
+use Rattle.onfi_core.specs.declared.setup.Choice.TheVariants.{InOrder, NextPhase}
+use Rattle.onfi_run.specs.Ending.{nodes_by}
 use Rattle.onfi_run.specs.Running.{IsAnswer as IsRunAnswer}
 
 -- the line end that a text lacks whose last byte is this
@@ -31,11 +37,19 @@ abbrev pub TellsBy : Bool → ℕ → Posed → ℕ → Type 0
 TellsBy true = OneTells
 TellsBy false = PartsTell
 
--- the answers to an input by what is named: a plan or a verdict, the report of a run within that limit, or of one that plans nothing, a device's description, or what an audit says of a log; or that memory was refused
+-- the next phase alone, or plans of requests in order
+abbrev pub choice_of : RunBy → Choice
+choice_of Next = NextPhase
+choice_of (Plans by) = InOrder
+
+-- how many nodes a planning of the run may open, if any is made
+abbrev pub nodes_of : RunOptions → Option ℕ
+nodes_of options = nodes_by (choice_of options.by) options.limit
+
+-- the answers to an input by what is named: a plan or a verdict, the report of a run, a device's description, or what an audit says of a log; or that memory was refused
 abbrev pub AnswersNamed : Named → List ℕ → Answer → Type 0
 AnswersNamed (Problem command workers) input answer = IsAnswerBy (TellsBy (nat_le workers 1)) command input answer
-AnswersNamed (Run planner limit clocked) input answer = IsRunAnswer clocked (Some limit) input answer
-AnswersNamed (RunNext clocked) input answer = IsRunAnswer clocked None input answer
+AnswersNamed (Run options) input answer = IsRunAnswer options.clocked (nodes_of options) input answer
 AnswersNamed Device input answer = (answer ≡ memory) ⊎ IsDescription input answer
 AnswersNamed (Audit options) input answer = (answer ≡ memory) ⊎ AnswersAuditBy options input answer
 AnswersNamed (Gaps options) input answer = (answer ≡ memory) ⊎ AnswersGaps options input answer

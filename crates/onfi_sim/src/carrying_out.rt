@@ -6,11 +6,13 @@ ghost use Rattle.onfi_script.specs.Limit.{IsLimited};
 ghost use Rattle.onfi_script.specs.Text.{memory};
 ghost use Rattle.onfi_console.specs.declared.parsed.Named.{Named as ANamed};
 ghost use Rattle.onfi_console.specs.Words.{IsInRange};
+ghost use Rattle.onfi_run.specs.Ending.{nodes_by};
 ghost use Rattle.onfi_sim.specs.Carrying as spec;
-ghost use Rattle.onfi_sim.specs.Carrying.{BeginsToCarryOut, CarriesOut};
+ghost use Rattle.onfi_sim.specs.Carrying.{AnswersNamed, BeginsToCarryOut, CarriesOut};
 
-use onfi_console::{By, ChosenPlanner, Command, EngineFault, Named, describe};
-use onfi_run::{Limit, Way, no_gates, run_script, run_script_by};
+use onfi_console::{Command, EngineFault, Named, RunBy, RunOptions, describe};
+use onfi_planners::{ChosenPlanner, Early};
+use onfi_run::{Limit, Traced, Way, no_gates, run_freely, run_script_by};
 use onfi_script::{
     Answer, AuditOptions, GapOptions, InputFault, audit_by, audit_gaps, engine, engine_split,
     engine_split_by, read_all, write_with_status,
@@ -56,7 +58,7 @@ fn carry_out_by_workers<T: Threads + Sync, I: Read, W: Write>(
         }
         Command::PlanBy(options) => engine_split_by(rt, alloc, options, workers, reader, writer),
         Command::Check => engine(alloc, command, reader, writer),
-        Command::CheckBy(_) => engine(alloc, command, reader, writer),
+        Command::CheckWithin => engine(alloc, command, reader, writer),
         Command::Legal => engine(alloc, command, reader, writer),
     }
 }
@@ -83,55 +85,41 @@ fn carry_out_problem<T: Threads + Sync, I: Read, W: Write>(
     }
 }
 
-/// Whether plans are left as the plain planner makes them, where nothing shows when they end.
-fn is_plain(planner: ChosenPlanner) -> bool {
-    planner.by == By::Plain
+/// How the channels of the run go.
+fn way_of(options: RunOptions) -> Way<ChosenPlanner>
+    requires { IsInRange (ANamed.Run options) }
+    ensures { nodes_by result.choice result.limit ≡ spec.nodes_of options }
+{
+    let early = if options.early {
+        Some(Early::default())
+    } else {
+        None
+    };
+    let limit = Limit::of(options.limit).unwrap();
+    match options.by {
+        RunBy::Next => Way::by_next_phase(ChosenPlanner::default()),
+        RunBy::Plans(by) => Way::by_plans(ChosenPlanner { by, early }, limit),
+    }
 }
 
 /// Runs the operations of a script.
 fn carry_out_run<R: Threads + Wait + Sync, I: Read, W: Write>(
     rt: &R,
     alloc: Global,
-    planner: ChosenPlanner,
-    limit: u32,
-    clocked: bool,
+    options: RunOptions,
     reader: &mut I,
     writer: &mut W,
 ) -> Result<u8, EngineFault>
-    requires some { 1 ≤ limit }
-    requires few { limit ≤ 1048576 }
-    ensures answer { IfOk result (λ status. CarriesOut (ANamed.Run planner limit clocked) (I.remaining reader.old) (W.contents writer.old) (W.contents writer.new) status) }
+    requires { IsInRange (ANamed.Run options) }
+    ensures answer { IfOk result (λ status. CarriesOut (ANamed.Run options) (I.remaining reader.old) (W.contents writer.old) (W.contents writer.new) status) }
     ensures unread { result ≡ Err EngineFault.Read → Keeps (W.contents writer.old) (W.contents writer.new) }
-    ensures unwritten { result ≡ Err EngineFault.Write → BeginsToCarryOut (ANamed.Run planner limit clocked) (I.remaining reader.old) (W.contents writer.old) (W.contents writer.new) }
+    ensures unwritten { result ≡ Err EngineFault.Write → BeginsToCarryOut (ANamed.Run options) (I.remaining reader.old) (W.contents writer.old) (W.contents writer.new) }
 {
     let Ok(gates) = no_gates(alloc) else {
         return write_answer(writer, Err(AllocError));
     };
-    let plain = is_plain(planner);
-    if !clocked && plain {
-        return run_script(rt, alloc, limit, gates, reader, writer);
-    }
-    let way = Way::by_plans(planner, Limit::of(limit).unwrap());
-    run_script_by(rt, alloc, way, clocked, gates, reader, writer)
-}
-
-/// Runs the operations of a script phase by phase.
-fn carry_out_next<R: Threads + Wait + Sync, I: Read, W: Write>(
-    rt: &R,
-    alloc: Global,
-    clocked: bool,
-    reader: &mut I,
-    writer: &mut W,
-) -> Result<u8, EngineFault>
-    ensures answer { IfOk result (λ status. CarriesOut (ANamed.RunNext clocked) (I.remaining reader.old) (W.contents writer.old) (W.contents writer.new) status) }
-    ensures unread { result ≡ Err EngineFault.Read → Keeps (W.contents writer.old) (W.contents writer.new) }
-    ensures unwritten { result ≡ Err EngineFault.Write → BeginsToCarryOut (ANamed.RunNext clocked) (I.remaining reader.old) (W.contents writer.old) (W.contents writer.new) }
-{
-    let Ok(gates) = no_gates(alloc) else {
-        return write_answer(writer, Err(AllocError));
-    };
-    let way = Way::by_next_phase();
-    run_script_by(rt, alloc, way, clocked, gates, reader, writer)
+    let way = way_of(options);
+    run_script_by(rt, alloc, way, options.clocked, gates, reader, writer)
 }
 
 /// What is answered where an input isn't read to its end.
@@ -213,12 +201,7 @@ fn carry_out_from<R: Threads + Wait + Sync, I: Read, W: Write>(
         Named::Problem { command, workers } => {
             carry_out_problem(rt, alloc, command, workers, reader, writer)
         }
-        Named::Run {
-            planner,
-            limit,
-            clocked,
-        } => carry_out_run(rt, alloc, planner, limit, clocked, reader, writer),
-        Named::RunNext { clocked } => carry_out_next(rt, alloc, clocked, reader, writer),
+        Named::Run { options } => carry_out_run(rt, alloc, options, reader, writer),
         Named::Device => carry_out_device(alloc, reader, writer),
         Named::Audit { options } => carry_out_audit(alloc, options, reader, writer),
         Named::Gaps { options } => carry_out_gaps(alloc, options, reader, writer),
@@ -271,4 +254,21 @@ pub fn carry_out<R: Threads + Wait + Sync, W: Write>(
             carry_out_from(rt, alloc, named, &mut whole, writer)
         }
     }
+}
+
+/// Runs the operations of a script, and gives the answer with the trace of each channel: what `run --trace` asks for.
+///
+/// # Errors
+/// Where memory was refused.
+pub fn run_traced<R: Threads + Wait + Sync>(
+    rt: &R,
+    alloc: Global,
+    options: RunOptions,
+    script: &[u8],
+) -> Result<Traced, AllocError>
+    requires { IsInRange (ANamed.Run options) }
+    ensures answer { IfOk result (λ t. AnswersNamed (ANamed.Run options) script.now (answer_of t.answer)) }
+{
+    let way = way_of(options).with_traces();
+    run_freely(rt, alloc, way, options.clocked, script)
 }

@@ -5,9 +5,10 @@
 
 mod carrying_out;
 
-pub use carrying_out::carry_out;
+pub use carrying_out::{carry_out, run_traced};
 pub use onfi_console::{
-    By, ChosenPlanner, Command, CommandName, EngineFault, GapOptions, Named, Output, Parsed,
-    PlanOptions, WordsFault, audit, audit_gaps, describe, engine, engine_split, words,
+    By, Command, CommandName, EngineFault, GapOptions, Named, Output, Parsed, PlanOptions, RunBy,
+    RunOptions, WordsFault, audit, audit_gaps, describe, engine, engine_split, words,
 };
-pub use onfi_run::{Gate, Limit, NoGate, Way, run_script};
+pub use onfi_planners::ChosenPlanner;
+pub use onfi_run::{Gate, Limit, NoGate, Traced, Way, run_script};

@@ -109,10 +109,6 @@ accepts_more p wants i w d new result is e few states within more there holds ac
         (subst (λ z. IsOf p.timing (record { rules = p.rules; waiting = map unpassed (take i wants) ++ unpassed w ∷ []; newest = z }) new) (sym now.newest) now)
     by_result (Err fault) now r = let q : None ≡ Some fault = sym none ∙ r in absurd cc
 
--- nothing is left where none is next
-pub done_idle : (p : Problem) (books : Books) (d : Dispatcher) → IsFor p books d → IsIdle p → books.waiting ≡ [] → IsDone p
-done_idle p books d is idle empty = record { wants = sym (ap (λ (z : Problem). z.wants) is.same) ∙ ap wants_of empty; free = idle.free }
-
 -- a dispatcher of which only what is due changed
 pub still_for : (p : Problem) (books : Books) (old mid : Dispatcher) → IsFor p books old → IsOf p.timing books mid → states_of mid ≡ states_of old → mid.bus_free ≡ old.bus_free → IsFor p books mid
 still_for p books old mid is of states bus = record { is = of; same = ap (λ z. channel p.timing z (states_of mid) books) bus ∙ (ap (λ z. channel p.timing old.bus_free z books) states ∙ is.same) }
@@ -149,12 +145,6 @@ next_for p books d now phase is at next =
     let e : max d.bus_free now ≡ d.bus_free = omega arith in
     subst (λ z. IsNextPhase books z phase) (ap (λ z. channel p.timing z (states_of d) books) e ∙ is.same) next
 
-pub idle_for : (p : Problem) (books : Books) (d : Dispatcher) (now : ℕ) → IsFor p books d → now ≡ p.bus_free → IsIdle (channel p.timing (max d.bus_free now) (states_of d) books) → IsIdle p
-idle_for p books d now is at idle =
-    let bus : d.bus_free ≡ p.bus_free = ap (λ (z : Problem). z.bus_free) is.same in
-    let e : max d.bus_free now ≡ d.bus_free = omega arith in
-    subst IsIdle (ap (λ z. channel p.timing z (states_of d) books) e ∙ is.same) idle
-
 pub phase_starts_early : (p : Problem) (books : Books) (phase : NextPhase) → InLimits p → IsNextPhase books p phase → phase.start < 2 ^ 62
 phase_starts_early p books phase limits next = let early = starts_early p (move_of_phase phase) limits next.move in let at = next.start in omega arith
 
@@ -175,6 +165,7 @@ forgets_newest p old new is rules spans newest luns bus = record {
   rules = rules ∙ is.rules;
   newest = newest;
   planes = is.planes;
+  distinct = is.distinct;
   there = subst (λ (ls : List LunBooks). All (λ w. w.want.lun < length ls) (map unpassed p.wants)) (sym luns) is.there;
   luns = subst (AreLuns p.timing (batch_of p)) (sym luns) (record { each = is.luns.each; waiting = is.luns.waiting });
 }

@@ -20,7 +20,7 @@ use Rattle.onfi_steady.specs.Offer.{on_lun}
 use Rattle.onfi_steady.specs.Slots.{has_number, others_of, slots_in, waiters_in}
 use Rattle.onfi_steady.specs.LunBooks.{IsLun}
 use Rattle.onfi_steady.specs.Selecting.{AreLuns, NoneHolds}
-use Rattle.onfi_steady.specs.Dispatcher.{IsOf, again_line_refusal, again_refusal, array_refusal, has_id, in_array, is_request, luns_of, newest_of, ready_refusal}
+use Rattle.onfi_steady.specs.Dispatcher.{AreDistinct, IsOf, again_line_refusal, again_refusal, array_refusal, has_id, in_array, is_request, luns_of, newest_of, ready_refusal}
 use Rattle.onfi_steady.proofs.Dispatching.{IsSame, get_taken, line_at, luns_changed, take_changed, the_same}
 use Rattle.onfi_steady.proofs.Slots.{others_wait}
 
@@ -36,13 +36,14 @@ changed_at d i at after same = take_changed d.due.luns d.lun at after ∙ ap (λ
 pub changed_is : (timing : Timing) (books later : Books) (old new : Dispatcher) (lun : ℕ) (l after : LunBooks) → IsOf timing books old → IsSame old new → newest_of new ≡ newest_of old →
     later.rules ≡ books.rules → later.newest ≡ books.newest → slice_get (luns_of old) lun ≡ Some l → luns_of new ≡ slice_set (luns_of old) lun after → All (λ w. w.want.plane ≤ 3) later.waiting →
     All (λ w. w.want.lun < length (luns_of old)) later.waiting → IsLun timing books.rules after → waiters_in (slots_in after.line) ≡ on_lun lun later.waiting →
-    ((at : ℕ) → at ≢ lun → on_lun at later.waiting ≡ on_lun at books.waiting) → IsOf timing later new
-changed_is timing books later old new lun l after is same newest rules latest e changed planes there lun_is line others = record {
+    ((at : ℕ) → at ≢ lun → on_lun at later.waiting ≡ on_lun at books.waiting) → AreDistinct later → IsOf timing later new
+changed_is timing books later old new lun l after is same newest rules latest e changed planes there lun_is line others distinct = record {
   spans = rw same.spans is.spans;
   rules = same.rules ∙ (is.rules ∙ sym rules);
   newest = newest ∙ (is.newest ∙ sym latest);
   planes = planes;
   there = subst (λ n. All (λ w. w.want.lun < n) later.waiting) (sym (ap length changed ∙ length_set (luns_of old) lun after)) there;
+  distinct = distinct;
   luns = subst (AreLuns timing later) (sym changed) (luns_changed timing books later (luns_of old) lun l after is.luns rules e (subst (λ z. IsLun timing z after) (sym rules) lun_is) line others);
 }
 
@@ -61,12 +62,6 @@ working_on d lun h = by_option (slice_get (luns_of d) lun) refl h
       | inl k ↦ record { books = l; there = e; works = k }
       | inr k ↦ (let r = rw k at q in absurd cc)
     ]
-
-pub some_run : (l : LunBooks) → in_array l.run ≡ true → 1 ≤ l.run.members
-some_run l h = elim (cases_eq l.run.members 0) [
-  | inl e ↦ (let q : false ≡ true = rw (eq-eqb l.run.members 0 e) at h in absurd (false≢true q))
-  | inr d ↦ omega (arith, d)
-]
 
 pub ready_states : (states : List LunState) (lun moment : ℕ) (state : LunState) → slice_get states lun ≡ Some state → luns_ready_by moment lun (slice_get states lun) states ≡ slice_set states lun (ready_by moment state)
 ready_states states lun moment state e = ap (λ o. luns_ready_by moment lun o states) e
@@ -109,10 +104,7 @@ none_more luns id i l there none below = λ lun x h e. elim (cases_eq lun i) [
   | inr d ↦ below lun x (omega arith) e
 ]
 
-pub none_all : (luns : List LunBooks) (id i : ℕ) → length luns ≤ i → NoneHolds luns id i → NoneHolds luns id (length luns)
-none_all luns id i h none = λ lun x k e. none lun x (omega arith) e
-
-none_has : {A : Type 0} (test : A → Bool) (xs : List A) (x : A) → list_any test xs ≡ false → Has xs x → test x ≡ false
+pub none_has : {A : Type 0} (test : A → Bool) (xs : List A) (x : A) → list_any test xs ≡ false → Has xs x → test x ≡ false
 none_has test [] x h has = absurd has
 none_has test (y ∷ xs) x h has = elim (cases_Bool (test y)) [
   | inl k ↦ (let q : true ≡ false = rw k at h in absurd (false≢true (sym q)))

@@ -10,12 +10,14 @@ use Rattle.onfi_timing.specs.declared.timing.Timing.{Timing}
 use Rattle.onfi_timing.specs.Phases.{phase_length}
 use Rattle.onfi_request.specs.declared.want.Want.{Want}
 use Rattle.onfi_group.specs.Group.{group_spans, lun_of}
+use Rattle.onfi_group.specs.Words.{Pairs}
 use Rattle.onfi_group.proofs.Lists.{All-append}
 use Rattle.onfi_problem.specs.declared.lun_state.LunState.{LunState}
 use Rattle.onfi_problem.specs.declared.lun_state.LunState.TheVariants.{Free, Running}
 use Rattle.onfi_problem.specs.Problem.{Problem}
 use Rattle.onfi_problem.specs.Moves.{IsMove, Next, Start, free_from, lun_after, move_lun, placed}
 use Rattle.onfi_problem.proofs.Lists.{map_get, map_set}
+use Rattle.onfi_problem.proofs.Wants.{Pairs-filter}
 use Rattle.onfi_problem.proofs.Places.{get_set_other, get_set_same, length_set}
 use Rattle.onfi_steady.specs.declared.begin.Begin.{Begin}
 use Rattle.onfi_steady.specs.declared.dispatcher.Dispatcher.{Dispatcher}
@@ -23,13 +25,13 @@ use Rattle.onfi_steady.specs.declared.first.Choice.{Choice}
 use Rattle.onfi_steady.specs.declared.lun_books.LunBooks.{LunBooks}
 use Rattle.onfi_steady.specs.declared.waiter.Waiter.{Waiter}
 use Rattle.onfi_steady.specs.Waiting.{Books, accepted, begins_with, begun, channel, greatest_number, is_on, left_waiting, newest_with, passed_by}
-use Rattle.onfi_steady.specs.Offer.{erase_group, firsts, on_lun, own_group, ready_on}
+use Rattle.onfi_steady.specs.Offer.{erase_group, firsts, is_open, on_lun, own_group, ready_on}
 use Rattle.onfi_steady.specs.Next.{IsIdle, given_move, move_by}
 use Rattle.onfi_steady.specs.Kept.{NoneBelow, held_group}
 use Rattle.onfi_steady.specs.Slots.{IsBegin, begins, slots_in, waiters_in, wants_in}
-use Rattle.onfi_steady.specs.LunBooks.{HasBegun, HasGoneOn, IsLun, IsLunOffer, begin_of, runs, state_in, states_in}
+use Rattle.onfi_steady.specs.LunBooks.{HasBegun, HasGoneOn, IsLun, IsLunOffer, begin_of, other_group, runs, state_in, states_in}
 use Rattle.onfi_steady.specs.Selecting.{AreLuns, IsFirstChoice, IsFirstMove, IsHeldChoice, IsNextChoice, begin_turn, begun_at, begun_by, can_run, can_run_by, held_in}
-use Rattle.onfi_steady.specs.Dispatcher.{HasRun, IsBut, IsOf, accept_refusal, begun_books, due_wants, has_due, line_refusal, luns_of, newest_of, states_of}
+use Rattle.onfi_steady.specs.Dispatcher.{AreDistinct, Differ, HasRun, IsBut, IsOf, accept_refusal, begun_books, due_wants, has_due, line_refusal, luns_of, newest_of, states_of}
 use Rattle.onfi_steady.proofs.Leaving.{left_planes}
 use Rattle.onfi_steady.proofs.NextFound.{held_phase}
 use Rattle.onfi_steady.proofs.NextHeld.{idle}
@@ -217,6 +219,22 @@ module _ (lun : ℕ) (ms : List Want) where
   off_left at d [] = refl
   off_left at d (w ∷ ws) = one_off at w (filter stays ws) (on_lun at ws) (is_on at w) (begins_with lun ms w) d refl refl (off_left at d ws)
 
+  -- .. under numbers that differ
+  passed_distinct : (ws : List Waiter) → Pairs Differ ws → Pairs Differ (map pass ws)
+  passed_distinct [] h = tt
+  passed_distinct (w ∷ ws) h = (each w ws h.0, passed_distinct ws h.1)
+    where
+      each : (w : Waiter) (ws : List Waiter) → All (Differ w) ws → All (Differ (pass w)) (map pass ws)
+      each w [] h = tt
+      each w (v ∷ ws) h = (differ, each w ws h.1)
+        where
+          differ : Differ (pass w) (pass v)
+          differ same one = h.0 (ap (λ (z : Want). z.lun) (sym (pass_want w)) ∙ (same ∙ ap (λ (z : Want). z.lun) (pass_want v)))
+              (ap (λ (z : Want). z.id) (sym (pass_want w)) ∙ (one ∙ ap (λ (z : Want). z.id) (pass_want v)))
+
+  pub left_distinct : (ws : List Waiter) → Pairs Differ ws → Pairs Differ (left_waiting lun ms ws)
+  left_distinct ws h = passed_distinct (filter stays ws) (Pairs-filter Differ stays ws h)
+
   pub left_there : (n : ℕ) (ws : List Waiter) → All (λ w. w.want.lun < n) ws → All (λ w. w.want.lun < n) (left_waiting lun ms ws)
   left_there n [] h = tt
   left_there n (w ∷ ws) h = elim (cases_Bool (begins_with lun ms w)) [
@@ -291,8 +309,9 @@ pub record IsSame (old new : Dispatcher) : Type 0 where
 -- a request was accepted
 pub accepted_is : (timing : Timing) (books : Books) (want : Want) (old new : Dispatcher) (l after : LunBooks) → IsOf timing books old → IsSame old new →
     slice_get (luns_of old) want.lun ≡ Some l → luns_of new ≡ slice_set (luns_of old) want.lun after → newest_of new ≡ newest_with (newest_of old) want.kind want.id → want.plane ≤ 3 →
-    waiters_in (slots_in after.line) ≡ waiters_in (slots_in l.line) ++ record { want = want; passed = 0 } ∷ [] → IsLun timing books.rules after → IsOf timing (accepted books want) new
-accepted_is timing books want old new l after is same e changed newest plane line lun =
+    waiters_in (slots_in after.line) ≡ waiters_in (slots_in l.line) ++ record { want = want; passed = 0 } ∷ [] → IsLun timing books.rules after →
+    AreDistinct (accepted books want) → IsOf timing (accepted books want) new
+accepted_is timing books want old new l after is same e changed newest plane line lun distinct =
     let w : Waiter = record { want = want; passed = 0 } in
     let size : length (luns_of new) ≡ length (luns_of old) = ap length changed ∙ length_set (luns_of old) want.lun after in
     record {
@@ -301,6 +320,7 @@ accepted_is timing books want old new l after is same e changed newest plane lin
       newest = newest ∙ ap (λ z. newest_with z want.kind want.id) is.newest;
       planes = All-append (λ v. v.want.plane ≤ 3) books.waiting (w ∷ []) is.planes (plane, tt);
       there = subst (λ n. All (λ v. v.want.lun < n) (books.waiting ++ w ∷ [])) (sym size) (All-append (λ v. v.want.lun < length (luns_of old)) books.waiting (w ∷ []) is.there (slice_get_within (luns_of old) want.lun l e, tt));
+      distinct = distinct;
       luns = subst (AreLuns timing (accepted books want)) (sym changed) (luns_changed timing books (accepted books want) (luns_of old) want.lun l after is.luns refl e lun
           (line ∙ (ap (λ z. z ++ w ∷ []) (line_at timing books (luns_of old) want.lun l is.luns e) ∙ sym (on_push want.lun books.waiting w refl)))
           (λ at d. off_push at books.waiting w (λ q. d (sym q))));
@@ -330,6 +350,7 @@ gone_on timing books old new l after started ended is same newest e changed some
         newest = newest ∙ is.newest;
         planes = is.planes;
         there = subst (λ n. All (λ v. v.want.lun < n) books.waiting) (sym (ap length changed ∙ length_set (luns_of old) lun after)) is.there;
+        distinct = is.distinct;
         luns = subst (AreLuns timing books) (sym changed) (luns_changed timing books books (luns_of old) lun l after is.luns refl e went.is
             (ap waiters_in went.line ∙ line_at timing books (luns_of old) lun l is.luns e) (λ at d. refl));
       });
@@ -369,6 +390,7 @@ module _ (timing : Timing) (books : Books) (old new : Dispatcher) (l after : Lun
           newest = newest ∙ is.newest;
           planes = left_planes lun g books.waiting is.planes;
           there = subst (λ n. All (λ v. v.want.lun < n) (left_waiting lun g books.waiting)) (sym (ap length changed ∙ length_set (luns_of old) lun after)) (left_there lun g (length (luns_of old)) books.waiting is.there);
+          distinct = left_distinct lun g books.waiting is.distinct;
           luns = subst (AreLuns timing (begun books lun g)) (sym changed) (luns_changed timing books (begun books lun g) (luns_of old) lun l after is.luns refl e began.is
               (ap waiters_in began.line ∙ (left_waits lun b (slots_in l.line) last
               ∙ (ap (λ z. left_waiting lun z (waiters_in (slots_in l.line))) begin.members ∙ (ap (left_waiting lun g) (line_at timing books (luns_of old) lun l is.luns e) ∙ sym (on_left lun g books.waiting)))))
@@ -388,11 +410,17 @@ module _ (timing : Timing) (books : Books) (old new : Dispatcher) (l after : Lun
   begun_of [] begin some starts began = absurd (begins_some [] begin some refl)
   begun_of (m ∷ ms) begin some starts began = has_begun m ms (ap (begun_by old.due.erase) e ∙ (rw (eq-eqb l.run.members 0 none) begin.members)) begin (starts m ms refl) began
 
+  other_starts : (m : Want) (ms : List Want) → other_group books.rules (ready_on lun books.waiting) ≡ m ∷ ms → Starts books.rules books.waiting lun is.planes (m ∷ ms)
+  other_starts m ms q = elim (cases_Bool (is_open books.rules (ready_on lun books.waiting))) [
+    | inl o ↦ (let k : erase_group books.rules (ready_on lun books.waiting) ≡ m ∷ ms = rw o at q in erase_starts books.rules books.waiting lun is.planes m ms k)
+    | inr o ↦ (let k : [] ≡ m ∷ ms = rw o at q in absurd cc)
+  ]
+
   pub group_begun : 1 ≤ b.members → ((group : List Want) → IsBegin timing group b → HasBegun timing books.rules lun old.due.erase group l after started ended) → HasRun timing books old new started
   group_begun some began = elim (cases_Bool old.due.erase) [
     | inl k ↦ (
-        let begin : IsBegin timing (erase_group books.rules (ready_on lun books.waiting)) b = rw k offers.erase in
-        begun_of (erase_group books.rules (ready_on lun books.waiting)) begin some (λ m ms q. erase_starts books.rules books.waiting lun is.planes m ms q) (began _ begin))
+        let begin : IsBegin timing (other_group books.rules (ready_on lun books.waiting)) b = rw k offers.erase in
+        begun_of (other_group books.rules (ready_on lun books.waiting)) begin some other_starts (began _ begin))
     | inr k ↦ (
         let begin : IsBegin timing (own_group books.rules (ready_on lun books.waiting)) b = rw k offers.group in
         begun_of (own_group books.rules (ready_on lun books.waiting)) begin some (λ m ms q. own_starts books.rules books.waiting lun is.planes m ms q) (began _ begin))
@@ -430,6 +458,7 @@ but_is timing books old new but is = record {
   newest = but.newest ∙ is.newest;
   planes = is.planes;
   there = subst (λ (ls : List LunBooks). All (λ w. w.want.lun < length ls) books.waiting) (sym but.luns) is.there;
+  distinct = is.distinct;
   luns = subst (AreLuns timing books) (sym but.luns) is.luns;
 }
 

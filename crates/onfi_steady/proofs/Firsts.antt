@@ -15,7 +15,6 @@ use Rattle.onfi_group.proofs.Firsts.{on_own_block}
 use Rattle.onfi_steady.specs.declared.waiter.Waiter.{Waiter}
 use Rattle.onfi_steady.specs.Waiting.{is_on, wants_of}
 use Rattle.onfi_steady.specs.Offer.{firsts, is_kind, on_lun, ready_on}
-use Rattle.onfi_steady.specs.Kept.{is_read_on, ready_with}
 
 abbrev beside : Waiter → Waiter → Bool
 beside w v = not (on_block w.want v.want)
@@ -64,48 +63,6 @@ pushed w x ready false false h k = rw (any_beside w x h ready ∙ k) (ap (λ z. 
 pub firsts_push : (ws : List Waiter) (x : Waiter) → firsts (ws ++ x ∷ []) ≡ (if list_any (is_behind x) (firsts ws) then firsts ws else firsts ws ++ x ∷ [])
 firsts_push [] x = refl
 firsts_push (w ∷ ws) x = ap (λ z. w ∷ filter (beside w) z) (firsts_push ws x) ∙ pushed w x (firsts ws) _ _ refl refl
-
--- one request more
-pub ready_more : (lun : ℕ) (waiting : List Waiter) (i : ℕ) (d : Waiter) → i < length waiting →
-    ready_on lun (take (i + 1) waiting) ≡ ready_with lun (ready_on lun (take i waiting)) (get_or waiting i d)
-ready_more lun waiting i d h = ap (ready_on lun) (take_more waiting i d h) ∙ (ap firsts (filter-append (is_on lun) (take i waiting) (get_or waiting i d ∷ [])) ∙ by_test (on_lun lun (take i waiting)) (get_or waiting i d) (is_on lun (get_or waiting i d)))
-  where
-    by_test : (ws : List Waiter) (x : Waiter) (b : Bool) →
-        firsts (ws ++ cond b (x ∷ []) []) ≡ (if b then (if list_any (is_behind x) (firsts ws) then firsts ws else firsts ws ++ x ∷ []) else firsts ws)
-    by_test ws x true = firsts_push ws x
-    by_test ws x false = ap firsts (append-nil ws)
-
-module _ (lun : ℕ) (waiting : List Waiter) (i : ℕ) (d : Waiter) (h : i < length waiting) where
-  abbrev before : Bool
-  before = list_any (is_read_on lun) (take i waiting)
-
-  reads_more : (b : Bool) → is_read_on lun (get_or waiting i d) ≡ b → list_any (is_read_on lun) (take (i + 1) waiting) ≡ (before || (b || false))
-  reads_more b e = ap (list_any (is_read_on lun)) (take_more waiting i d h) ∙ (list_any-append (is_read_on lun) (take i waiting) (get_or waiting i d ∷ []) ∙ ap (λ z. before || (z || false)) e)
-
-  -- one request more is a read of the LUN
-  pub reads_now : is_read_on lun (get_or waiting i d) ≡ true → list_any (is_read_on lun) (take (i + 1) waiting) ≡ true
-  reads_now e = reads_more true e ∙ all_true before
-    where
-      all_true : (b : Bool) → (b || true) ≡ true
-      all_true true = refl
-      all_true false = refl
-
-  -- .. or isn't
-  pub reads_still : is_read_on lun (get_or waiting i d) ≡ false → list_any (is_read_on lun) (take (i + 1) waiting) ≡ before
-  reads_still e = reads_more false e ∙ no_more before
-    where
-      no_more : (b : Bool) → (b || false) ≡ b
-      no_more true = refl
-      no_more false = refl
-
-pub any_on : (lun : ℕ) (waiting : List Waiter) → list_any (is_read_on lun) waiting ≡ list_any (is_kind Read) (on_lun lun waiting)
-any_on lun [] = refl
-any_on lun (w ∷ ws) = by_test (is_on lun w) (list_any (is_read_on lun) ws) (on_lun lun ws) (any_on lun ws)
-  where
-    by_test : (b r : Bool) (rest : List Waiter) → r ≡ list_any (is_kind Read) rest →
-        ((if b then is_kind Read w else false) || r) ≡ list_any (is_kind Read) (cond b (w ∷ rest) rest)
-    by_test true r rest e = ap (λ z. is_kind Read w || z) e
-    by_test false r rest e = e
 
 pub filter_has : {A : Type 0} (test : A → Bool) (xs : List A) (x : A) → Has (filter test xs) x → Has xs x × (test x ≡ true)
 filter_has test [] x h = absurd h

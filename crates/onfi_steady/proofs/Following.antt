@@ -1,5 +1,5 @@
 -- A channel as a problem is that of its books, whatever happens.
-use Rattle.std.proofs.Common.{◌≡◌, ℕ, zero, suc, ◌-◌, ◌<◌, ◌≤◌, ◌⊎◌, ◌∙◌, inl, inr, true, List, [], ◌∷◌, ◌++◌, length, map, take, Option, Some, None, ap, arith, refl, subst, sym}
+use Rattle.std.proofs.Common.{◌≡◌, ℕ, zero, suc, ◌-◌, ◌<◌, ◌≤◌, ◌⊎◌, ◌∙◌, inl, inr, true, false, List, [], ◌∷◌, ◌++◌, length, map, take, Option, Some, None, ap, arith, refl, subst, sym}
 use Rattle.std.specs.Prelude.{◌==◌, if◌then◌else◌, IfNone, MatchOption, slice_get}
 use Rattle.std.specs.List.{AllByRecursion as All}
 use Rattle.std.proofs.lemmas.Bool.{cases_Bool, cases_eq, cases_lt, eq-eqb, ne_eqb, lt-ltb, false≢true}
@@ -24,7 +24,7 @@ use Rattle.onfi_steady.specs.Ranks.{phase_numbers}
 use Rattle.onfi_steady.specs.Waiting.{Books, channel, is_on, left_waiting, want_of, wants_of}
 use Rattle.onfi_steady.specs.Offer.{on_lun}
 use Rattle.onfi_steady.specs.Next.{IsFirstGiven, IsFirstHeld, IsIdle, given_move, move_by, move_of_phase, own_move}
-use Rattle.onfi_steady.specs.Slots.{is_above, is_line_below, slots_in, waiter_in, waiters_in}
+use Rattle.onfi_steady.specs.Slots.{has_number, is_above, is_line_below, slots_in, waiter_in, waiters_in}
 use Rattle.onfi_steady.specs.LunBooks.{state_in, states_in}
 use Rattle.onfi_steady.specs.Dispatcher.{array_refusal, begun_books, due_wants, line_refusal, luns_of, states_of}
 use Rattle.onfi_steady.specs.Following.{AcceptFollows, OneNext, RanFollows, ReadyFollows, RunFollows, TakesRising, array_fault, phase_ran}
@@ -134,6 +134,10 @@ line_below line id h = by_count line.count.of h
         let e : n ≡ suc n - 1 = omega arith in
         rw (ne_eqb (suc n) 0 (λ e. omega arith)) (subst (λ k. is_above (slice_get line.slot k) id ≡ true) e (get_taken_last n line.slot id h))
 
+none_equal : (id : ℕ) (slots : List Slot) → All (λ (s : Slot). s.id < id) slots → has_number slots id ≡ false
+none_equal id [] h = refl
+none_equal id (s ∷ slots) h = rw (ne_eqb s.id id (λ e. let k = h.0 in omega arith)) (none_equal id slots h.1)
+
 pub takes_rising : TakesRising
 takes_rising timing books d want is there few rises =
     let at = at_lun d want.lun there in
@@ -142,9 +146,8 @@ takes_rising timing books d want is there few rises =
     let size = length-map (slots_in l.line) waiter_in in
     let short = few_on want.lun books.waiting in
     let same = ap length line in
-    let below : is_line_below l.line want.id ≡ true =
-    line_below l.line want.id (slots_below want.id (slots_in l.line) (subst (All (λ w. w.want.id < want.id)) (sym line) (all_on (λ w. w.want.id < want.id) want.lun books.waiting rises))) in
-    ap (line_refusal want.id) at.1 ∙ rw (lt-ltb (length (slots_in l.line)) 64 (omega arith), below) refl
+    let older = slots_below want.id (slots_in l.line) (subst (All (λ w. w.want.id < want.id)) (sym line) (all_on (λ w. w.want.id < want.id) want.lun books.waiting rises)) in
+    ap (line_refusal want.id) at.1 ∙ rw (line_below l.line want.id older, lt-ltb (length (slots_in l.line)) 64 (omega arith), none_equal want.id (slots_in l.line) older) refl
 
 -- one phase is next
 module _ (books : Books) (p : Problem) where

@@ -11,15 +11,13 @@ pub mod NextHeld
 pub mod Extremes
 pub mod NextFound
 pub mod OneToken
-pub mod EachLun
-pub mod Works
-pub mod Showing
 pub mod Slots
 pub mod Selecting
 pub mod Dispatching
 pub mod KindPlaces
 pub mod LunKept
 pub mod Changing
+pub mod Distinct
 pub mod Fair
 pub mod Beginning
 pub mod Following

@@ -5,36 +5,17 @@ use Rattle.std.specs.List.{AllByRecursion as All}
 use Rattle.onfi_problem.specs.declared.lun_state.LunState.{LunState}
 use Rattle.onfi_problem.specs.Problem.{Problem}
 use Rattle.onfi_problem.specs.Moves.{Move, IsMove, earliest, move_lun}
-use Rattle.onfi_steady.specs.declared.next.Candidate.{Candidate}
 use Rattle.onfi_steady.specs.declared.next.NextPhase.{NextPhase}
 use Rattle.onfi_steady.specs.Waiting.{Books, wants_of}
 use Rattle.onfi_steady.specs.Next.{IsFirstGiven, IsFirstHeld, IsIdle, IsNextPhase, given_move, move_by, move_of_phase, own_move}
-use Rattle.onfi_steady.specs.Kept.{IsFirstBelow, IsHeldAt, IsHeldBy, NoneBelow}
-use Rattle.onfi_steady.proofs.NextMove.{first_given, move_given, none_given}
+use Rattle.onfi_steady.specs.Kept.{IsHeldAt, NoneBelow}
+use Rattle.onfi_steady.proofs.NextMove.{move_given, none_given}
 use Rattle.onfi_steady.proofs.NextHeld.{due_given, due_held, first_held, held_is, idle}
 
 pub second : (a b s t : ℕ) (xs ys : List ℕ) → a ∷ s ∷ xs ≡ b ∷ t ∷ ys → s ≡ t
 second a b s t xs ys h = cc
 
 module _ (books : Books) (small : All (λ w. w.want.plane ≤ 3) books.waiting) (p : Problem) (rules : p.rules ≡ books.rules) (wants : p.wants ≡ wants_of books.waiting) where
-  abbrev moved : Candidate → Move
-  moved c = move_by c.lun c.members.now
-
-  -- what goes first of that which LUNs give
-  pub given_phase : (c : Candidate) (phase : NextPhase) → IsFirstBelow books p (length p.luns) (Some c) → phase.lun ≡ c.lun →
-      phase.members.items ≡ c.members.now → phase.start ≡ c.turn.start → IsNextPhase books p phase
-  given_phase c phase first lun members start =
-      let same : move_of_phase phase ≡ moved c = ap (λ z. move_by z phase.members.items) lun ∙ ap (move_by c.lun) members in
-      let is = move_given books small p rules wants c.lun (moved c) first.0.given in
-      let there : given_move books p phase.lun ≡ Some (move_by phase.lun c.members.now) = subst (λ z. given_move books p z ≡ Some (move_by z c.members.now)) (sym lun) first.0.given in
-      record {
-        next = inl (subst (IsFirstGiven books p) (sym same) (first_given books small p rules wants c first));
-        move = subst (IsMove p) (sym same) is.move;
-        lun = ap move_lun same ∙ (is.on ∙ sym lun);
-        start = start ∙ (second _ _ _ _ _ _ first.0.numbers ∙ ap (earliest p) (sym same));
-        due = λ w d some. due_given books small phase.lun w d p phase.members.items (subst (λ z. given_move books p phase.lun ≡ Some (move_by phase.lun z)) (sym members) there) some;
-      }
-
   -- where none gives any, what the lowest one holds
   pub held_phase : ((lun : ℕ) → given_move books p lun ≡ None) → (lun : ℕ) (state : LunState) (phase : NextPhase) →
       slice_get p.luns lun ≡ Some state → IsHeldAt p.bus_free state lun books (Some phase) → NoneBelow books p.luns lun → IsNextPhase books p phase
@@ -49,12 +30,3 @@ module _ (books : Books) (small : All (λ w. w.want.plane ≤ 3) books.waiting) 
         start = h.soonest ∙ ap (earliest p) (sym same);
         due = λ w d some. due_held books small phase.lun w d p members (subst (λ z. own_move books p z ≡ Some (move_by z members)) (sym is.2) h.own) some;
       }
-
-  -- .. or nothing is left
-  pub held_found : (o : Option NextPhase) → ((lun : ℕ) → given_move books p lun ≡ None) →
-      MatchOption o (NoneBelow books p.luns (length p.luns)) (IsHeldBy p.bus_free p.luns books) → MatchOption o (IsIdle p) (IsNextPhase books p)
-  held_found None none h = idle books small p rules wants none h
-  held_found (Some phase) none h = held_phase none h.0 h.1 phase h.2 h.3 h.4
-
-  pub no_move : IsFirstBelow books p (length p.luns) None → (lun : ℕ) → given_move books p lun ≡ None
-  no_move = none_given books small p rules wants

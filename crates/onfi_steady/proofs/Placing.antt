@@ -59,13 +59,6 @@ module _ (ws : List Want) (rises : Pairs (λ a b. a.id < b.id) ws) where
   same_lists (suc n) (x ∷ xs) (y ∷ ys) a b i j h =
       ap (λ z. z ∷ xs) (one_want x y i.0 j.0 (h 0 (omega arith))) ∙ ap (λ z. y ∷ z) (same_lists n xs ys (omega arith) (omega arith) i.1 j.1 (λ at k. h (suc at) (omega arith)))
 
-same_itself : (o : Option Want) → is_same o o ≡ true
-same_itself None = refl
-same_itself (Some w) = eq-eqb w.id w.id refl
-
-pub are_same_itself : (xs : List Want) → are_same xs xs ≡ true
-are_same_itself xs = rw (same_itself (slice_get xs 0), same_itself (slice_get xs 1), same_itself (slice_get xs 2), same_itself (slice_get xs 3)) refl
-
 -- members of a group that may start wait
 there : (p : Problem) (g : List Want) → IsStartable p.rules p.wants g → All (Has p.wants) g
 there p g s = All-weaker _ _ (λ m f. first_has (on_block m) p.wants m f) g s.first
@@ -74,12 +67,6 @@ there p g s = All-weaker _ _ (λ m f. first_has (on_block m) p.wants m f) g s.fi
 pub one_group : (p : Problem) (g h : List Want) → IsProblem p → IsMove p (Start g) → IsMove p (Start h) → are_same g h ≡ true → g ≡ h
 one_group p g h is a b same =
     same_lists p.wants is.ids 4 g h a.2.group.few b.2.group.few (there p g a.2) (there p h b.2) (each_same g h same)
-
-pub start_same : (g h : List Want) → Start g ≡ Start h → g ≡ h
-start_same g h e = cc
-
-pub not_next : (lun : ℕ) (g : List Want) → Next lun ≢ Start g
-not_next lun g e = absurd cc
 
 -- the move at a place
 pub move_at : (P : Move → Type 0) (groups : List (List Want)) (moves : List KeptMove) (i : ℕ) → All P (moves_of groups moves) → i < length moves → P (move_of groups (slice_index_or moves i (KeptNext 0)))

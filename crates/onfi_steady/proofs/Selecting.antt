@@ -2,7 +2,7 @@
 use Rattle.std.proofs.Common.{◌≡◌, ℕ, ◌+◌, ◌-◌, ◌≤◌, ◌⊎◌, ◌∙◌, inl, inr, Bool, true, false, List, [], ◌∷◌, drop, get_or, length, nat_lt, take, Option, Some, None, ap, arith, refl, subst, sym}
 use Rattle.std.specs.Prelude.{◌==◌, max, if◌then◌else◌, IfSome, MatchOption, slice_get}
 use Rattle.std.specs.List.{AllByRecursion as All, list_any}
-use Rattle.std.proofs.lemmas.Bool.{cases_Bool, cases_eq, eq-eqb, ne_eqb, le-ltb}
+use Rattle.std.proofs.lemmas.Bool.{cases_Bool, cases_eq, eq-eqb, ne_eqb, le-ltb, false≢true}
 use Rattle.std.proofs.lemmas.Option.{get_or_from_slice_get, slice_get_within}
 use Rattle.onfi_timing.specs.declared.kind.Kind.TheVariants.{Read}
 use Rattle.onfi_timing.specs.declared.timing.Timing.{Timing}
@@ -24,7 +24,7 @@ use Rattle.onfi_steady.specs.Order.{GoesBefore, is_less}
 use Rattle.onfi_steady.specs.Ranks.{keeps_bus, phase_numbers}
 use Rattle.onfi_steady.specs.Ranks.{numbers_of}
 use Rattle.onfi_steady.specs.Waiting.{Books, channel, wants_of}
-use Rattle.onfi_steady.specs.Offer.{is_kind, is_open, on_lun, own_group, ready_on}
+use Rattle.onfi_steady.specs.Offer.{erase_group, is_kind, is_open, on_lun, own_group, ready_on}
 use Rattle.onfi_steady.specs.Next.{IsFirstGiven, IsNextPhase, any_work, begin_with, given_by, given_group, given_move, has_work, have_work, is_held, is_number, move_by, move_of_phase}
 use Rattle.onfi_steady.specs.Kept.{IsKeptBy, IsKeptFrom, is_kept, kept_with}
 use Rattle.onfi_steady.specs.Slots.{IsBegin, begins, slots_in, waiters_in, wants_in}
@@ -229,9 +229,18 @@ module _ (timing : Timing) (books : Books) (luns : List LunBooks) (from : ℕ) w
         ∙ ap (λ z. if is_open books.rules ready then (if work then z else false) else false)
         (any_newest newest (begins l.offer.group) ∙ (ap (list_any (is_number newest)) o.group.members ∙ ap (λ z. list_any (is_number z) (own_group books.rules ready)) latest))
 
+    held_open : is_held books work ready ≡ true → is_open books.rules ready ≡ true
+    held_open k = elim (cases_Bool (is_open books.rules ready)) [
+      | inl o ↦ o
+      | inr o ↦ (let q : false ≡ true = rw o at k in absurd (false≢true q))
+    ]
+
     given_begin : l.run.members ≡ 0 → IsBegin timing (given_group books work ready) (begin_of l.offer (gives_erase newest work l))
     given_begin none = elim (cases_Bool (is_held books work ready)) [
-      | inl k ↦ rw (held_same none, k) (offered none).erase
+      | inl k ↦ (
+          let other : IsBegin timing (erase_group books.rules ready) l.offer.erase =
+          subst (λ z. IsBegin timing (if z then erase_group books.rules ready else []) l.offer.erase) (held_open k) (offered none).erase in
+          rw (held_same none, k) other)
       | inr k ↦ rw (held_same none, k) (offered none).group
     ]
 

@@ -1,8 +1,9 @@
 -- A dispatcher: what is kept of a channel from call to call.
-use Rattle.std.specs.Prelude.{◌≡◌, ℕ, ◌<◌, ◌≤◌, ◌==◌, ◌^◌, nat_lt, not, if◌then◌else◌, Bool, true, false, List, [], ◌∷◌, length, take, Option, Some, None, slice_get}
+use Rattle.std.specs.Prelude.{◌≡◌, ◌≢◌, ℕ, ◌<◌, ◌≤◌, ◌==◌, ◌^◌, nat_lt, not, if◌then◌else◌, Bool, true, false, List, [], ◌∷◌, length, take, Option, Some, None, slice_get}
 use Rattle.std.specs.List.{AllByRecursion as Each, filter, list_any}
 use Rattle.onfi_timing.specs.declared.timing.Timing.{Timing}
 use Rattle.onfi_request.specs.declared.want.Want.{Want}
+use Rattle.onfi_group.specs.Words.{Pairs}
 use Rattle.onfi_problem.specs.declared.lun_state.LunState.{LunState}
 use Rattle.onfi_problem.specs.declared.lun_state.LunState.TheVariants.{Running}
 use Rattle.onfi_problem.specs.Moves.{IsMove, move_lun, placed}
@@ -39,14 +40,22 @@ newest_in n = if n.is_there then Some n.number else None
 abbrev pub newest_of : Dispatcher → Option ℕ
 newest_of d = newest_in d.newest
 
+-- two requests don't wait for one LUN under one number
+abbrev pub Differ : Waiter → Waiter → Type 0
+Differ a b = a.want.lun ≡ b.want.lun → a.want.id ≢ b.want.id
+
+abbrev pub AreDistinct : Books → Type 0
+AreDistinct books = Pairs Differ books.waiting
+
 -- what is kept is that of a channel with these lengths and these books: its rules, its newest program, what waits for each LUN,
--- and of each LUN that runs nothing its offer
+-- no two requests under one number, and of each LUN that runs nothing its offer
 pub record IsOf (timing : Timing) (books : Books) (d : Dispatcher) : Type 0 where
   pub spans : AreSpansOf timing d.spans
   pub rules : d.rules ≡ books.rules
   pub newest : newest_of d ≡ books.newest
   pub planes : Each (λ w. w.want.plane ≤ 3) books.waiting
   pub there : Each (λ w. w.want.lun < length (luns_of d)) books.waiting
+  pub distinct : AreDistinct books
   pub luns : AreLuns timing books (luns_of d)
 
 -- those that begin with the phase that is due; none where its LUN goes on
@@ -87,9 +96,13 @@ pub record HasRun (timing : Timing) (books : Books) (old new : Dispatcher) (star
   pub states : states_of new ≡ (placed (channel timing old.bus_free (states_of old) books) (move_by old.due.lun (due_wants old)) started).luns
   pub is : IsOf timing (begun_books books old.due.lun (due_wants old)) new
 
--- why no more may wait for a LUN: the first of these
+-- why no request of that number may wait before the others of a LUN: the first of these
+abbrev pub head_refusal : LunBooks → ℕ → Option AcceptFault
+head_refusal l id = if nat_lt (length (slots_in l.line)) 64 then (if has_number (slots_in l.line) id then Some Waits else None) else Some Full
+
+-- .. after the others
 abbrev pub lun_refusal : LunBooks → ℕ → Option AcceptFault
-lun_refusal l id = if nat_lt (length (slots_in l.line)) 64 then (if is_line_below l.line id then None else Some BadOrder) else Some Full
+lun_refusal l id = if is_line_below l.line id then head_refusal l id else (if nat_lt (length (slots_in l.line)) 64 then Some BadOrder else Some Full)
 
 abbrev pub line_refusal : ℕ → Option LunBooks → Option AcceptFault
 line_refusal id None = Some BadLun
@@ -138,9 +151,6 @@ IsCancelled timing books id old new false = (list_any (has_id id) books.waiting 
 -- a request waits before all others; no group passed it over
 abbrev pub accepted_again : Books → Want → Books
 accepted_again books want = record { rules = books.rules; waiting = record { want = want; passed = 0 } ∷ books.waiting; newest = books.newest }
-
-abbrev pub head_refusal : LunBooks → ℕ → Option AcceptFault
-head_refusal l id = if nat_lt (length (slots_in l.line)) 64 then (if has_number (slots_in l.line) id then Some Waits else None) else Some Full
 
 abbrev pub again_line_refusal : ℕ → Option LunBooks → Option AcceptFault
 again_line_refusal id None = Some BadLun

@@ -1,5 +1,5 @@
 -- What a LUN does, what waits for it and what it would begin, as a dispatcher keeps them.
-use Rattle.std.specs.Prelude.{◌≡◌, ℕ, ◌+◌, ◌*◌, ◌≤◌, ◌==◌, nat_lt, if◌then◌else◌, Bool, List, Some, length, map, take}
+use Rattle.std.specs.Prelude.{◌≡◌, ℕ, ◌+◌, ◌*◌, ◌≤◌, ◌==◌, nat_lt, if◌then◌else◌, Bool, List, [], Some, length, map, take}
 use Rattle.std.specs.List.{list_any}
 use Rattle.onfi_timing.specs.declared.kind.Kind.TheVariants.{Read}
 use Rattle.onfi_timing.specs.declared.operation.Operation.TheVariants.{Erase}
@@ -56,10 +56,14 @@ pub record IsGroupPhase (timing : Timing) (group : List Want) (number : ℕ) (p 
   pub members : p.members ≡ length group
   pub length_is : p.length ≡ phase_length (group_spans timing group) (length group) number
 
--- what a LUN would begin of what waits for it, and that of its oldest erase; whether it is open; and whether a read waits
+-- the group of the oldest erase, which goes where the other one waits for mates
+abbrev pub other_group : Rules → List Waiter → List Want
+other_group rules ready = if is_open rules ready then erase_group rules ready else []
+
+-- what a LUN would begin of what waits for it, and in place of that; whether it is open; and whether a read waits
 pub record IsLunOffer (timing : Timing) (rules : Rules) (waiting : List Waiter) (offer : LunOffer) : Type 0 where
   pub group : IsBegin timing (own_group rules (firsts waiting)) offer.group
-  pub erase : IsBegin timing (erase_group rules (firsts waiting)) offer.erase
+  pub erase : IsBegin timing (other_group rules (firsts waiting)) offer.erase
   pub opened : offer.is_open ≡ is_open rules (firsts waiting)
   pub reads : offer.reads ≡ list_any (is_kind Read) waiting
 

@@ -99,10 +99,3 @@ pub record IsNextPhase (books : Books) (p : Problem) (phase : NextPhase) : Type 
   pub lun : move_lun (move_of_phase phase) ≡ phase.lun
   pub start : phase.start ≡ earliest p (move_of_phase phase)
   pub due : TakesDue books phase
-
--- what is shown of the books: all that waits for LUNs that run nothing, in its order, be there more or not
-pub record IsShown (books : Books) (luns : List LunState) (rules : Rules) (waiting : List Waiter) (newest : Option ℕ) : Type 0 where
-  pub planes : Each (λ w. w.want.plane ≤ 3) books.waiting
-  pub grouping : rules ≡ books.rules
-  pub latest : newest ≡ books.newest
-  pub free : (lun since : ℕ) → slice_get luns lun ≡ Some (Free since) → on_lun lun waiting ≡ on_lun lun books.waiting

@@ -11,7 +11,6 @@ use Rattle.onfi_request.specs.declared.want.Want.{Want}
 use Rattle.onfi_group.specs.declared.rules.Rules.{Rules}
 use Rattle.onfi_group.specs.Group.{above_planes, may_group, on_block}
 use Rattle.onfi_steady.specs.declared.waiter.Waiter.{Waiter}
-use Rattle.onfi_steady.specs.declared.offer.Offer.{Offer}
 use Rattle.onfi_steady.specs.Ranks.{operation_rank}
 use Rattle.onfi_steady.specs.Waiting.{is_on, want_of}
 
@@ -88,10 +87,3 @@ may_grow rules (Some head) group =
 -- the group that a LUN would begin is open
 abbrev pub is_open : Rules → List Waiter → Bool
 is_open rules ready = may_grow rules (turned_to ready) (own_group rules ready)
-
--- what a LUN's books say of what waits
-pub record IsOffer (rules : Rules) (waiting : List Waiter) (lun : ℕ) (offer : Offer) : Type 0 where
-  pub group : offer.group.items ≡ own_group rules (ready_on lun waiting)
-  pub opened : offer.is_open ≡ is_open rules (ready_on lun waiting)
-  pub erase : is_open rules (ready_on lun waiting) ≡ true → offer.erase.items ≡ erase_group rules (ready_on lun waiting)
-  pub reads : offer.reads ≡ list_any (is_kind Read) (on_lun lun waiting)

@@ -1,14 +1,13 @@
 //! A group that may begin on a LUN, kept as numbers.
-ghost use Rattle.std.specs.Prelude.{◌≡◌, ◌*◌, ◌<◌, ◌≤◌, ◌^◌, IfSome, IsSome, List, length};
+ghost use Rattle.std.specs.Prelude.{◌≡◌, ◌*◌, ◌<◌, ◌≤◌, ◌^◌, [], IfSome, IsSome, List, length};
 
 use crate::group_phase::GroupPhase;
 use crate::kind_spans::KindSpans;
-use crate::left::greatest_number;
-use crate::next_turn::kind_of;
-use crate::own::oldest;
+use crate::own::{greatest_number, kind_of, oldest};
 use crate::slot::{Slot, slots_of};
 use crate::turn::start_rank;
 use onfi_request::Want;
+use onfi_timing::{Kind, Operation};
 
 /// What begins, and what of its first command stays while it waits; without members nothing begins.
 #[repr(C)]
@@ -34,6 +33,20 @@ impl Begin {
     ghost use Rattle.onfi_request.specs.declared.want.Want.{Want as AnyWant};
     ghost use Rattle.onfi_steady.specs.Slots.{AreSpansOf, IsBegin, begins};
     ghost use Rattle.onfi_steady.specs.LunBooks.{IsGroupPhase};
+
+    /// Nothing.
+    pub fn none(spans: &KindSpans) -> Begin
+        ensures { (timing : AnyTiming) → AreSpansOf timing spans.now → IsBegin timing [] result }
+    {
+        Begin {
+            member: [Slot::default(); 4],
+            cmd: spans.of_kind(Kind::Read).cmd,
+            oldest: 0,
+            last: 0,
+            members: 0,
+            rank: start_rank(Operation::Read),
+        }
+    }
 
     /// Of these members, by rising plane.
     pub fn of(spans: &KindSpans, members: &[Want]) -> Begin

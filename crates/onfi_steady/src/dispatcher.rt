@@ -1,9 +1,9 @@
 //! A channel without batches, with its books kept from call to call.
-ghost use Rattle.std.specs.Prelude.{◌≡◌, ◌*◌, ◌<◌, ◌≤◌, ◌^◌, [], None, length, max, slice_get, take, true, IfOk, IfErr, IfNone, IfSome, IsSome, IsTrue, MatchOption, MatchResult};
+ghost use Rattle.std.specs.Prelude.{◌≡◌, ℕ, ◌*◌, ◌<◌, ◌≤◌, ◌^◌, [], None, length, max, slice_get, take, true, IfOk, IfErr, IfNone, IfSome, IsSome, IsTrue, MatchOption, MatchResult};
 ghost use Rattle.std.specs.List.{AllByRecursion as Each};
 ghost use Rattle.onfi_timing.specs.declared.timing.Timing.{Timing as AnyTiming};
-ghost use Rattle.onfi_steady.specs.LunBooks.{HasPhaseLeft, IsLun, state_in, states_in};
-ghost use Rattle.onfi_steady.specs.Slots.{AreSpansOf, slots_in, waiters_in};
+ghost use Rattle.onfi_steady.specs.LunBooks.{HasPhaseLeft};
+ghost use Rattle.onfi_steady.specs.Selecting.{IsBegunAt};
 
 mod batch;
 mod state;
@@ -41,37 +41,26 @@ pub struct Dispatcher {
     lun: [LunBooks; 8],
 }
 
-// What is kept of each of these LUNs, for which nothing waits, and of free ones after them.
-fn books_of(rules: &Rules, spans: &KindSpans, luns: &[LunState]) -> [LunBooks; 8]
-    requires few { length luns.now ≤ 8 }
+// Has each LUN begin with what it does, and those after them be free; nothing waits for any.
+fn begin_luns(books: &mut [LunBooks], spans: &KindSpans, luns: &[LunState])
+    requires few { length luns.now ≤ length books.old }
     requires left { Each HasPhaseLeft luns.now }
-    ensures eight { length result ≡ 8 }
-    ensures states { states_in (take (length luns.now) result) ≡ luns.now }
-    ensures none { Each (λ l. waiters_in (slots_in l.line) ≡ []) result }
-    ensures luns { (timing : AnyTiming) → AreSpansOf timing spans.now → Each (IsLun timing rules.now) result }
+    ensures few { length luns.now ≤ length books.new }
+    ensures begun { (at : ℕ) → IfSome (slice_get books.new at) (IsBegunAt spans.now luns.now at) }
 {
-    [
-        books_at(rules, spans, luns, 0),
-        books_at(rules, spans, luns, 1),
-        books_at(rules, spans, luns, 2),
-        books_at(rules, spans, luns, 3),
-        books_at(rules, spans, luns, 4),
-        books_at(rules, spans, luns, 5),
-        books_at(rules, spans, luns, 6),
-        books_at(rules, spans, luns, 7),
-    ]
+    for at in 0..books.len() {
+        begin_lun(&mut books[at], spans, luns, at);
+    }
 }
 
-// What is kept of the LUN at that place, or of a free one.
-fn books_at(rules: &Rules, spans: &KindSpans, luns: &[LunState], at: usize) -> LunBooks
+// Has a LUN begin with what the one at that place does, or be free.
+fn begin_lun(lun: &mut LunBooks, spans: &KindSpans, luns: &[LunState], at: usize)
     requires { Each HasPhaseLeft luns.now }
-    ensures state { IfSome (slice_get luns.now at) (λ state. state_in result.run ≡ state) }
-    ensures none { waiters_in (slots_in result.line) ≡ [] }
-    ensures lun { (timing : AnyTiming) → AreSpansOf timing spans.now → IsLun timing rules.now result }
+    ensures { IsBegunAt spans.now luns.now at lun.new }
 {
     match luns.get(at) {
-        Some(state) => LunBooks::with_state(rules, spans, state),
-        None => LunBooks::new(rules, spans),
+        Some(state) => lun.begin(spans, state),
+        None => *lun = LunBooks::new(spans),
     }
 }
 
@@ -81,7 +70,7 @@ impl Dispatcher {
     ghost use Rattle.onfi_problem.specs.declared.lun_state.LunState.TheVariants.{Free};
     ghost use Rattle.onfi_steady.specs.Waiting.{Books, accepted, channel};
     ghost use Rattle.onfi_steady.specs.Next.{IsIdle, IsNextPhase};
-    ghost use Rattle.onfi_steady.specs.Dispatcher.{HasRun, IsBut, IsCancelled, IsDue, IsOf, IsPhaseOn, StandsFirst, accept_refusal, accepted_again, again_refusal, has_due, luns_of, ran_refusal, ready_refusal, states_of};
+    ghost use Rattle.onfi_steady.specs.Dispatcher.{AreDistinct, HasRun, IsBut, IsCancelled, IsDue, IsOf, IsPhaseOn, StandsFirst, accept_refusal, accepted_again, again_refusal, has_due, luns_of, ran_refusal, ready_refusal, states_of};
     ghost use Rattle.onfi_steady.specs.Selecting.{IsChoice, IsHolder, IsNextChoice, IsPhaseOf};
     ghost use Rattle.onfi_flight.specs.Flight.{luns_ready_by};
 
@@ -110,11 +99,12 @@ impl Dispatcher {
                 lun: 0,
                 luns,
             },
-            lun: [LunBooks::new(&rules, &spans); 8],
+            lun: [LunBooks::new(&spans); 8],
         }
     }
 
-    /// Of a channel whose bus is free from then on, in ns, and whose LUNs do that; nothing waits.
+    /// Of a channel whose bus is free from then on, in ns, and whose LUNs do that; nothing waits. [`Dispatcher::begin`] makes it
+    /// where one stands, and takes less stack.
     pub fn with_luns(timing: &Timing, rules: Rules, bus_free: u64, luns: &[LunState]) -> Dispatcher
         requires some { 1 ≤ length luns.now }
         requires few { length luns.now ≤ 8 }
@@ -124,24 +114,36 @@ impl Dispatcher {
         ensures bus_free { result.bus_free ≡ bus_free }
         ensures over { has_due result ≡ false }
     {
-        let spans = KindSpans::of(timing);
-        Dispatcher {
-            rules,
-            spans,
-            bus_free,
-            newest: Newest {
-                number: 0,
-                is_there: false,
-            },
-            due: DuePhase {
-                start: 0,
-                is_there: false,
-                erase: false,
-                lun: 0,
-                luns: luns.len() as u8,
-            },
-            lun: books_of(&rules, &spans, luns),
-        }
+        let mut dispatcher = Dispatcher::new(timing, rules, 1);
+        dispatcher.begin(timing, rules, bus_free, luns);
+        dispatcher
+    }
+
+    /// Begins anew with a channel whose bus is free from then on, in ns, and whose LUNs do that; nothing waits.
+    pub fn begin(&mut self, timing: &Timing, rules: Rules, bus_free: u64, luns: &[LunState])
+        requires some { 1 ≤ length luns.now }
+        requires few { length luns.now ≤ 8 }
+        requires left { Each HasPhaseLeft luns.now }
+        ensures is { IsOf timing.now (record { rules = rules; waiting = []; newest = None }) self.new }
+        ensures states { states_of self.new ≡ luns.now }
+        ensures bus_free { self.new.bus_free ≡ bus_free }
+        ensures over { has_due self.new ≡ false }
+    {
+        self.spans = KindSpans::of(timing);
+        self.rules = rules;
+        self.bus_free = bus_free;
+        self.newest = Newest {
+            number: 0,
+            is_there: false,
+        };
+        self.due = DuePhase {
+            start: 0,
+            is_there: false,
+            erase: false,
+            lun: 0,
+            luns: luns.len() as u8,
+        };
+        begin_luns(&mut self.lun, &self.spans, luns);
     }
 
     /// Whether its counts are in their ranges. They are, unless something else wrote its memory.
@@ -171,10 +173,11 @@ impl Dispatcher {
     ///
     /// # Errors
     /// `BadLun` where the channel has no such LUN; else `Full` where 64 requests wait for it; else `BadOrder` where its number
-    /// isn't above that of the last of these. Nothing is changed then.
+    /// isn't above that of the last of these; else `Waits` where one of that number waits before it. Nothing is changed then.
     pub fn accept(&mut self, want: Want) -> Result<(), AcceptFault>
         requires plane { want.plane ≤ 3 }
         ensures accepted { (timing : AnyTiming) (books : Books) → IsOf timing books self.old → IfOk result (λ _. IsOf timing (accepted books want) self.new) }
+        ensures distinct { (timing : AnyTiming) (books : Books) → IsOf timing books self.old → IfOk result (λ _. AreDistinct (accepted books want)) }
         ensures over { IfOk result (λ _. has_due self.new ≡ false) }
         ensures refused { MatchResult result (λ _. accept_refusal self.old want ≡ None) (λ fault. accept_refusal self.old want ≡ Some fault) }
         ensures states { states_of self.new ≡ states_of self.old }
@@ -213,8 +216,18 @@ impl Dispatcher {
         self.lun[usize::from(want.lun)].accept(&self.rules, &self.spans, want);
     }
 
-    /// The phase that is next where it is `now`, in ns: what goes first of that which LUNs give, as [`next_phase`](crate::next_phase)
-    /// says it. None only where nothing runs and nothing waits. Nothing is due for it: [`Dispatcher::next`] is for what is to run.
+    /// The phase that is next where it is `now`, in ns: of what LUNs give the one that goes first. None only where nothing runs and
+    /// nothing waits. Nothing is due for it: [`Dispatcher::next`] is for what is to run.
+    ///
+    /// A LUN that runs a group goes on with it. Another one begins the oldest of its requests that is due, else its oldest read,
+    /// else its oldest program, else its oldest erase, each the first on its block, with the mates that may join it. A request is
+    /// due once 128 groups with a later one began on its LUN, an erase once 512 did. A group of programs that lacks its last plane
+    /// waits for mates while it holds the newest accepted program and a LUN has work; its LUN begins its oldest erase meanwhile.
+    ///
+    /// Of these phases the one goes that may start soonest; of equals what goes on with its commands, then a status, a read's
+    /// command, an erase's command, a data output, a program's data; then what begins the larger group, then the one with the
+    /// older request. But a command of a group that is in its commands, and may start within the gap, keeps the bus: before it
+    /// goes only what ends by then. Where nothing runs and each group waits for mates, that of the lowest LUN begins.
     pub fn look(&self, now: u64) -> Option<NextPhase>
         ensures next { (timing : AnyTiming) (books : Books) → IsOf timing books self.now
             → MatchOption result (IsIdle (channel timing (max self.now.bus_free now) (states_of self.now) books)) (IsNextPhase books (channel timing (max self.now.bus_free now) (states_of self.now) books)) }
@@ -327,6 +340,7 @@ impl Dispatcher {
     pub fn accept_again(&mut self, want: Want) -> Result<(), AcceptFault>
         requires plane { want.plane ≤ 3 }
         ensures accepted { (timing : AnyTiming) (books : Books) → IsOf timing books self.old → IfOk result (λ _. IsOf timing (accepted_again books want) self.new) }
+        ensures distinct { (timing : AnyTiming) (books : Books) → IsOf timing books self.old → IfOk result (λ _. AreDistinct (accepted_again books want)) }
         ensures over { IfOk result (λ _. has_due self.new ≡ false) }
         ensures first { (books : Books) → StandsFirst (accepted_again books want) want }
         ensures refused { MatchResult result (λ _. again_refusal self.old want ≡ None) (λ fault. again_refusal self.old want ≡ Some fault) }

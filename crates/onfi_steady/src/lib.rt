@@ -16,13 +16,11 @@ mod group_phase;
 mod group_spans;
 mod kind_spans;
 mod laws;
-mod left;
 mod line;
 mod line_left;
 mod lun_books;
 mod newest;
 mod next;
-mod next_turn;
 mod offer;
 mod own;
 mod planning;
@@ -31,7 +29,6 @@ mod run;
 mod slot;
 mod turn;
 mod waiter;
-mod waiting;
 
 pub use dispatch::run_by_rule;
 pub use dispatcher::Dispatcher;
@@ -42,7 +39,6 @@ pub use laws::{
     channel_follows_phase, channel_follows_request, none_starves, one_phase_is_next,
     ready_by_states, rising_requests_are_accepted, running_is_fair,
 };
-pub use next::{NextPhase, next_phase, next_phase_of};
+pub use next::NextPhase;
 pub use planning::plan_by_rule;
 pub use waiter::Waiter;
-pub use waiting::{Full, Waiting};

@@ -1,5 +1,5 @@
 //! What a LUN does, what waits for it, and what it would begin.
-ghost use Rattle.std.specs.Prelude.{◌≡◌, ℕ, ◌+◌, ◌*◌, ◌<◌, ◌≤◌, ◌^◌, ◌∷◌, ◌++◌, [], IfSome, IsSome, List, length, true};
+ghost use Rattle.std.specs.Prelude.{◌≡◌, ℕ, ◌+◌, ◌*◌, ◌<◌, ◌≤◌, ◌^◌, ◌∷◌, ◌++◌, if◌then◌else◌, [], IfSome, IsSome, List, length, true};
 ghost use Rattle.std.specs.List.{list_any};
 ghost use Rattle.onfi_timing.specs.declared.kind.Kind.TheVariants.{Read};
 ghost use Rattle.onfi_timing.specs.declared.timing.Timing.{Timing as AnyTiming};
@@ -7,7 +7,7 @@ ghost use Rattle.onfi_request.specs.declared.want.Want.{Want as AnyWant};
 ghost use Rattle.onfi_problem.specs.declared.lun_state.LunState.TheVariants.{Free};
 ghost use Rattle.onfi_group.specs.declared.rules.Rules.{Rules as AnyRules};
 ghost use Rattle.onfi_steady.specs.declared.waiter.Waiter.{Waiter as AnyWaiter};
-ghost use Rattle.onfi_steady.specs.Offer.{firsts, is_kind};
+ghost use Rattle.onfi_steady.specs.Offer.{erase_group, firsts, is_kind};
 ghost use Rattle.onfi_steady.specs.Slots.{AreSpansOf, IsBegin, others_of, slots_in, waiters_in, wants_in};
 ghost use Rattle.onfi_steady.specs.LunBooks.{HasBegun, HasGoneOn, HasPhaseLeft, IsGroupPhase, IsLun, IsLunOffer, begin_of, runs, state_in};
 ghost use Rattle.onfi_steady.specs.Selecting.{begun_on, can_run};
@@ -40,7 +40,7 @@ const SHORT: usize = 16;
 pub struct LunOffer {
     /// The request that the LUN turns to, with its mates.
     pub group: Begin,
-    /// The oldest erase, with its mates.
+    /// Where more mates may come, the oldest erase, with its mates; else nothing.
     pub erase: Begin,
     /// Whether more mates may come.
     pub is_open: bool,
@@ -49,6 +49,18 @@ pub struct LunOffer {
 }
 
 impl LunOffer {
+    /// That of a LUN for which nothing waits.
+    pub fn none(spans: &KindSpans) -> LunOffer
+        ensures { (timing : AnyTiming) (rules : AnyRules) → AreSpansOf timing spans.now → IsLunOffer timing rules [] result }
+    {
+        LunOffer {
+            group: Begin::none(spans),
+            erase: Begin::none(spans),
+            is_open: false,
+            reads: false,
+        }
+    }
+
     /// That of what waits, oldest first.
     pub fn of(rules: &Rules, spans: &KindSpans, waiting: &[Slot]) -> LunOffer
         requires { length waiting.now ≤ 64 }
@@ -79,11 +91,11 @@ impl LunOffer {
     {
         let head = pick_request(ready);
         let group = group_with(rules, ready, head);
-        let erase = group_with(rules, ready, oldest_of(ready, Kind::Erase));
+        let is_open = may_grow(rules, head, group.as_slice());
         LunOffer {
             group: Begin::of(spans, group.as_slice()),
-            erase: Begin::of(spans, erase.as_slice()),
-            is_open: may_grow(rules, head, group.as_slice()),
+            erase: begin_erase(rules, spans, ready, is_open),
+            is_open,
             reads,
         }
     }
@@ -94,6 +106,17 @@ impl LunOffer {
     {
         if erase { &self.erase } else { &self.group }
     }
+}
+
+// The group of the oldest erase, where it is asked for.
+fn begin_erase(rules: &Rules, spans: &KindSpans, ready: &[Waiter], is_asked: bool) -> Begin
+    ensures { (timing : AnyTiming) → AreSpansOf timing spans.now → IsBegin timing (if is_asked then erase_group rules.now ready.now else []) result }
+{
+    if !is_asked {
+        return Begin::none(spans);
+    }
+    let erase = group_with(rules, ready, oldest_of(ready, Kind::Erase));
+    Begin::of(spans, erase.as_slice())
 }
 
 /// A LUN: what it runs, what waits for it, and, where it runs nothing, what it would begin.
@@ -107,30 +130,28 @@ pub struct LunBooks {
 
 impl LunBooks {
     /// It runs nothing from time 0 on, and nothing waits.
-    pub fn new(rules: &Rules, spans: &KindSpans) -> LunBooks
+    pub fn new(spans: &KindSpans) -> LunBooks
         ensures state { state_in result.run ≡ Free 0 }
         ensures line { slots_in result.line ≡ [] }
-        ensures lun { (timing : AnyTiming) → AreSpansOf timing spans.now → IsLun timing rules.now result }
+        ensures lun { (timing : AnyTiming) (rules : AnyRules) → AreSpansOf timing spans.now → IsLun timing rules result }
     {
         LunBooks {
             run: Run::free(0),
             line: Line::new(),
-            offer: LunOffer::of(rules, spans, &[]),
+            offer: LunOffer::none(spans),
         }
     }
 
-    /// It does that, and nothing waits.
-    pub fn with_state(rules: &Rules, spans: &KindSpans, state: &LunState) -> LunBooks
+    /// It does that from now on, and nothing waits.
+    pub fn begin(&mut self, spans: &KindSpans, state: &LunState)
         requires { HasPhaseLeft state.now }
-        ensures state { state_in result.run ≡ state.now }
-        ensures line { slots_in result.line ≡ [] }
-        ensures lun { (timing : AnyTiming) → AreSpansOf timing spans.now → IsLun timing rules.now result }
+        ensures state { state_in self.new.run ≡ state.now }
+        ensures line { slots_in self.new.line ≡ [] }
+        ensures lun { (timing : AnyTiming) (rules : AnyRules) → AreSpansOf timing spans.now → IsLun timing rules self.new }
     {
-        LunBooks {
-            run: Run::with_state(spans, state),
-            line: Line::new(),
-            offer: LunOffer::of(rules, spans, &[]),
-        }
+        self.run = Run::with_state(spans, state);
+        self.line.clear();
+        self.offer = LunOffer::none(spans);
     }
 
     /// Whether its counts are in their ranges. They are, unless something else wrote its memory.
@@ -164,13 +185,10 @@ impl LunBooks {
     pub fn refusal(&self, id: u64) -> Option<AcceptFault>
         ensures { result ≡ lun_refusal self.now id }
     {
-        if self.line.is_full() {
-            return Some(AcceptFault::Full);
-        }
-        if !self.line.is_below(id) {
+        if !self.line.is_below(id) && !self.line.is_full() {
             return Some(AcceptFault::BadOrder);
         }
-        None
+        self.head_refusal(id)
     }
 
     /// Why no request of that number may wait before the others, if so.

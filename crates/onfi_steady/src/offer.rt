@@ -1,107 +1,17 @@
-//! The group that a LUN would begin, of what waits for it.
+//! The group that a LUN would begin, of its requests that may begin.
 
 ghost use Rattle.std.specs.Prelude.{◌≡◌, ℕ, ◌≤◌, ◌<◌, ◌+◌, ◌++◌, [], true, length, slice_get, IfSome};
 ghost use Rattle.std.specs.List.{find, list_any, cons_option};
 ghost use Rattle.onfi_timing.specs.declared.kind.Kind.{Kind as AnyKind};
 ghost use Rattle.onfi_group.specs.Group.{may_group};
-ghost use Rattle.onfi_steady.specs.Kept.{IsNothing, IsOfferOn};
-ghost use Rattle.onfi_steady.specs.Offer.{IsOffer, erase_group, turned_to, group_with, goes_with, is_mate, is_on_last_plane, is_same_page, is_same_row, is_due as is_due_waiter, is_kind as is_kind_of, may_grow, member_on};
+ghost use Rattle.onfi_steady.specs.Offer.{turned_to, group_with, goes_with, is_mate, is_on_last_plane, is_same_page, is_same_row, is_due as is_due_waiter, is_kind as is_kind_of, may_grow, member_on};
 
 use crate::own::operation_rank;
-use crate::ready::list_ready;
 use crate::waiter::Waiter;
 use arrayvec::ArrayVec;
 use onfi_group::Rules;
-use onfi_problem::LunState;
 use onfi_request::Want;
 use onfi_timing::{Kind, Operation};
-
-/// What a LUN would begin; a list without members begins nothing.
-#[derive(Drop)]
-pub struct Offer {
-    /// The request that the LUN turns to, with its mates.
-    pub group: ArrayVec<Want, 4>,
-    /// Whether more mates may come: these are programs, and the last plane has none.
-    pub is_open: bool,
-    /// Where it is open, the oldest erase, with its mates.
-    pub erase: ArrayVec<Want, 4>,
-    /// Whether a read waits.
-    pub reads: bool,
-}
-
-impl Offer {
-    /// Nothing.
-    pub fn none() -> Offer {
-        Offer {
-            group: ArrayVec::new(),
-            is_open: false,
-            erase: ArrayVec::new(),
-            reads: false,
-        }
-    }
-
-    /// What a LUN would begin.
-    pub fn of(rules: &Rules, waiting: &[Waiter], lun: u8) -> Offer
-        requires { length waiting.now ≤ 64 }
-        ensures { IsOffer rules.now waiting.now lun result }
-    {
-        let mut ready = ArrayVec::new();
-        let reads = list_ready(&mut ready, waiting, lun);
-        let head = pick_request(ready.as_slice());
-        let group = group_with(rules, ready.as_slice(), head);
-        let is_open = may_grow(rules, head, group.as_slice());
-        let erase = erase_group(rules, ready.as_slice(), is_open);
-        Offer {
-            group,
-            is_open,
-            erase,
-            reads,
-        }
-    }
-}
-
-/// What each of eight LUNs would begin that runs nothing; nothing of the others.
-pub fn offers_of(rules: &Rules, luns: &[LunState], waiting: &[Waiter]) -> [Offer; 8]
-    requires { length waiting.now ≤ 64 }
-    ensures length { length result ≡ 8 }
-    ensures offers { (lun : ℕ) → IfSome (slice_get result lun) (IsOfferOn rules.now waiting.now luns.now lun) }
-{
-    [
-        offer_on(rules, luns, waiting, 0),
-        offer_on(rules, luns, waiting, 1),
-        offer_on(rules, luns, waiting, 2),
-        offer_on(rules, luns, waiting, 3),
-        offer_on(rules, luns, waiting, 4),
-        offer_on(rules, luns, waiting, 5),
-        offer_on(rules, luns, waiting, 6),
-        offer_on(rules, luns, waiting, 7),
-    ]
-}
-
-// What a LUN would begin, if it runs nothing.
-fn offer_on(rules: &Rules, luns: &[LunState], waiting: &[Waiter], lun: u8) -> Offer
-    requires { length waiting.now ≤ 64 }
-    ensures { IsOfferOn rules.now waiting.now luns.now lun result }
-{
-    let Some(state) = luns.get(usize::from(lun)) else {
-        return Offer::none();
-    };
-    match state {
-        LunState::Free { .. } => Offer::of(rules, waiting, lun),
-        LunState::Running { .. } => Offer::none(),
-    }
-}
-
-// The group of the oldest erase, where it is asked for.
-fn erase_group(rules: &Rules, ready: &[Waiter], is_asked: bool) -> ArrayVec<Want, 4>
-    ensures { is_asked ≡ true → result.items ≡ erase_group rules.now ready.now }
-{
-    if is_asked {
-        group_with(rules, ready, oldest_of(ready, Kind::Erase))
-    } else {
-        ArrayVec::new()
-    }
-}
 
 /// The request that a LUN turns to, of those that may begin.
 pub fn pick_request(ready: &[Waiter]) -> Option<Waiter>

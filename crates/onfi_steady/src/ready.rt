@@ -4,8 +4,8 @@ ghost use Rattle.std.specs.Prelude.{◌≡◌, ◌+◌, ◌<◌, ◌≤◌, [], 
 ghost use Rattle.std.specs.List.{list_any};
 ghost use Rattle.onfi_timing.specs.declared.kind.Kind.TheVariants.{Read};
 ghost use Rattle.onfi_group.specs.Group.{on_block};
-ghost use Rattle.onfi_steady.specs.Offer.{firsts, is_kind, on_lun, ready_on};
-ghost use Rattle.onfi_steady.specs.Kept.{firsts_with, is_read_on, ready_with};
+ghost use Rattle.onfi_steady.specs.Offer.{firsts, is_kind};
+ghost use Rattle.onfi_steady.specs.Kept.{firsts_with};
 ghost use Rattle.onfi_steady.specs.Slots.{waiters_in};
 
 use crate::slot::Slot;
@@ -13,39 +13,6 @@ use crate::waiter::Waiter;
 use arrayvec::ArrayVec;
 use onfi_request::Want;
 use onfi_timing::Kind;
-
-/// Puts the requests of a LUN that may begin, oldest first, into the empty list: each the first on its block. Answers whether
-/// a read waits for the LUN, be it ready or not.
-pub fn list_ready(ready: &mut ArrayVec<Waiter, 64>, waiting: &[Waiter], lun: u8) -> bool
-    requires none { ready.old.items ≡ [] }
-    requires few { length waiting.now ≤ 64 }
-    ensures ready { ready.new.items ≡ ready_on lun waiting.now }
-    ensures reads { result ≡ list_any (is_kind Read) (on_lun lun waiting.now) }
-{
-    let mut reads = false;
-    for waiter in waiting {
-        if put(ready, lun, waiter) {
-            reads = true;
-        }
-    }
-    reads
-}
-
-// Appends one to the others, where it is of the LUN and none of them is on its block. Answers whether it is a read of it.
-fn put(ready: &mut ArrayVec<Waiter, 64>, lun: u8, waiter: &Waiter) -> bool
-    requires { length ready.old.items < 64 }
-    ensures items { ready.new.items ≡ ready_with lun ready.old.items waiter.now }
-    ensures few { length ready.new.items ≤ length ready.old.items + 1 }
-    ensures read { result ≡ is_read_on lun waiter.now }
-{
-    if waiter.want.lun != lun {
-        return false;
-    }
-    if !has_block(ready.as_slice(), &waiter.want) {
-        ready.push(*waiter);
-    }
-    waiter.is_kind(Kind::Read)
-}
 
 /// Puts those of a LUN's requests that may begin, oldest first, into the empty list. Answers whether a read waits, be it ready
 /// or not.

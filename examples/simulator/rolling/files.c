@@ -93,6 +93,7 @@ static bool put_shape(const row *row, setup *setup)
     if (!put_fields(row, 1, 4, ONFI_LUNS, number) || !number[0] || number[1] > 2 || number[2] > 1 || number[3] > 1)
         return false;
     setup->luns = (unsigned)number[0];
+    setup->channel.lun_count = (uint8_t)number[0];
     setup->channel.rules.plane_bits = (uint8_t)number[1];
     setup->channel.rules.read = number[2];
     setup->channel.rules.write = number[3];
@@ -115,7 +116,7 @@ static bool put_sectors(const row *row, setup *setup)
     uint64_t number[2];
     if (!put_fields(row, 1, 2, MOST_LENGTH, number) || !number[0] || number[0] > ONFI_SECTORS || !number[1])
         return false;
-    setup->lengths.sectors[number[0] - 1] = number[1];
+    setup->channel.lengths.sectors[number[0] - 1] = number[1];
     return true;
 }
 
@@ -145,7 +146,6 @@ const char *read_device(FILE *file, setup *setup, uint64_t *line)
     row row;
     *line = 0;
     memset(&setup->channel, 0, sizeof setup->channel);
-    memset(&setup->lengths, 0, sizeof setup->lengths);
     setup->luns = 0;
     while (read_row(file, &row, line) && strcmp(row.field[0], "end"))
         if (!put_device_row(&row, setup))
@@ -179,7 +179,7 @@ static const char *put_request(const row *row, const setup *setup, uint64_t line
         return "an erase of another page than 0";
     if (!sectors[1])
         return NULL;
-    if (made->want.kind != ONFI_READ || sectors[1] > ONFI_SECTORS || !setup->lengths.sectors[sectors[1] - 1])
+    if (made->want.kind != ONFI_READ || sectors[1] > ONFI_SECTORS || !setup->channel.lengths.sectors[sectors[1] - 1])
         return "sectors of what is no read, or so many that the device states no length of them";
     made->want.kind = ONFI_KIND(ONFI_READ, sectors[1]);
     return NULL;

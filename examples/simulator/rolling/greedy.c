@@ -41,7 +41,7 @@ bool by_rule(const way *way, mind *mind, const machine *m, const batch *batch, s
     said s;
     candidate best;
     say(m, batch->place, batch->count, &s);
-    if (!find_next(&s.channel, s.lun, m->setup->luns, s.want, batch->count, way->rule, mind->turn, &best))
+    if (!find_next(&s.channel, s.want, batch->count, way->rule, mind->turn, &best))
         return false;
     step->start = best.start;
     step->lun = best.lun;

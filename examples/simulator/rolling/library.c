@@ -1,47 +1,14 @@
 /* Ways by the library's calls: plans, and phase by phase as a firmware has it, by a dispatcher. */
 #include "rolling.h"
 
-/* The same to calls that take no lengths of sectors: all reads are pages, as long as the shortest; a longer one makes what follows late. */
-static void make_pages(said *s, size_t wants)
-{
-    s->channel.timing.read.post = s->setup->shortest;
-    for (size_t at = 0; at < wants; at++)
-        s->want[at].kind = operation_of(s->want[at].kind);
-    for (unsigned lun = 0; lun < s->setup->luns; lun++)
-        for (unsigned at = 0; at < s->lun[lun].members; at++)
-            s->lun[lun].member[at].kind = operation_of(s->lun[lun].member[at].kind);
-}
-
-uint32_t plan_known(const problem *problem, uint32_t limit, onfi_planned *plan)
-{
-    uint8_t no_room;
-    size_t bytes;
-    said now = problem->now;
-    make_pages(&now, problem->wants);
-    return onfi_plan_known(&now.channel, now.lun, problem->luns, now.want, problem->wants, limit, plan, &no_room, 0, &bytes);
-}
-
-uint32_t plan_rule(const problem *problem, uint32_t limit, onfi_planned *plan)
-{
-    onfi_within within;
-    uint8_t no_room;
-    size_t bytes;
-    (void)limit;
-    const said *now = &problem->now;
-    uint32_t status = onfi_plan_rule_by(&now->setup->lengths, &now->channel, now->lun, problem->luns, now->want, problem->wants, &within, &no_room, 0, &bytes);
-    if (status == ONFI_DONE)
-        *plan = (onfi_planned){.schedule = within.schedule, .finish = within.finish};
-    return status;
-}
-
 /* The mean age of all requests of a problem, at least 1. */
 static double mean_age(const problem *problem)
 {
     double sum = 0, count = 0;
     for (size_t at = 0; at < problem->wants; at++, count++)
         sum += (double)problem->age[at];
-    for (unsigned lun = 0; lun < problem->luns; lun++)
-        for (unsigned at = 0; at < problem->now.lun[lun].members; at++, count++)
+    for (unsigned lun = 0; lun < problem->now.channel.lun_count; lun++)
+        for (unsigned at = 0; at < problem->now.channel.lun[lun].members; at++, count++)
             sum += (double)problem->member_age[lun][at];
     return sum > count ? sum / count : 1;
 }
@@ -65,19 +32,37 @@ static onfi_weights weights_by_age(const problem *problem)
     return made;
 }
 
-/* The plan gives no nodes, since a plan at any limit doesn't. */
+/* Nobody reads the certificate here, so it has no room. */
+static uint32_t plan_by(const problem *problem, const onfi_options *options, onfi_planned *plan)
+{
+    size_t bytes;
+    return onfi_plan(&problem->now.channel, problem->now.want, problem->wants, options, plan, NULL, 0, &bytes);
+}
+
+uint32_t plan_within(const problem *problem, uint32_t limit, onfi_planned *plan)
+{
+    onfi_options options = ONFI_OPTIONS;
+    options.by = ONFI_WITHIN;
+    options.limit = limit;
+    return plan_by(problem, &options, plan);
+}
+
+uint32_t plan_rule(const problem *problem, uint32_t limit, onfi_planned *plan)
+{
+    onfi_options options = ONFI_OPTIONS;
+    options.by = ONFI_RULE;
+    options.limit = limit;
+    return plan_by(problem, &options, plan);
+}
+
 uint32_t plan_early_by_age(const problem *problem, uint32_t limit, onfi_planned *plan)
 {
-    onfi_within within;
-    uint8_t no_room;
-    size_t bytes;
-    const said *now = &problem->now;
-    onfi_weights weights = weights_by_age(problem);
-    uint32_t status = onfi_plan_early_by(&now->setup->lengths, &now->channel, now->lun, problem->luns, now->want, problem->wants, limit, &weights,
-                                         problem->slack, &within, &no_room, 0, &bytes);
-    if (status == ONFI_DONE)
-        *plan = (onfi_planned){.schedule = within.schedule, .finish = within.finish};
-    return status;
+    onfi_options options = ONFI_OPTIONS;
+    options.by = ONFI_WITHIN;
+    options.limit = limit;
+    options.early = true;
+    options.weights = weights_by_age(problem);
+    return plan_by(problem, &options, plan);
 }
 
 /* At least as large as each device that is simulated. */
@@ -94,12 +79,11 @@ static onfi_geometry geometry_of(const setup *setup)
 
 static uint32_t begin(mind *mind, const setup *setup)
 {
-    const onfi_lun idle[ONFI_LUNS] = {{0}};
     onfi_geometry geometry = geometry_of(setup);
     if (mind->has_begun)
         return ONFI_DONE;
     mind->has_begun = true;
-    return onfi_dispatcher_begin(&mind->dispatcher, &setup->lengths, &setup->channel, idle, setup->luns, &geometry);
+    return onfi_dispatcher_begin(&mind->dispatcher, &setup->channel, &geometry);
 }
 
 /* Gives the library what has come, as far as it has room for what waits of a LUN. */

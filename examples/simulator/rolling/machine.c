@@ -80,11 +80,10 @@ static onfi_lun lun_of(const lun_state *lun)
 
 void say(const machine *m, const size_t *place, size_t count, said *said)
 {
-    said->setup = m->setup;
     said->channel = m->setup->channel;
     said->channel.bus_free = later_of(m->now, m->bus_free);
     for (unsigned at = 0; at < m->setup->luns; at++)
-        said->lun[at] = lun_of(&m->lun[at]);
+        said->channel.lun[at] = lun_of(&m->lun[at]);
     for (size_t at = 0; at < count; at++)
         said->want[at] = m->waiting[place ? place[at] : at].want;
 }

@@ -33,7 +33,6 @@ static const char HELP[] =
     "  requests  answered before it ends, 1 to 10,000,000      2000; those of a file are all answered\n"
     "  seed      of all that is random                         1\n"
     "  limit     nodes that a search may open                  100000\n"
-    "  slack     thousandths that an early plan ends later     those of its way\n"
     "  print     figures; phases: each phase as a line of      figures\n"
     "            `onfi_sim plan --requests`, times in ns,\n"
     "            which tools/draw-trace draws; answers:\n"
@@ -114,8 +113,6 @@ static bool put_setup(const char *name, const char *value, setup *setup)
         setup->seed = count;
     else if (!strcmp(name, "limit") && (is_read = put_count(value, ONFI_NODES, &count)))
         setup->limit = (uint32_t)count;
-    else if (!strcmp(name, "slack") && (is_read = !strcmp(value, "0") || put_count(value, 1000, &count)))
-        setup->slack = (uint16_t)count;
     return is_read;
 }
 
@@ -214,7 +211,6 @@ static words usual_words(void)
     words.setup.requests = 2000;
     words.setup.seed = 1;
     words.setup.limit = 100000;
-    words.setup.slack = OF_THE_WAY;
     return words;
 }
 

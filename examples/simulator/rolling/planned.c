@@ -12,9 +12,9 @@ static void put_ages(const machine *m, unsigned lun, uint64_t *age)
 }
 
 /* The batch as the library takes it, planned from now on. */
-static problem problem_of(const machine *m, const batch *batch, uint16_t slack)
+static problem problem_of(const machine *m, const batch *batch)
 {
-    problem made = {.luns = m->setup->luns, .wants = batch->count, .slack = slack};
+    problem made = {.wants = batch->count};
     say(m, batch->place, batch->count, &made.now);
     for (unsigned lun = 0; lun < m->setup->luns; lun++)
         put_ages(m, lun, made.member_age[lun]);
@@ -55,33 +55,31 @@ static void put_steps(const problem *problem, const onfi_schedule *schedule, pla
     qsort(plan->step, plan->steps, sizeof *plan->step, by_start);
 }
 
-/* Notes how much processor time a plan took since `begun`. */
-static void note_plan(costs *planning, clock_t begun, uint32_t status, const onfi_planned *planned)
+/* Notes how much processor time a plan took since `begun`, and of a way that asks for the best plans whether its search was cut. */
+static void note_plan(costs *planning, clock_t begun, uint32_t status, const onfi_planned *planned, bool is_exact)
 {
     double seconds = (double)(clock() - begun) / CLOCKS_PER_SEC;
     planning->plans++;
     planning->seconds += seconds;
     planning->longest = seconds > planning->longest ? seconds : planning->longest;
-    planning->over += status == ONFI_OVER;
+    planning->over += status == ONFI_DONE && is_exact && planned->below < planned->finish;
     planning->nodes += status == ONFI_DONE ? planned->opened : 0;
 }
 
 static bool make_plan(const way *way, mind *mind, const machine *m, const batch *batch)
 {
-    problem problem = problem_of(m, batch, m->setup->slack == OF_THE_WAY ? way->slack : m->setup->slack);
+    problem problem = problem_of(m, batch);
     onfi_planned planned;
     clock_t begun = clock();
     uint32_t status = way->planner(&problem, m->setup->limit, &planned);
-    note_plan(&mind->planning, begun, status, &planned);
+    note_plan(&mind->planning, begun, status, &planned, way->planner == plan_within);
     mind->told = false;
     mind->plan.wants = problem.wants;
     for (size_t at = 0; at < problem.wants; at++)
         mind->plan.want[at] = problem.now.want[at].id;
-    mind->plan.over = status == ONFI_OVER;
     if (status == ONFI_DONE)
         put_steps(&problem, &planned.schedule, &mind->plan);
-    else if (status != ONFI_OVER)
-        mind->refused = status;
+    mind->refused = status;
     return !mind->refused;
 }
 
@@ -106,8 +104,6 @@ bool by_plan(const way *way, mind *mind, const machine *m, const batch *batch, s
 {
     if ((mind->told || is_new(&mind->plan, m, batch)) && !make_plan(way, mind, m, batch))
         return false;
-    if (mind->plan.over)
-        return by_rule(way, mind, m, batch, step);
     if (mind->plan.at == mind->plan.steps)
         return false;
     *step = mind->plan.step[mind->plan.at];

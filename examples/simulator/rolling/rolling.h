@@ -25,7 +25,7 @@
 /* Times are below this. */
 #define TIMES (UINT64_C(1) << 62)
 
-enum { OF_THE_WAY = UINT16_MAX, PLAN_STEPS = ONFI_LUNS * ONFI_STARTS + 2 * ONFI_WANTS };
+enum { PLAN_STEPS = ONFI_LUNS * ONFI_STARTS + 2 * ONFI_WANTS };
 
 /* What is simulated. */
 
@@ -42,8 +42,7 @@ typedef struct {
 } load;
 
 typedef struct {
-    onfi_channel channel; /* its timing is what is stated, of whole pages; its bus_free isn't looked at */
-    onfi_lengths lengths; /* of reads of some sectors */
+    onfi_channel channel; /* its timing and lengths are what is stated; its bus and LUNs aren't looked at */
     uint64_t shortest; /* the post of the shortest read of all */
     unsigned luns, workload;
     load own; /* requests of a file; where there are none, by the workload */
@@ -55,7 +54,6 @@ typedef struct {
     size_t requests; /* how many are answered before it ends; the first tenth isn't measured, but of a file all are */
     uint64_t seed;
     uint32_t limit; /* of nodes in a search */
-    uint16_t slack; /* by how many thousandths plans in which requests end early may end later; OF_THE_WAY: as its way says */
 } setup;
 
 /* read, program, erase. */
@@ -70,7 +68,7 @@ const char *read_device(FILE *file, setup *setup, uint64_t *line);
 const char *read_load(FILE *file, setup *setup, uint64_t *line);
 /* How long the phases of a request take. */
 onfi_spans lengths_for(const setup *setup, const onfi_want *want);
-/* The channel to calls that take no lengths of sectors: all reads count as long as the shortest. */
+/* The channel to what knows no lengths of sectors: all reads count as long as the shortest. */
 onfi_channel channel_of_pages(const setup *setup);
 
 /* Where requests come from. */
@@ -155,9 +153,7 @@ uint64_t next_told(const machine *m);
 uint64_t real_array(const setup *setup, const onfi_want *first, uint64_t stated);
 /* The channel now, and requests that wait on it, as the library takes them. */
 typedef struct {
-    const setup *setup;
     onfi_channel channel;
-    onfi_lun lun[ONFI_LUNS];
     onfi_want want[MOST_WAITING];
 } said;
 
@@ -220,28 +216,25 @@ extern const rule ROUND_ROBIN, COMMANDS_FIRST, MQSIM;
 /* A problem as the library takes it. */
 typedef struct {
     said now;
-    size_t luns;
     uint64_t age[ONFI_WANTS]; /* since they arrived */
     uint64_t member_age[ONFI_LUNS][ONFI_MEMBERS]; /* those of running groups too */
     size_t wants;
-    uint16_t slack;
 } problem;
 
 /* Plans by at most `limit` nodes; gives an onfi_status. */
 typedef uint32_t planner(const problem *problem, uint32_t limit, onfi_planned *plan);
 
-planner plan_known, plan_early_by_age, plan_rule;
+planner plan_within, plan_early_by_age, plan_rule;
 
 typedef struct {
     step step[PLAN_STEPS]; /* in order of start */
     size_t steps, at; /* `at`: how many have run */
     uint64_t want[ONFI_WANTS]; /* the ids of what was planned */
     size_t wants;
-    bool over; /* the search was over: the rule decides until there is something new */
 } plan;
 
 typedef struct {
-    uint64_t plans, over, nodes;
+    uint64_t plans, over, nodes; /* `over`: plans whose search was cut before it showed that they are optimal */
     double seconds, longest; /* processor time of all plans, and of the longest */
 } costs;
 
@@ -255,7 +248,7 @@ typedef struct {
     onfi_dispatcher dispatcher;
     plan plan;
     costs planning;
-    uint32_t refused; /* the status of a call that failed otherwise than by being over */
+    uint32_t refused; /* the status of a call that failed */
 } mind;
 
 typedef struct way {
@@ -263,9 +256,8 @@ typedef struct way {
     choice *choose; /* which requests it looks at: `everything` where it looks at the machine itself */
     /* What has the bus next, and from when on; false where there is nothing to do. */
     bool (*decide)(const struct way *way, mind *mind, const machine *m, const batch *batch, step *step);
-    const rule *rule; /* of a greedy way, and of a planner that is over */
+    const rule *rule; /* of a greedy way */
     planner *planner;
-    uint16_t slack; /* of plans in which requests end early */
 } way;
 
 bool in_order(const way *way, mind *mind, const machine *m, const batch *batch, step *step);

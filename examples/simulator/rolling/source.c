@@ -9,9 +9,8 @@ bool put_device(const char *name, double byte, setup *setup)
     const device *device = device_of(name);
     if (!device)
         return false;
-    setup->channel = channel_of(device, byte);
-    setup->lengths = lengths_of(device, byte);
-    setup->shortest = channel_for(device, byte, setup->workload).timing.read.post;
+    setup->channel = channel_of(device, byte, setup->luns);
+    setup->shortest = channel_for(device, byte, setup->luns, setup->workload).timing.read.post;
     return true;
 }
 
@@ -30,7 +29,7 @@ onfi_spans lengths_for(const setup *setup, const onfi_want *want)
     unsigned sectors = want->kind >> 5;
     onfi_spans spans = *spans_of(&setup->channel.timing, operation_of(want->kind));
     if (sectors)
-        spans.post = setup->lengths.sectors[sectors - 1];
+        spans.post = setup->channel.lengths.sectors[sectors - 1];
     return spans;
 }
 

@@ -5,17 +5,17 @@
 
 /* Without the library (-DWITHOUT_LIBRARY) there are greedy ways alone. */
 static const way WAYS[] = {
-    {"fifo", everything, in_order, NULL, NULL, 0},
-    {"round-robin", first_eight, by_rule, &ROUND_ROBIN, NULL, 0},
-    {"commands-first", first_eight, by_rule, &COMMANDS_FIRST, NULL, 0},
-    {"mqsim", first_eight, by_rule, &MQSIM, NULL, 0},
-    {"rfirst:8", first_eight, by_rule, &READS_FIRST, NULL, 0},
-    {"rfirst:all", everything, by_rule, &READS_FIRST, NULL, 0},
+    {"fifo", everything, in_order, NULL, NULL},
+    {"round-robin", first_eight, by_rule, &ROUND_ROBIN, NULL},
+    {"commands-first", first_eight, by_rule, &COMMANDS_FIRST, NULL},
+    {"mqsim", first_eight, by_rule, &MQSIM, NULL},
+    {"rfirst:8", first_eight, by_rule, &READS_FIRST, NULL},
+    {"rfirst:all", everything, by_rule, &READS_FIRST, NULL},
 #ifndef WITHOUT_LIBRARY
-    {"steady", everything, phase_by_phase, NULL, NULL, 0},
-    {"rule", first_eight, by_plan, NULL, plan_rule, 0},
-    {"plan", first_eight, by_plan, &ROUND_ROBIN, plan_known, 0},
-    {"plan-early", first_eight, by_plan, &ROUND_ROBIN, plan_early_by_age, 0},
+    {"steady", everything, phase_by_phase, NULL, NULL},
+    {"rule", first_eight, by_plan, NULL, plan_rule},
+    {"plan", first_eight, by_plan, NULL, plan_within},
+    {"plan-early", first_eight, by_plan, NULL, plan_early_by_age},
 #endif
 };
 

@@ -6,35 +6,32 @@ From the seed (1) come two sets:
 
     small     N problems (500) of up to four requests on one to three LUNs, some of which run a group, with weights of 1 to 9. All orders
               of phases and all groups are tried, and the least cost of those that end in time is compared with that of
-              `plan --early --by within`
+              `plan --by within --early`
     worth     N scripts (1,000) of `tools/bench worth`, of eight requests that count alike: the mean end of a request in a plan by
-              `plan --by within`, and in one by `plan --early --by within`
+              `plan --by within`, and in one by `plan --by within --early`
 
-Each plan is given to the check of its kind. A refused plan, one that ends later than it did, one that costs more, and a cost below
-the least end the run with status 1.
+Each plan is given to its check. A refused plan, one that may end late, one that costs more than it did, and a cost below the least
+end the run with status 1.
 """
 
 import argparse
 import concurrent.futures
 import os
 import random
-from typing import Dict, List, NamedTuple, Tuple
+from typing import Dict, List, NamedTuple
 
 from onfi_tools import plans
-from onfi_tools.bench.runs import add_words, planned, quantile, table
+from onfi_tools.bench.runs import MOST, add_words, planned, quantile, table
 from onfi_tools.bench.worth import drawn_batch
 from onfi_tools.channel import Channel, Device, Group, Lun, idle
 from onfi_tools.device import KINDS
 from onfi_tools.drawn import MIX, any_lengths, drawn_wants
 
-WITHIN = ("--by", "within")
-
-
-def better(program: str, script: str, old: int) -> str:
-    """The text of a plan that is made better, and ended at `old` before."""
-    plan, finish, _ = planned(program, script, *WITHIN, "--early")
-    if finish > old:
-        raise ValueError(f"ends at {finish}, later than {old}\n{script}")
+def best(program: str, script: str, *options: str) -> str:
+    """The text of a plan that ends first."""
+    plan, finish, below = planned(program, script, "--by", "within", "--limit", str(MOST), *options)
+    if finish > below:
+        raise ValueError(f"ends at {finish}, after {below}\n{script}")
     return plan
 
 
@@ -62,8 +59,8 @@ def drawn_lun(rng: random.Random, device: Device) -> Lun:
 
 def measure_small(program: str, channel: Channel, weights: Dict[int, int]) -> Small:
     script = plans.weight_rows(weights) + channel.script()
-    plan, finish, _ = planned(program, script, *WITHIN)
-    made, least = better(program, script, finish), plans.least_cost(channel, weights, finish)
+    plan, made = best(program, script), best(program, script, "--early")
+    least = plans.least_cost(channel, weights, plans.finish_of(plan))
     cost, old = (plans.ends_of(channel, text).cost(weights) for text in (made, plan))
     if least is None or cost < least or cost > old:
         raise ValueError(f"costs {cost}, was {old}, and the least is {least}\n{script}{made[:2000]}")
@@ -84,24 +81,22 @@ def small_lines(asked: argparse.Namespace, pool: concurrent.futures.Executor) ->
     return [f"seed {asked.seed}, {asked.small:,} small problems, each against all its schedules", "", *table(columns, [row], 0)]
 
 
-def mean_ends(program: str, channel: Channel) -> Tuple[float, float]:
+def mean_ends(program: str, channel: Channel) -> List[float]:
     """The mean end of a request by the plan, and by the better one, in ns."""
     script = channel.script()
-    plan = planned(program, script, *WITHIN)
-    made = better(program, script, plan.finish)
-    return plans.ends_of(channel, plan.text).mean(), plans.ends_of(channel, made).mean()
+    return [plans.ends_of(channel, text).mean() for text in (best(program, script), best(program, script, "--early"))]
 
 
 def worth_lines(asked: argparse.Namespace, pool: concurrent.futures.Executor) -> List[str]:
     rng = random.Random(asked.seed)
     batches = [drawn_batch(rng) for _ in range(asked.scripts)]
     found = list(pool.map(lambda batch: mean_ends(asked.program, idle(batch.device, batch.wants)), batches))
-    saved = [100 * (1 - made / plan) for plan, made in found]
-    together = 100 * (1 - sum(made for _, made in found) / sum(plan for plan, _ in found))
-    row = [f"{cell:.1f} %" for cell in (together, quantile(saved, 0.5), quantile(saved, 0.9), max(saved))]
+    saved = [100 * (1 - early / plain) for plain, early in found]
+    together = 100 * (1 - sum(early for _, early in found) / sum(plain for plain, _ in found))
+    rows = [[f"{cell:.1f} %" for cell in (together, quantile(saved, 0.5), quantile(saved, 0.9), max(saved))]]
     columns = ["all together", "of a script: median", "nine of ten at most", "most"]
     return [f"seed {asked.seed}, {asked.scripts:,} scripts of `tools/bench worth`: how much sooner a request ends in the mean", "",
-            *table(columns, [row], 0)]
+            *table(columns, rows, 0)]
 
 
 def words(parser: argparse.ArgumentParser) -> None:

@@ -11,7 +11,7 @@ valgrind's callgrind, long memory as cleared by vectors: two runs agree to a par
 | a node of NAME | `plan --limit 100000` of the script of examples/hard, which is over, above a script without requests, for each node |
 | a plan of one read, of three | examples/one-read.onfi, examples/batch.onfi, above a script without requests |
 | a node, with its certificate | a script of 32,853 nodes and 39,916 tokens, planned within the greatest limit |
-| a node, remembering states | nodes 101 to 400 of `plan --by within` of programs-on-one-plane, tokens included |
+| a node, remembering states | nodes 101 to 400 of both walks of `plan --by within` of programs-on-one-plane, tokens included |
 | a token checked, a token read | `check` of that certificate; the same after a start that is too early, so that the text is only read |
 | an operation of a run | `run` of 400 reads on one channel by one host, above a run without operations: the median of three |
 
@@ -20,14 +20,14 @@ valgrind's callgrind, long memory as cleared by vectors: two runs agree to a par
 --libraries FOLDER..: whole calls of the library for C too, or alone where no PROGRAM is named; each FOLDER holds libonfi.a and has a
 column. Each call is counted by itself, without reading its script. Scripts are drawn from seed 1.
 
-`plan` of N, `plan --by within` of N, `plan --early --by within` of N
-    onfi_plan, onfi_plan_known, onfi_plan_early on the first 40 scripts of `tools/bench worth` with N requests, within 100,000 nodes: the
+`plan` of N, `plan --by within` of N, `plan --by within --early` of N
+    onfi_plan by each of these ways on the first 40 scripts of `tools/bench worth` with N requests, within 100,000 nodes: the
     median, the one that nine of ten don't pass, and the greatest; one that is over counts as greater than all, and isn't the greatest
 a node of `plan`
     onfi_plan on the first 12 of 1,000 such scripts whose search opens 1,000 to 30,000 nodes, over all nodes that the search opens and
     that its certificate has
 a node of `plan --by within`
-    onfi_plan_known on the first six of 500 scripts of each set of `tools/bench remember` whose search opens 1,000 to 14,000 nodes, over
+    that way on the first six of 500 scripts of each set of `tools/bench remember` whose search opens 1,000 to 14,000 nodes, over
     the nodes of both walks
 a token of `check`, of `check --by within`
     onfi_check and onfi_check_known of the plans of these, for each token
@@ -128,8 +128,8 @@ class Program:
     def remembering(self) -> float:
         """Instructions of a node of a search that remembers states, its token included."""
         given = (ROOT / "examples" / "hard" / "programs-on-one-plane.onfi").read_text()
-        few, many = (self.run(["plan", "--by", "within", "--limit", str(limit)], given, f"over {limit}\n").instructions for limit in (100, 400))
-        return (many - few) / 300
+        few, many = (self.run(["plan", "--by", "within", "--limit", str(limit)], given, "ONFIPLAN").instructions for limit in (100, 400))
+        return (many - few) / 600
 
     def token(self, early: bool) -> float:
         """Instructions of a token of a check; with an early start, of one that is only read."""

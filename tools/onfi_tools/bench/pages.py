@@ -21,8 +21,7 @@ from typing import Callable, Dict, Iterator, List, NamedTuple, Optional, Sequenc
 from onfi_tools import stacks
 from onfi_tools.bench import driver_costs, whole_plans
 from onfi_tools.bench.instructions import Program
-from onfi_tools.bench.remember import is_cut
-from onfi_tools.bench.runs import HARD, MOST, OVER, PROGRAM, ROOT, built, greatest_over, run
+from onfi_tools.bench.runs import HARD, MOST, OVER, PROGRAM, ROOT, built, greatest_over, is_short, run
 from onfi_tools.kit import KIT
 
 EXAMPLES = ROOT / "examples/c"
@@ -38,7 +37,7 @@ DISPATCHER = ("begin", "accept", "accept_again", "cancel", "next", "ran", "ready
 # What is linked of the library, by calls: what they don't reach is left out.
 LINKED = {
     "linked for `onfi_plan` and `onfi_check` alone": ["plan", "check"],
-    ".. for `onfi_plan_within`, `onfi_due`, `onfi_ran`": ["plan_within", "due", "ran"],
+    ".. for `onfi_plan`, `onfi_due`, `onfi_ran`": ["plan", "due", "ran"],
     ".. for the calls of a dispatcher, `onfi_output_of`": [*(f"dispatcher_{it}" for it in DISPATCHER), "output_of"],
 }
 # Where libraries of other processors stand, by the order of columns.
@@ -49,7 +48,7 @@ LOADS = ("", " workload erases")
 HERE = "x86-64"
 CELL = r"([\d,]+(?:\.\d+)?)"
 WAYS = ("greedy", "phase by phase", "plans by the rule", "plans within", "plans early")
-CALLS = {"plan": "plain", "plan --by within": "known", "plan --early --by within": "early"}
+CALLS = {"plan": "plain", "plan --by within": "within", "plan --by within --early": "early"}
 
 
 class Lacking(Exception):
@@ -178,7 +177,7 @@ class Measured:
     def opened(self) -> List[str]:
         """The least nodes that `plan` opens on a hard script on which it isn't over, and the most of `plan --by within`."""
         def least_limit(script: str, *options: str) -> int:
-            return 1 + greatest_over(lambda limit: is_cut(run([self.program, "plan", *options, "--limit", str(limit)], script)))
+            return 1 + greatest_over(lambda limit: is_short(run([self.program, "plan", *options, "--limit", str(limit)], script)))
 
         scripts = [it.read_text() for it in HARD]
         plain = [least_limit(it) for it in scripts if run([self.program, "plan"], it).status != OVER] or [MOST]
@@ -196,7 +195,7 @@ class Measured:
     def nodes(self) -> List[str]:
         """Instructions of a node of the two searches with their certificates, and of a token of their checks."""
         scripts = whole_plans.drawn_batches(1000, 8)
-        plain, known = self.library().long("plain", [scripts], 12, 30_000), self.library().long("known", whole_plans.drawn_sets(500).values(), 6, 14_000)
+        plain, known = self.library().long("plain", [scripts], 12, 30_000), self.library().long("within", whole_plans.drawn_sets(500).values(), 6, 14_000)
         return [thousands(it) for it in (whole_plans.a_node(plain), whole_plans.a_node(known), whole_plans.a_token(plain), whole_plans.a_token(known))]
 
     def stack_of(self, calls: Sequence[str]) -> List[str]:
@@ -268,7 +267,7 @@ def speed_figures(of: Measured) -> Iterator[Figure]:
     page = "docs/SPEED.md"
     rows = ("a node of `long-certificate`", "a node of `mixed-on-eight-luns`", "a plan of one read; of three", "a node, with its certificate",
             "a node, remembering states, with its certificate", "a token checked; read")
-    nodes = (r"A node of `plan`, with its certificate, takes {0}, of `plan --by within`, both walks, {0}; "
+    nodes = (r"A node of `plan`, with its certificate, takes {0}, of `plan --by within`, all walks, {0}; "
              r"a token of `check`, read and checked, {0}, of `check --by within` {0}\.")
     yield Figure(page, "".join(rf"\| {re.escape(label)} \| {CELL}(?:; {CELL})? \|[^\n]*\n" for label in rows), of.of_program)
     yield Figure(page, rf"\| an operation of a run \| {CELL} ", of.operation, 0.2)

@@ -11,7 +11,7 @@ From the seed (1) come N scripts (2,000) of eight requests, a quarter of each se
 
 and each script of examples/hard and examples/hard-states, with --few none. Of each:
 
-    over               how many scripts have no plan within the greatest limit that is proved optimal
+    over               how many scripts have no plan within the greatest limit
     nodes              the least `--limit` that answers: how many nodes the search opens; of two walks of a search that remembers
                        states, the greater count
     ms                 processor time of the whole program
@@ -22,9 +22,9 @@ differs between the two, a plan that `check --by within` doesn't accept with its
 status 1.
 
 Then N chains (400) of six rolling batches: eight requests on one of those devices, planned by `plan --by within`, run to a phase drawn at
-random, filled up to eight again. Of all these: how many are over within a limit, by `plan`; of `plan --by within` how many plans are
-proved optimal, and by how much of the time from the free bus to the finish the others may be too long at most: the median, nine of
-ten, the greatest. Each such plan is checked by `check --by within`.
+random, filled up to eight again. Of all these: how many are over within a limit, by `plan` and by `plan --by within`; of
+`plan --by within` how many plans are proved optimal, and by how much of the time from the free bus to the finish the others may be too
+long at most: the median, nine of ten, the greatest. Each such plan is checked by `check --by within`.
 """
 
 import argparse
@@ -36,13 +36,12 @@ import sys
 from typing import Callable, Dict, Iterator, List, NamedTuple, Optional, Sequence, Tuple
 
 from onfi_tools import plans
-from onfi_tools.bench.runs import HARD, MOST, OVER, ROOT, Run, add_words, answered, cells_at, greatest_over, planned, quantile, run, said, table
+from onfi_tools.bench.runs import HARD, MOST, ROOT, add_words, answered, cells_at, greatest_over, is_short, planned, quantile, run, said, table
 from onfi_tools.channel import idle
 from onfi_tools.drawn import DEVICES, MIX, REQUESTS, SETS, device_of, drawn_wants
 
 HARD_STATES = sorted((ROOT / "examples" / "hard-states").glob("*.onfi"))
 HARD_MOST = 100_000
-WITHIN = ("--by", "within")
 BATCHES = 6
 LIMITS = (200, 2_000, 65_536)
 PLAN = re.compile(r"ONFIPLAN 1\nfinish (\d+)\n.*^(ONFICERT [^\n]*\n([^\n]*)\n)\Z", re.DOTALL | re.MULTILINE)
@@ -63,22 +62,17 @@ def nodes_of(is_over: Callable[[int], bool], tree: int) -> int:
     return tree if is_over(tree - 1) and not is_over(tree) else greatest_over(is_over) + 1
 
 
-def is_cut(ran: Run) -> bool:
-    """The search opened as many nodes as it may, and has no plan that is proved optimal."""
-    return ran.status == OVER or "\nbelow " in ran.output
-
-
 def plan_of(program: str, options: Sequence[str], script: str) -> Optional[Plan]:
-    """The optimal plan by these options; None where none is proved within the greatest limit."""
+    """The plan by these options; None where it is over within the greatest limit."""
     words = [program, "plan", *options, "--limit"]
     ran = run([*words, str(MOST)], script)
-    if is_cut(ran):
+    if is_short(ran):
         return None
     found = PLAN.match(ran.output)
     if ran.status or not found:
         raise ValueError(f"no plan, status {ran.status}: {ran.output[:200]}\n{script}")
     tree = sum(not token.startswith("Y") for token in found[3].split())
-    nodes = nodes_of(lambda limit: is_cut(run([*words, str(limit)], script)), tree)
+    nodes = nodes_of(lambda limit: is_short(run([*words, str(limit)], script)), tree)
     return Plan(int(found[1]), nodes, 1000 * ran.processor, len(found[2].encode()), ran.output)
 
 
@@ -90,9 +84,9 @@ class Pair(NamedTuple):
 
 
 def measure(program: str, script: str) -> Pair:
-    pair = Pair(plan_of(program, [], script), plan_of(program, [*WITHIN], script))
+    pair = Pair(plan_of(program, [], script), plan_of(program, ["--by", "within"], script))
     if pair.remembered:
-        answered(program, ["check", *WITHIN], script + pair.remembered.text, f"accepted {pair.remembered.finish}\n")
+        answered(program, ["check", "--by", "within"], script + pair.remembered.text, f"accepted {pair.remembered.finish}\n")
         if pair.plain and pair.plain.finish != pair.remembered.finish:
             raise ValueError(f"finishes {pair.plain.finish} and {pair.remembered.finish}\n{script}")
     return pair
@@ -153,11 +147,11 @@ class Batch(NamedTuple):
     gaps: Dict[int, float]
 
 
-SEARCHES = [("plan", limit) for limit in (2_000, MOST)]
+SEARCHES = [("plan", limit) for limit in (2_000, MOST)] + [("plan --by within", limit) for limit in (*LIMITS, MOST)]
 
 
 def is_over(program: str, words: str, limit: int, script: str) -> bool:
-    return run([program, *words.split(), "--limit", str(limit)], script).status == OVER
+    return is_short(run([program, *words.split(), "--limit", str(limit)], script))
 
 
 def chain_of(program: str, seed: str) -> List[Batch]:
@@ -166,7 +160,7 @@ def chain_of(program: str, seed: str) -> List[Batch]:
     device = device_of(*rng.choice(DEVICES), rng.choice((2, 4, 8)))
     channel, batches = idle(device, drawn_wants(rng, device.luns, MIX)), []
     for _ in range(BATCHES):
-        found = {limit: planned(program, channel.script(), *WITHIN, "--limit", str(limit)) for limit in LIMITS}
+        found = {limit: planned(program, channel.script(), "--by", "within", "--limit", str(limit)) for limit in LIMITS}
         gaps = {limit: 100 * (plan.finish - plan.below) / max(plan.finish - channel.bus, 1) for limit, plan in found.items()}
         over = {(words, limit): is_over(program, words, limit, channel.script()) for words, limit in SEARCHES}
         batches.append(Batch(over, gaps))

@@ -119,6 +119,11 @@ def planned(program: str, script: str, *options: str) -> Planned:
     return Planned(ran.output, finish, below)
 
 
+def is_short(ran: Run) -> bool:
+    """Whether a limit was too small for a plan that is proved optimal."""
+    return ran.status == OVER or "\nbelow " in ran.output
+
+
 def greatest_over(is_over: Callable[[int], bool]) -> int:
     """The largest limit with which a search is over, 0 where it is with none."""
     return bisect.bisect_left(range(1, MOST + 1), True, key=lambda limit: not is_over(limit))

@@ -126,12 +126,12 @@ def small_cell(costs: Sequence[Optional[int]]) -> str:
 def rows_of(library: Library) -> Dict[str, str]:
     """What each row of the table says of a library."""
     rows = {}
-    for way, word in (("plain", "plan"), ("known", "plan --by within"), ("early", "plan --early --by within")):
+    for way, word in (("plain", "plan"), ("within", "plan --by within"), ("early", "plan --by within --early")):
         for requests in REQUESTS:
             rows[f"`{word}` of {requests}, median / nine of ten / greatest"] = small_cell(library.small(way, requests))
-    plain, known = library.long("plain", [drawn_batches(1000, 8)], 12, 30_000), library.long("known", drawn_sets(500).values(), 6, 14_000)
+    plain, known = library.long("plain", [drawn_batches(1000, 8)], 12, 30_000), library.long("within", drawn_sets(500).values(), 6, 14_000)
     rows[f"a node of `plan`, with its certificate, {len(plain)} scripts"] = said(round(a_node(plain)))
-    rows[f"a node of `plan --by within`, both walks, {len(known)} scripts"] = said(round(a_node(known)))
+    rows[f"a node of `plan --by within`, all walks, {len(known)} scripts"] = said(round(a_node(known)))
     rows["a token of `check`, read and checked"] = said(round(a_token(plain)))
     rows["a token of `check --by within`, read and checked"] = said(round(a_token(known)))
     return rows

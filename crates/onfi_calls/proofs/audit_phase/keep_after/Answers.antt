@@ -1,5 +1,5 @@
 use Rattle.std.proofs.Common.{sym, subst}
-use Rattle.onfi_calls.specs.AuditSaid.{IsAuditSaid}
+use Rattle.onfi_calls.specs.Audit.{IsAuditSaid}
 use Rattle.onfi_calls.proofs.Audits.{asked_kept}
 use Rattle.onfi_calls.proofs.audit_phase.keep_after.Goals as goal
 

@@ -1,7 +1,7 @@
 use Rattle.std.proofs.Common.{refl, sym, ap, ◌∙◌, ◌≡◌, subst}
 use Rattle.onfi_audit.specs.Audit.{MayCome, MayComeLater, Tells, after_line}
 use Rattle.onfi_calls.specs.AuditPhase.{is_broken, is_legal, is_too_soon, is_unjudged, line_of}
-use Rattle.onfi_calls.specs.AuditSaid.{IsAuditSaid}
+use Rattle.onfi_calls.specs.Audit.{IsAuditSaid}
 use Rattle.onfi_calls.proofs.audit_phase.onfi_audit_phase.Goals as goal
 
 pub returns-in-Err : goal.returns-in-Err

@@ -2,8 +2,8 @@ use Rattle.std.proofs.Common.{◌≡◌, length, map, take, sym, ap, ◌∙◌, 
 use Rattle.std.proofs.lemmas.List.{length-map}
 use Rattle.onfi_problem.specs.declared.lun_state.LunState.TheVariants.{Free}
 use Rattle.onfi_flight.specs.Flight.{Flight}
-use Rattle.onfi_calls.specs.Said.{state_of}
-use Rattle.onfi_calls.specs.Written.{filled}
+use Rattle.onfi_calls.specs.Problem.{state_of}
+use Rattle.onfi_calls.specs.PlainSchedule.{filled}
 use Rattle.onfi_calls.proofs.Filled.{filled_all, filled_length, filled_more, filled_whole}
 use Rattle.onfi_calls.proofs.flight.set_luns.Goals as goal
 

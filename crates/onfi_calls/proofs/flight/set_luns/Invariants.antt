@@ -1,7 +1,7 @@
 use Rattle.std.proofs.Common.{◌≡◌, length, map, take}
 use Rattle.onfi_problem.specs.declared.lun_state.LunState.TheVariants.{Free}
-use Rattle.onfi_calls.specs.Said.{state_of}
-use Rattle.onfi_calls.specs.Written.{filled}
+use Rattle.onfi_calls.specs.Problem.{state_of}
+use Rattle.onfi_calls.specs.PlainSchedule.{filled}
 use Rattle.onfi_calls.proofs.flight.set_luns.Given as goal
 
 abbrev pub invariant-loop-at : goal.invariant-loop-at

@@ -1,6 +1,6 @@
 use Rattle.std.proofs.Common.{drop}
 use Rattle.onfi_problem.specs.Checks.{AreLuns}
-use Rattle.onfi_calls.specs.Said.{states_of}
+use Rattle.onfi_calls.specs.Problem.{states_of}
 use Rattle.onfi_calls.proofs.in_order.are_luns.Given as goal
 
 abbrev pub invariant-loop-at : goal.invariant-loop-at

@@ -1,4 +1,4 @@
-use Rattle.onfi_calls.specs.SaidSchedule.{starts_of}
+use Rattle.onfi_calls.specs.ReadSchedule.{starts_of}
 use Rattle.onfi_calls.proofs.InPlace.{least_more}
 use Rattle.onfi_calls.proofs.least.least_group.Goals as goal
 

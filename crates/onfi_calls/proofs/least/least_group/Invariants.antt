@@ -1,7 +1,7 @@
 use Rattle.std.specs.Prelude.{map}
 use Rattle.onfi_flight.specs.Turns.{LeastSoFar}
 use Rattle.onfi_calls.specs.InOrder.{some_start}
-use Rattle.onfi_calls.specs.SaidSchedule.{starts_of}
+use Rattle.onfi_calls.specs.ReadSchedule.{starts_of}
 use Rattle.onfi_calls.proofs.least.least_group.Given as goal
 
 abbrev pub invariant-loop-at : goal.invariant-loop-at

@@ -1,4 +1,4 @@
-use Rattle.onfi_calls.specs.SaidSchedule.{rest_of}
+use Rattle.onfi_calls.specs.ReadSchedule.{rest_of}
 use Rattle.onfi_calls.proofs.InPlace.{least_more}
 use Rattle.onfi_calls.proofs.least.least_rest.Goals as goal
 

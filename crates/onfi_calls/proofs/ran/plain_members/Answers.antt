@@ -1,5 +1,5 @@
 use Rattle.onfi_calls.specs.Ran.{no_want}
-use Rattle.onfi_calls.specs.Written.{written_want}
+use Rattle.onfi_calls.specs.PlainSchedule.{written_want}
 use Rattle.onfi_calls.proofs.Filled.{filled_more, filled_all}
 use Rattle.onfi_calls.proofs.ran.plain_members.Goals as goal
 

@@ -1,6 +1,6 @@
 use Rattle.std.proofs.Common.{◌≡◌, map, take}
 use Rattle.onfi_calls.specs.Ran.{no_want}
-use Rattle.onfi_calls.specs.Written.{filled, written_want}
+use Rattle.onfi_calls.specs.PlainSchedule.{filled, written_want}
 use Rattle.onfi_calls.proofs.ran.plain_members.Given as goal
 
 abbrev pub invariant-loop-at : goal.invariant-loop-at

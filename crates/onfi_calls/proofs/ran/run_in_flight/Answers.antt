@@ -3,4 +3,4 @@ use Rattle.onfi_calls.specs.Ran.{refuses_ran}
 use Rattle.onfi_calls.proofs.ran.run_in_flight.Goals as goal
 
 pub returns-in-Err : goal.returns-in-Err
-returns-in-Err c = λ by measured. refuses_ran c.in-Err.status (c.in-Err.ensures.none by measured) (record { kept = refl; room = refl; count = refl }) c.number.ensures
+returns-in-Err c = refuses_ran c.in-Err.status c.in-Err.ensures.none (record { kept = refl; room = refl; count = refl }) c.number.ensures

@@ -2,7 +2,7 @@ use Rattle.std.proofs.Common.{◌∙◌, ap, map}
 use Rattle.std.specs.Prelude.{slice_get}
 use Rattle.onfi_flight.proofs.Lists.{index_get}
 use Rattle.onfi_calls.specs.Ran.{lun_in}
-use Rattle.onfi_calls.specs.Written.{written_schedule, written_want}
+use Rattle.onfi_calls.specs.PlainSchedule.{written_schedule, written_want}
 use Rattle.onfi_calls.proofs.ran.stand_after.Goals as goal
 
 pub returns : goal.returns

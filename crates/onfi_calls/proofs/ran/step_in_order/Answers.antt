@@ -4,27 +4,27 @@ use Rattle.onfi_request.specs.declared.want.Want.{Want}
 use Rattle.onfi_group.specs.Group.{group_spans}
 use Rattle.onfi_flight.specs.Flight.{Flight}
 use Rattle.onfi_calls.specs.InOrder.{flight_of}
+use Rattle.onfi_calls.specs.Problem.{luns_of}
 use Rattle.onfi_calls.proofs.Standing.{plain_there}
 use Rattle.onfi_calls.proofs.StepTaken.{limits_after}
 use Rattle.onfi_calls.proofs.ran.step_in_order.Goals as goal
 
 pub lun_after-lun-requires-clause-there : goal.lun_after-lun-requires-clause-there
 lun_after-lun-requires-clause-there c =
-    let by = c.requires.measured.0 in
-    let timing = c.args.timing.now in
-    let f : Flight = flight_of timing c.rules-rules.result c.args.channel.now.bus_free c.args.luns.now c.args.wants.now c.args.schedule.now in
-    let said = c.in_ok-due.ensures.said by timing c.requires.measured.1 in
-    plain_there by c.args.channel.now c.args.luns.now c.args.wants.now f c.in_ok-due.due c.args.started said.said.problem (c.in_ok-due.ensures.due timing)
+    let channel = c.args.channel.now in
+    let f : Flight = flight_of c.args.timing.now c.rules-rules.result channel.bus_free (luns_of channel) c.args.wants.now c.args.schedule.now in
+    plain_there channel c.args.wants.now f c.in_ok-due.due c.args.started c.in_ok-due.ensures.said.said.problem c.in_ok-due.ensures.due
 
 pub lun_after-lun-requires-clause-within : goal.lun_after-lun-requires-clause-within
-lun_after-lun-requires-clause-within c = (c.in_ok-due.ensures.due c.args.timing.now).within
+lun_after-lun-requires-clause-within c = c.in_ok-due.ensures.due.within
 
 pub returns : goal.returns
-returns c = λ by measured.
+returns c =
     let timing = c.args.timing.now in
+    let channel = c.args.channel.now in
     let due = c.in_ok-due.due in
-    let said = c.in_ok-due.ensures.said by timing measured in
-    let is = c.in_ok-due.ensures.due timing in
+    let said = c.in_ok-due.ensures.said in
+    let is = c.in_ok-due.ensures.due in
     let same = c.is_due.ensures.0 c.if-not-is_due.false in
     let early : c.args.started < 2 ^ 61 = (let sooner = c.if-started-ge-HALF.false in omega (arith, sooner)) in
     let spans = group_spans timing due.group in
@@ -39,7 +39,7 @@ returns c = λ by measured.
       on_time = (let later = c.if-started-due.false in omega (arith, later));
       early = early;
       even = c.in_ok-due.ensures.even;
-      limits = limits_after timing c.rules-rules.result c.args.channel.now.bus_free c.args.luns.now c.args.wants.now c.args.schedule.now due c.args.started said.limits c.in_ok-due.ensures.early is early;
+      limits = limits_after timing c.rules-rules.result channel.bus_free (luns_of channel) c.args.wants.now c.args.schedule.now due c.args.started said.limits c.in_ok-due.ensures.early is early;
       ended = ap (λ n. c.args.started + n) long;
       lun_is = c.lun_after-lun.ensures;
     }

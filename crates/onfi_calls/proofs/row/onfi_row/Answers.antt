@@ -1,5 +1,5 @@
 use Rattle.std.proofs.Common.{refl}
-use Rattle.onfi_calls.specs.SaidGeometry.{refuses_row}
+use Rattle.onfi_calls.specs.Geometry.{refuses_row}
 use Rattle.onfi_calls.proofs.row.onfi_row.Goals as goal
 
 pub returns-in-Err : goal.returns-in-Err

@@ -1,5 +1,5 @@
 use Rattle.std.proofs.Common.{sym, ap, ◌∙◌}
-use Rattle.onfi_calls.specs.SaidSchedule.{schedule_of}
+use Rattle.onfi_calls.specs.ReadSchedule.{schedule_of}
 use Rattle.onfi_calls.proofs.stand.with_schedule.Goals as goal
 
 pub returns-clause-good : goal.returns-clause-good

@@ -30,4 +30,4 @@ returns-clause-is c = λ timing books is.
     let there = lun_there old lun c.from.result c.index-self-from.result on.books c.from.ensures on.there in
     changed_is timing books books old _ lun l after is (record { spans = refl; rules = refl }) refl refl refl there (changed_at old lun c.from.result after c.from.ensures) is.planes is.there
     (c.make_ready.ensures.lun timing books.rules (lun_at timing books (luns_of old) lun l is.luns there))
-    (ap (λ (z : Line). waiters_in (slots_in z)) c.make_ready.ensures.line ∙ line_at timing books (luns_of old) lun l is.luns there) (λ at d. refl)
+    (ap (λ (z : Line). waiters_in (slots_in z)) c.make_ready.ensures.line ∙ line_at timing books (luns_of old) lun l is.luns there) (λ at d. refl) is.distinct

@@ -4,6 +4,7 @@ use Rattle.std.proofs.lemmas.Option.{get_or_from_slice_get}
 use Rattle.onfi_steady.specs.LunBooks.{IsLun, states_in}
 use Rattle.onfi_steady.specs.Dispatcher.{luns_of}
 use Rattle.onfi_steady.proofs.Dispatching.{accepted_is, accepted_on, lun_at, states_kept, take_changed}
+use Rattle.onfi_steady.proofs.Distinct.{accepts_distinct}
 use Rattle.onfi_steady.proofs.dispatcher.Dispatcher.put.Goals as goal
 
 pub returns-clause-accepted : goal.returns-clause-accepted
@@ -20,6 +21,7 @@ returns-clause-accepted c = λ timing books is.
     let lun : IsLun timing books.rules l = lun_at timing books (luns_of old) want.lun l is.luns there in
     accepted_is timing books want old _ l after is (record { spans = refl; rules = refl }) there changed c.with-self.ensures c.requires.plane c.accept.ensures.line
     (subst (λ z. IsLun timing z after) is.rules (c.accept.ensures.lun timing is.spans (subst (λ z. IsLun timing z l) (sym is.rules) lun)))
+    (accepts_distinct timing books old want l is there c.requires.accepted)
 
 pub returns-clause-states : goal.returns-clause-states
 returns-clause-states c =

@@ -5,6 +5,7 @@ use Rattle.onfi_steady.specs.LunBooks.{IsLun, states_in}
 use Rattle.onfi_steady.specs.Dispatcher.{accepted_again, luns_of}
 use Rattle.onfi_steady.proofs.Changing.{again_on, changed_at, changed_is, lun_there, off_first, on_first}
 use Rattle.onfi_steady.proofs.Dispatching.{line_at, lun_at, states_kept}
+use Rattle.onfi_steady.proofs.Distinct.{accepts_distinct_again}
 use Rattle.onfi_steady.proofs.dispatcher.Dispatcher.put_first.Goals as goal
 
 pub returns-clause-accepted : goal.returns-clause-accepted
@@ -21,7 +22,7 @@ returns-clause-accepted c = λ timing books is.
     (c.requires.plane, is.planes) (slice_get_within (luns_of old) want.lun l there, is.there)
     (subst (λ z. IsLun timing z after) is.rules (c.accept_again.ensures.lun timing is.spans (subst (λ z. IsLun timing z l) (sym is.rules) lun)))
     (c.accept_again.ensures.line ∙ (ap (λ z. w ∷ z) (line_at timing books (luns_of old) want.lun l is.luns there) ∙ sym (on_first w books.waiting)))
-    (λ at d. off_first at w books.waiting d)
+    (λ at d. off_first at w books.waiting d) (accepts_distinct_again timing books old want l is there c.requires.accepted)
 
 pub returns-clause-states : goal.returns-clause-states
 returns-clause-states c =

@@ -1,8 +1,9 @@
 use Rattle.std.proofs.Common.{◌≤◌, ◌<◌, ◌∙◌, ap, get_or, length, refl, subst, sym}
 use Rattle.onfi_steady.specs.Slots.{waiters_in}
 use Rattle.onfi_steady.specs.LunBooks.{IsLun, states_in}
-use Rattle.onfi_steady.specs.Dispatcher.{cancelled, is_request, luns_of}
+use Rattle.onfi_steady.specs.Dispatcher.{Differ, cancelled, is_request, luns_of}
 use Rattle.std.specs.Prelude.{not}
+use Rattle.onfi_problem.proofs.Wants.{Pairs-filter}
 use Rattle.onfi_steady.proofs.Changing.{all_filter, changed_at, changed_is, holds_request, line_cancelled, lun_there, off_cancelled}
 use Rattle.onfi_steady.proofs.Dispatching.{line_at, lun_at, states_kept}
 use Rattle.onfi_steady.proofs.dispatcher.Dispatcher.take_out.Goals as goal
@@ -23,7 +24,7 @@ returns-clause-cancelled c = λ timing books is.
           (all_filter (λ w. w.want.lun < length (luns_of old)) (λ w. not (is_request lun id w)) books.waiting is.there)
           (subst (λ z. IsLun timing z after) is.rules (c.cancel.ensures.lun timing is.spans (subst (λ z. IsLun timing z l) (sym is.rules) kept)))
           (ap waiters_in c.cancel.ensures.line ∙ line_cancelled lun id _ books.waiting (line_at timing books (luns_of old) lun l is.luns there))
-          (λ at d. off_cancelled lun id at d books.waiting),
+          (λ at d. off_cancelled lun id at d books.waiting) (Pairs-filter Differ (λ w. not (is_request lun id w)) books.waiting is.distinct),
     )
 
 pub returns-clause-states : goal.returns-clause-states

@@ -1,9 +1,0 @@
-use Rattle.std.proofs.Common.{Some, refl}
-use Rattle.onfi_calls.specs.AuditBegun.{no_schedule, refuses_audit}
-use Rattle.onfi_calls.proofs.audit_begin.onfi_audit_begin_by.Goals as goal
-
-pub returns-in-Ok : goal.returns-in-Ok
-returns-in-Ok c = c.begin.ensures (Some c.args.lengths.now) c.in-Ok.ensures.measured refl
-
-pub returns-in-Err : goal.returns-in-Err
-returns-in-Err c = refuses_audit c.in-Err.status (c.in-Err.ensures.none no_schedule) refl c.number.ensures

@@ -1,6 +1,0 @@
-use Rattle.std.proofs.Common.{◌≡◌, ◌≤◌, length, take}
-use Rattle.onfi_calls.specs.RanPlain.{plain_without}
-use Rattle.onfi_calls.proofs.ran_plain.wants_without.Given as goal
-
-abbrev pub invariant-loop-want : goal.invariant-loop-want
-invariant-loop-want l = (l.left.items ≡ plain_without l.group (take l.want-index l.wants)) × (length l.left.items ≤ l.want-index)

@@ -1,5 +1,0 @@
-use Rattle.onfi_calls.proofs.Answering.{written_is_answer}
-use Rattle.onfi_calls.proofs.script.answer_script.Goals as goal
-
-pub returns-in-Ok : goal.returns-in-Ok
-returns-in-Ok c = written_is_answer c.args.command c.args.script.now c.new-text.result.items c.engine.new.writer.items c.in-Ok.status c.new-text.ensures.items c.in-Ok.ensures.answer

@@ -1,6 +1,0 @@
-use Rattle.std.proofs.Common.{refl}
-use Rattle.onfi_calls.specs.Device.{refuses}
-use Rattle.onfi_calls.proofs.timing.onfi_timing_of_page.Goals as goal
-
-pub returns-in-Err : goal.returns-in-Err
-returns-in-Err c = refuses c.in-Err.refusal c.in-Err.ensures.none refl refl c.number.ensures

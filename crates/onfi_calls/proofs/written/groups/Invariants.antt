@@ -1,6 +1,0 @@
-use Rattle.std.proofs.Common.{◌≡◌, map, take}
-use Rattle.onfi_calls.specs.Written.{filled, no_group, written_group}
-use Rattle.onfi_calls.proofs.written.groups.Given as goal
-
-abbrev pub invariant-loop-at : goal.invariant-loop-at
-invariant-loop-at l = l.all ≡ filled 8 no_group (map written_group (take l.at l.of))
