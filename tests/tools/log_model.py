@@ -79,28 +79,57 @@ def line_of(text: str) -> Line:
 
 @dataclasses.dataclass
 class Poll:
-    """By a poll of its status, which ended at the start, the LUN was ready."""
+    """By a poll of its status, which ended at the start, or by its R/B# the LUN was ready."""
 
     start: int
     lun: int
+    sign: str = "ready"
 
 
-Entry = Union[Line, Poll]
+@dataclasses.dataclass
+class Remark:
+    """A comment."""
+
+    text: str
+
+
+Entry = Union[Line, Poll, Remark]
+
+
+@dataclasses.dataclass(frozen=True)
+class Manner:
+    """How a log is taken."""
+
+    every: bool = False
+    by_status: bool = False
+    tolerance: int = 0
+    one_status: bool = False
+
+    @property
+    def words(self) -> List[str]:
+        """The options that ask for it."""
+        flags = {"--all": self.every, "--ready-by-status": self.by_status, "--one-status": self.one_status}
+        return [word for word, given in flags.items() if given] + (["--tolerance", str(self.tolerance)] if self.tolerance else [])
 
 
 def entry_of(text: str, by_status: bool) -> Entry:
     words = text.split(" ")
+    if text.startswith("#"):
+        return Remark(text)
     if not by_status or len(words) != 3:
         return line_of(text)
-    if words[2] != "ready":
+    if words[2] not in ("ready", "edge"):
         raise ValueError(text)
-    return Poll(number_in(words[0], END - 1), number_in(words[1], 7))
+    return Poll(number_in(words[0], END - 1), number_in(words[1], 7), words[2])
 
 
 class Judge:
     """A channel, and a log as far as it was judged."""
 
-    def __init__(self, rows: Sequence[Sequence[str]]) -> None:
+    def __init__(self, rows: Sequence[Sequence[str]], manner: Manner = Manner()) -> None:
+        self.manner = manner
+        # By how much a phase that ran came too soon at most, and whether the one that is judged ran.
+        self.used, self.ran = 0, False
         of: Dict[str, List[Sequence[str]]] = {}
         for name, *fields in rows:
             of.setdefault(name, []).append(fields)
@@ -150,6 +179,7 @@ class Judge:
 
     def run(self, line: Line, lun: Lun, members: Tuple[Want, ...], phase: int, may_join: bool) -> None:
         """That phase of these members runs."""
+        self.ran = True
         cmd, gap, array, _ = self.spans[members[0].kind]
         count = len(members)
         ended = line.start + (cmd if phase < count else self.post_of(members[phase - count]))
@@ -162,11 +192,42 @@ class Judge:
 
     def judge(self, line: Entry) -> Optional[str]:
         """The condition that the line breaks, if it breaks one; its phase counts as run where it may."""
+        if isinstance(line, Remark):
+            return None
         if line.lun >= len(self.luns):
             return f"NoLun {line.lun}"
         if isinstance(line, Poll):
             return self.poll(line)
-        lun = self.luns[line.lun]
+        self.ran = False
+        self.face(line, self.luns[line.lun])
+        broken = self.judge_phase(line, self.luns[line.lun])
+        if broken and not self.ran:
+            self.regain(line)
+        return broken
+
+    def face(self, line: Line, lun: Lun) -> None:
+        """A status is that of its whole group, where a log has one for each group."""
+        named = next((it for it in lun.members if line.names(it)), None)
+        if self.manner.one_status and line.part == "post" and line.kind != "read" and named and lun.over >= len(lun.members):
+            lun.members, lun.over, lun.is_open = (named,), 1, False
+
+    def regain(self, line: Line) -> None:
+        """The line runs where it may come once phases are taken as missing before it, else the LUN does what it did."""
+        before = self.luns[line.lun]
+        lun = copy.copy(before)
+        self.luns[line.lun] = lun
+        if line.part == "cmd":
+            lun.members, lun.over, lun.is_open, lun.ready = (), 0, False, 0
+            self.begin(line, lun)
+        else:
+            at = next((at for at, it in enumerate(lun.members) if line.names(it)), None)
+            if at is not None:
+                lun.over, lun.is_open, lun.ready = len(lun.members) + at, False, 0
+                self.go_on(line, lun)
+        if not self.ran:
+            self.luns[line.lun] = before
+
+    def judge_phase(self, line: Line, lun: Lun) -> Optional[str]:
         begins = line.part == "cmd" and (not lun.members or lun.is_open)
         known = None if begins or line.part == "post" else lun.over + 1 == len(lun.members)
         amiss = self.misclosed(line, lun)
@@ -194,8 +255,8 @@ class Judge:
         return f"OtherBytes {opener} {closers[0]}"
 
     def poll(self, poll: Poll) -> Optional[str]:
-        """What a LUN runs goes on from then, if not sooner; a status comes over the bus."""
-        if poll.start < self.bus:
+        """What a LUN runs goes on from then, if not sooner; a status comes over the bus, an edge at any moment."""
+        if poll.sign == "ready" and poll.start < self.bus:
             return f"BusNotFree {poll.start} {self.bus}"
         lun = self.luns[poll.lun]
         if lun.members:
@@ -215,6 +276,10 @@ class Judge:
         return broken
 
     def too_soon(self, line: Line, what: str, since: int) -> Optional[str]:
+        early = max(0, max(self.bus, since) - line.start)
+        self.used = max(self.used, early)
+        if early <= self.manner.tolerance:
+            return None
         if line.start < self.bus:
             return f"BusNotFree {line.start} {self.bus}"
         return f"{what} {line.start} {since}" if line.start < since else None
@@ -248,21 +313,21 @@ class Judge:
         return misnamed or broken
 
 
-def answer_of(script: str, log: str, every: bool, by_status: bool = False) -> str:
+def answer_of(script: str, log: str, manner: Manner) -> str:
     """The answer to a log that begins with the channel of a script."""
-    judge = Judge([row.split(",") for row in script.split("\n")[:-2]])
+    judge = Judge([row.split(",") for row in script.split("\n")[:-2]], manner)
     found: List[str] = []
     phases = 0
     *lines, last = log.split("\n")
     for number, text in enumerate([*lines, last] if last else lines, 1):
         try:
-            line = entry_of(text if number <= len(lines) else "", by_status)
+            line = entry_of(text if number <= len(lines) else "", manner.by_status)
         except ValueError:
             return "".join([*found, f"refused log {number}\n"])
         phases += isinstance(line, Line)
         broken = judge.judge(line)
         if broken:
             found.append(f"illegal {number} {broken}\n")
-            if not every:
+            if not manner.every:
                 break
-    return "".join(found) or f"legal {phases}\n"
+    return "".join(found) or f"legal {phases}\n" + (f"used {judge.used}\n" if manner.tolerance else "")

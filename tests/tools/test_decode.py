@@ -129,6 +129,17 @@ class Cycles(unittest.TestCase):
         self.assertEqual([isinstance(it, Found) and it.is_post for it in found], [False, True, False])
         self.assertEqual(log_line(found[2], None) if isinstance(found[2], Poll) else "", "345 0 ready")
 
+    def test_one_status_of_two_planes(self) -> None:
+        """After another command the plane of which none was read has none due."""
+        sent: List[Cycle] = []
+        for at, opener, block, last in ((0, 0x60, 0, 0xD1), (10, 0x60, 1, 0xD0), (20, 0x78, 0, 0xE0), (30, 0x60, 2, 0xD0), (40, 0x78, 1, 0xE0)):
+            rows = (0, block, 0)
+            sent += [cycle(at, "command", opener), *(cycle(at + 1 + it, "address", byte) for it, byte in enumerate(rows))]
+            sent.append(cycle(at + 4, "output" if opener == 0x78 else "command", last))
+        found = told(sent)
+        self.assertEqual([type(it) for it in found], [Found, Found, Found, Found, Poll])
+        self.assertEqual([isinstance(it, Found) and it.is_post for it in found], [False, False, True, False, False])
+
     def test_a_phase_longer_than_the_script_states(self) -> None:
         phase = support.trace("batch")[0]
         made = samples([phase._replace(end=phase.end + 2)])

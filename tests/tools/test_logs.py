@@ -9,7 +9,7 @@ from typing import Dict, List, Optional, Tuple
 
 import support
 from gap_model import Piece, bound_of, pieces_of
-from log_model import CLOSERS, FURTHER, Entry, Judge, Line, Poll, answer_of
+from log_model import CLOSERS, FURTHER, Entry, Judge, Line, Manner, Poll, Remark, answer_of
 
 # How many logs, and how many phases one has at most.
 COUNT, PHASES = 150, 80
@@ -62,19 +62,23 @@ def candidate(rng: random.Random, judge: Judge, number: int) -> Optional[Line]:
     return Line(judge.bus, at, want.kind, "cmd", want.block, want.page, want.number)
 
 
-def legal_log(rng: random.Random, script: str, phases: int, by_status: bool) -> List[Entry]:
-    """Phases, each as soon as it may come or a little later, and polls between them where they are asked for."""
-    judge = Judge([row.split(",") for row in script.split("\n")[:-2]])
+def legal_log(rng: random.Random, script: str, phases: int, manner: Manner) -> List[Entry]:
+    """Phases, each as soon as it may come or a little later, with polls, edges and comments between them where they are asked for."""
+    judge = Judge([row.split(",") for row in script.split("\n")[:-2]], manner)
     lines: List[Entry] = []
     for number in range(3 * phases):
-        if by_status and rng.random() < 0.3 and len(lines) < phases:
-            poll = Poll(judge.bus + rng.choice((0, rng.randint(0, 60))), rng.randrange(len(judge.luns)))
+        if manner.by_status and rng.random() < 0.3 and len(lines) < phases:
+            sign = rng.choice(("ready", "edge"))
+            start = judge.bus + rng.choice((0, rng.randint(0, 60))) - (rng.randint(0, min(9, judge.bus)) if sign == "edge" else 0)
+            poll = Poll(start, rng.randrange(len(judge.luns)), sign)
             assert judge.judge(poll) is None
             lines.append(poll)
         line = candidate(rng, judge, number)
         if line is None or len(lines) == phases:
             continue
         line.start += rng.choice((0, 0, 0, rng.randint(0, 20)))
+        if manner.tolerance and line.start >= manner.tolerance:
+            line.start -= rng.choice((0, rng.randint(0, manner.tolerance)))
         broken = judge.copied().judge(line)
         if broken and broken.split()[0] in ("NotReady", "LunNotFree"):
             line.start = int(broken.split()[-1])
@@ -85,11 +89,12 @@ def legal_log(rng: random.Random, script: str, phases: int, by_status: bool) -> 
     return lines
 
 
-def put_fields(script: str, lines: List[Entry]) -> None:
+def put_fields(script: str, lines: List[Entry], manner: Manner) -> None:
     """Gives each phase of a legal log its END and its command bytes."""
-    judge = Judge([row.split(",") for row in script.split("\n")[:-2]])
+    judge = Judge([row.split(",") for row in script.split("\n")[:-2]], manner)
     last: Dict[int, Line] = {}
     for line in lines:
+        assert not isinstance(line, Remark)
         lun = judge.luns[line.lun]
         is_further = isinstance(line, Line) and line.part == "cmd" and bool(lun.members)
         assert judge.judge(line) is None
@@ -117,6 +122,7 @@ def broken_field(rng: random.Random, line: Line) -> None:
 
 def broken_line(rng: random.Random, line: Entry) -> Entry:
     line = copy.copy(line)
+    assert not isinstance(line, Remark)
     if isinstance(line, Line) and line.end is not None and rng.random() < 0.4:
         broken_field(rng, line)
         return line
@@ -156,8 +162,11 @@ def text_of(rng: random.Random, lines: List[Entry]) -> str:
     numbered = rng.random() < 0.5
     texts = []
     for line in lines:
+        if rng.random() < 0.05:
+            texts.append(rng.choice(("#", "# a comment", "#0 0 read cmd 0 0")))
+        assert not isinstance(line, Remark)
         if isinstance(line, Poll):
-            texts.append(f"{line.start} {line.lun} ready")
+            texts.append(f"{line.start} {line.lun} {line.sign}")
             continue
         traced = line.end is not None and rng.random() < 0.95
         words = [str(line.start), *([str(line.end)] if traced else []), str(line.lun), line.kind, line.part, str(line.block), str(line.page)]
@@ -171,16 +180,17 @@ def text_of(rng: random.Random, lines: List[Entry]) -> str:
     return log[:-1] if rng.random() < 0.03 else log
 
 
-def drawn(seed: int, by_status: bool) -> Tuple[str, str, bool]:
+def drawn(seed: int, by_status: bool) -> Tuple[str, str, Manner]:
     rng = random.Random(seed)
     phases = rng.randint(1, PHASES)
     script = script_of(rng, phases)
-    lines = legal_log(rng, script, phases, by_status)
+    manner = Manner(rng.random() < 0.5, by_status, rng.choice((0, 0, rng.randint(1, 30))), rng.random() < 0.3)
+    lines = legal_log(rng, script, phases, manner)
     if rng.random() < 0.6:
-        put_fields(script, lines)
+        put_fields(script, lines, manner)
     if rng.random() < 0.8:
         break_log(rng, lines)
-    return script, text_of(rng, lines), rng.random() < 0.5
+    return script, text_of(rng, lines), manner
 
 
 @unittest.skipUnless(support.program(), "no built program")
@@ -188,10 +198,9 @@ class Logs(unittest.TestCase):
     def compare(self, by_status: bool) -> None:
         legal = 0
         for seed in range(COUNT):
-            script, log, every = drawn(seed, by_status)
-            options = [*(["--all"] if every else []), *(["--ready-by-status"] if by_status else [])]
-            ran = support.run_program("audit", *options, given=script + log)
-            self.assertEqual(ran.stdout, answer_of(script, log, every, by_status), f"seed {seed}\n{script}{log}")
+            script, log, manner = drawn(seed, by_status)
+            ran = support.run_program("audit", *manner.words, given=script + log)
+            self.assertEqual(ran.stdout, answer_of(script, log, manner), f"seed {seed} {manner.words}\n{script}{log}")
             is_legal = ran.stdout.startswith("legal ")
             self.assertEqual(ran.returncode, 0 if is_legal else 2)
             legal += is_legal
@@ -208,7 +217,7 @@ class Logs(unittest.TestCase):
         for seed in range(COUNT):
             rng = random.Random(seed)
             script = script_of(rng, PHASES)
-            lines = [it for it in legal_log(rng, script, PHASES, False) if isinstance(it, Line)]
+            lines = [it for it in legal_log(rng, script, PHASES, Manner()) if isinstance(it, Line)]
             log = "".join(f"{it.start} {it.lun} {it.kind} {it.part} {it.block} {it.page}\n" for it in lines)
             ran = support.run_program("audit", "--optimum", "--limit", "32", given=script + log)
             self.assertEqual((ran.returncode, ran.stderr), (0, ""), f"seed {seed}\n{script}{log}")

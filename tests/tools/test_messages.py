@@ -98,7 +98,8 @@ class Help(unittest.TestCase):
 
     OPTIONS = {"plan": ["--by <WAY>", "--early", "--limit <N>", "--workers <N>", "--trace", "--requests", "-q, --quiet", "[FILE]"],
                "check": ["--by <WAY>", "--legal", "-q, --quiet", "[FILE]", "[PLAN]"],
-               "audit": ["--all", "--ready-by-status", "--optimum", "--limit <N>", "--csv", "-q, --quiet", "[FILE]", "[LOG]"],
+               "audit": ["--all", "--ready-by-status", "--tolerance <NS>", "--one-status", "--optimum", "--limit <N>", "--csv",
+                         "-q, --quiet", "[FILE]", "[LOG]"],
                "run": ["--by <WAY>", "--early", "--limit <N>", "--clock <CLOCK>", "--trace <LOG>", "-q, --quiet", "[FILE]"],
                "device": ["-q, --quiet", "[FILE]"]}
 

@@ -59,6 +59,11 @@ class Traces(unittest.TestCase):
             found = stretches(phases, 0, support.lengths("batch"))
             self.assertEqual([(it.part, it.end - it.start) for it in found[1:-1]], wanted)
 
+    def test_comments_are_passed_over(self) -> None:
+        lines = support.trace_text("batch").splitlines()
+        remarked = ["# a trace", *lines, "#"]
+        self.assertEqual([it._replace(line=0) for it in read_trace(remarked)], [it._replace(line=0) for it in read_trace(lines)])
+
     def test_the_request_of_a_line_is_kept(self) -> None:
         lines = support.trace_text("diagram").splitlines()
         for request in ("0", "7", "-"):

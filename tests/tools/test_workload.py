@@ -62,6 +62,21 @@ class Worked(unittest.TestCase):
         trace = (support.ROOT / TRACE).read_text()
         self.assertEqual(made(trace, "--channels", "2", "--unit", "us"), (0, WORKED, ""))
 
+    def test_latencies_of_its_lines(self) -> None:
+        """Three lines: of two replies the later counts, one without a reply has no latency; shares of one and of two lines."""
+        trace = "10,R,0,100000\n20,R,0,1\n30,W,0,1\n"
+        ops = [row.split(",") for row in operations(made(trace)[1])]
+        reads = sum(1 for row in ops if row[3] == "read") - 1
+        report = "".join(f"reply,0,0,{serial},{1000 + serial},read,*FF\n" for serial in range(reads + 1)) + f"reply,0,0,{reads + 1},5000,done\nclosed\n"
+        with tempfile.TemporaryDirectory() as room:
+            (Path(room) / "report").write_text(report)
+            status, told, said = made(trace, "--latencies", f"{room}/report")
+        lines = ["line,time,kind,operations,ns", f"1,10,read,{reads},{1000 + reads - 1 - 10}", f"2,20,read,1,{1000 + reads - 20}"]
+        self.assertEqual((status, told.splitlines()), (0, lines))
+        first, second = 989 + reads, 980 + reads
+        shares = [second, first, first, first, first]
+        self.assertEqual(said.splitlines(), ["kind,lines,mean,50 %,95 %,99 %,99.9 %,most", ",".join(map(str, ["read", 2, (first + second) // 2, *shares]))])
+
     def test_the_device_is_that_of_the_script(self) -> None:
         ran = support.run_tool("make-workload", TRACE, "--device", DEVICE)
         rows = [row for row in (support.ROOT / DEVICE).read_text().splitlines() if row.split(",")[0] in ("page", "sheet", "strict")]

@@ -3,7 +3,7 @@
 from __future__ import annotations
 
 import dataclasses
-from typing import Dict, Iterable, Iterator, List, Mapping, NamedTuple, Optional, Tuple, Union
+from typing import Dict, Iterable, Iterator, List, Mapping, NamedTuple, Optional, Set, Tuple, Union
 
 from onfi_tools.capture import Cycle, Geometry
 from onfi_tools.device import Spans
@@ -73,6 +73,8 @@ class Decoder:
     sent: Optional[Sent] = None
     # Of each LUN the statuses that are due: of which block and page.
     due: Dict[int, List[Tuple[str, int, int]]] = dataclasses.field(default_factory=dict)
+    # LUNs a status of whose commands was read: where another command follows it was that of all their planes.
+    answered: Set[int] = dataclasses.field(default_factory=set)
 
     def take(self, cycle: Cycle) -> Iterator[Item]:
         """What is found once this cycle is over."""
@@ -152,6 +154,9 @@ class Decoder:
         lun, block, page = self.place_of(sent)
         if sent.opener in COMMANDS:
             kind = COMMANDS[sent.opener][0]
+            if lun in self.answered:
+                self.answered.remove(lun)
+                self.due[lun] = []
             self.due.setdefault(lun, []).extend([(kind, block, page)] if kind != "read" else [])
             return Found(sent.start, sent.end, lun, kind, False, block, page, sent.opener, sent.closer)
         return Found(sent.start, sent.end, lun, "read", True, block, page, OUTPUT, OUTPUT_CLOSER)
@@ -167,6 +172,7 @@ class Decoder:
             yield Poll(sent.end, lun)
             return
         due.remove(found)
+        self.answered.add(lun)
         yield Found(sent.start, sent.end, lun, found[0], True, block, page, STATUS, None)
 
 

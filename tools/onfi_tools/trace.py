@@ -80,10 +80,10 @@ class Window(NamedTuple):
 
 def read_trace(lines: Iterable[str], lengths: Optional[Mapping[str, Spans]] = None) -> List[Phase]:
     """The phases of a trace, in its order, or where the lengths are known those of a log that doesn't say when they end; ValueError
-    names the first line that is none."""
+    names the first line that is none. Comments, which begin with #, are passed over."""
     phases: List[Phase] = []
     for number, line in enumerate(lines, 1):
-        if line.strip():
+        if line.strip() and not line.startswith("#"):
             phases.append(phase_of(number, line if lengths is None else with_end(line, lengths)))
     return phases
 

@@ -280,26 +280,70 @@ def paged_rows(operations: Iterable[Operation]) -> Iterator[str]:
 
 
 class Workload(NamedTuple):
-    """The rows of the operations, and how many requests they are of all."""
+    """The rows of the operations, how many requests they are of all, and the operations."""
 
     rows: List[str]
     taken: int
     left: int
+    operations: List[Operation]
 
 
 def workload_of(lines: Iterable[Line], mapping: Mapping, from_zero: bool) -> Workload:
     """The `at` and `op` rows of the first requests whose operations fit into one script."""
     rows: List[str] = []
-    taken = left = operations = 0
+    operations: List[Operation] = []
+    taken = left = 0
     at = start = None
     for line in lines:
         start = line.time if start is None else start
         made = [] if left else mapping.operations(line)
-        if left or operations + len(made) > MOST_OPERATIONS:
+        if left or len(operations) + len(made) > MOST_OPERATIONS:
             left += 1
             continue
         time = line.time - (start if from_zero else 0)
         rows += ([f"at,{time}"] if made and time != at else []) + [operation.row() for operation in made]
         at = time if made else at
-        taken, operations = taken + 1, operations + len(made)
-    return Workload(rows, taken, left)
+        taken += 1
+        operations += [operation._replace(time=time) for operation in made]
+    return Workload(rows, taken, left, operations)
+
+
+class Latency(NamedTuple):
+    """How long a line of the trace took, in ns, from its arrival to the last reply of its operations."""
+
+    line: int
+    time: int
+    kind: str
+    operations: int
+    ns: int
+
+
+def latencies_of(operations: Iterable[Operation], report: Iterable[str]) -> Iterator[Latency]:
+    """The latency of each line whose operations all have their replies in a report of a run by a clock."""
+    replies = (row.split(",") for row in report if row.startswith("reply,"))
+    moments = {(int(channel), int(serial)): int(moment) for _, _, channel, serial, moment, *_ in replies}
+    serials: Dict[int, int] = {}
+    lines: Dict[int, List[Tuple[Operation, Optional[int]]]] = {}
+    for operation in operations:
+        channel = operation.place.channel
+        serial = serials.setdefault(channel, 0)
+        serials[channel] += 1
+        lines.setdefault(operation.line, []).append((operation, moments.get((channel, serial))))
+    for line, made in lines.items():
+        ends = [moment for _, moment in made if moment is not None]
+        if len(ends) == len(made):
+            last = made[-1][0]
+            yield Latency(line, last.time, last.kind, len(made), max(ends) - last.time)
+
+
+# Of so many of a thousand lines the greatest latency.
+SHARES = {"50 %": 500, "95 %": 950, "99 %": 990, "99.9 %": 999, "most": 1000}
+
+
+def summary_of(latencies: List[Latency]) -> Iterator[str]:
+    """By kind how many lines there are, their mean latency, rounded down, and the least that such a share doesn't pass, in ns."""
+    yield ",".join(["kind", "lines", "mean", *SHARES])
+    for kind in OPERATIONS:
+        ns = sorted(it.ns for it in latencies if it.kind == kind)
+        if ns:
+            yield ",".join(map(str, [kind, len(ns), sum(ns) // len(ns), *(ns[-(-share * len(ns) // 1000) - 1] for share in SHARES.values())]))

@@ -1,5 +1,5 @@
 -- What a log has left, the phase that may come next, and what it leaves.
-use Rattle.std.specs.Prelude.{◌≡◌, ℕ, ◌+◌, ◌^◌, ◌<◌, ◌≤◌, ◌==◌, ◌≢◌, ◌*◌, ◌⊎◌, max, min, nat_lt, not, if◌then◌else◌, Bool, true, false, List, [], ◌∷◌, ◌++◌, length, map, Option, Some, None, slice_get, slice_set}
+use Rattle.std.specs.Prelude.{◌≡◌, ℕ, ◌+◌, ◌^◌, ◌<◌, ◌≤◌, ◌==◌, ◌≢◌, ◌*◌, ◌-◌, ◌⊎◌, max, min, nat_lt, not, if◌then◌else◌, Bool, true, false, List, [], ◌∷◌, ◌++◌, length, map, Option, Some, None, slice_get, slice_set}
 use Rattle.std.specs.List.{AllByRecursion as Each, filter}
 use Rattle.onfi_addr.specs.Rows.{plane_at}
 use Rattle.onfi_timing.specs.declared.kind.Kind.{Kind}
@@ -7,6 +7,7 @@ use Rattle.onfi_timing.specs.declared.kind.Kind.TheVariants.{Erase}
 use Rattle.onfi_timing.specs.declared.timing.Timing.{Timing}
 use Rattle.onfi_timing.specs.Kinds.{IsStated, operation_of}
 use Rattle.onfi_timing.specs.Phases.{phase_length}
+use Rattle.onfi_timing.specs.declared.operation.Operation.TheVariants.{Read}
 use Rattle.onfi_request.specs.declared.want.Want.{Want}
 use Rattle.onfi_group.specs.declared.rules.Rules.{Rules}
 use Rattle.onfi_group.specs.Words.{Has}
@@ -136,6 +137,21 @@ started moment line = record line { start = moment }
 abbrev pub MayComeLater : Audit → Line → Type 0
 MayComeLater a line = (moment : ℕ) × (moment < 2 ^ 62) × MayCome a (started moment line)
 
+-- from when on the LUN may have the line's phase, if it may at all
+abbrev pub from_on : Option LunStage → Line → ℕ
+from_on None line = 0
+from_on (Some (stage.Free since)) line = since
+from_on (Some (stage.Running group next ready)) line = ready
+from_on (Some (stage.Open group more ready)) line = if line.is_post then ready else more
+
+-- .. and the bus too
+abbrev pub earliest : Audit → Line → ℕ
+earliest a line = max a.bus_free (from_on (slice_get a.luns line.lun) line)
+
+-- by how much it comes too soon
+abbrev pub early_by : Audit → Line → ℕ
+early_by a line = earliest a line - line.start
+
 -- What it leaves
 
 -- that phase of the group ran; what held the bus for longer goes on holding it
@@ -228,6 +244,57 @@ readied_on a lun moment (Some x) = record a { luns = slice_set a.luns lun (readi
 -- the LUN is reported ready at that moment: what its group has next may come from then on
 abbrev pub readied : Audit → ℕ → ℕ → Audit
 readied a lun moment = readied_on a lun moment (slice_get a.luns lun)
+
+-- A LUN whose phases a log lacks
+
+-- that LUN does this
+abbrev pub with_stage : Audit → ℕ → LunStage → Audit
+with_stage a lun x = record a { luns = slice_set a.luns lun x }
+
+abbrev pub IsGroupOn : Option LunStage → List Want → Type 0
+IsGroupOn None group = ⊥
+IsGroupOn (Some (stage.Free since)) group = ⊥
+IsGroupOn (Some (stage.Running g next ready)) group = g ≡ group
+IsGroupOn (Some (stage.Open g more ready)) group = g ≡ group
+
+-- the line names the member at that place of the group that the LUN runs
+pub record IsMemberOn (o : Option LunStage) (line : Line) (group : List Want) (at : ℕ) : Type 0 where
+  pub runs : IsGroupOn o group
+  pub member : Want
+  pub there : slice_get group at ≡ Some member
+  pub named : Names line member
+
+-- what a LUN does where phases before the line are missing: before a command it is free, before a post of a member that post is next
+abbrev pub IsRegained : LunStage → Line → LunStage → Type 0
+IsRegained x line y =
+    ((line.is_post ≡ false) × (y ≡ stage.Free 0))
+    ⊎ ((line.is_post ≡ true) × (group : List Want) × (at : ℕ) × IsMemberOn (Some x) line group at × (y ≡ stage.Running group (length group + at) 0))
+
+-- the line is a post of nothing that the LUN runs, or of a LUN that isn't there
+abbrev pub IsStray : Option LunStage → Line → Type 0
+IsStray o line = (o ≡ None) ⊎ ((line.is_post ≡ true) × ((group : List Want) → IsGroupOn o group → Each (λ w. Names line w → ⊥) group))
+
+-- One status for a group of several planes
+
+-- the LUN has given all commands of a group, and has its posts next from then on
+abbrev pub AwaitsPosts : Option LunStage → List Want → ℕ → Type 0
+AwaitsPosts None group ready = ⊥
+AwaitsPosts (Some (stage.Free since)) group ready = ⊥
+AwaitsPosts (Some (stage.Running g next r)) group ready = (g ≡ group) × (length group ≤ next) × (r ≡ ready)
+AwaitsPosts (Some (stage.Open g more r)) group ready = (g ≡ group) × (r ≡ ready)
+
+-- the line is the status of a member of the group that the LUN runs, and the LUN is as with that member alone
+pub record IsAlone (o : Option LunStage) (line : Line) (y : LunStage) : Type 0 where
+  pub post : line.is_post ≡ true
+  pub writes : line.operation ≢ Read
+  pub group : List Want
+  pub ready : ℕ
+  pub awaits : AwaitsPosts o group ready
+  pub at : ℕ
+  pub member : Want
+  pub there : slice_get group at ≡ Some member
+  pub named : Names line member
+  pub is : y ≡ stage.Running (member ∷ []) 1 ready
 
 -- What is reported of a line that may not come
 

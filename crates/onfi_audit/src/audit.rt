@@ -1,18 +1,20 @@
-ghost use Rattle.std.specs.Prelude.{◌≡◌, ◌≢◌, true, false, ◌<◌, ◌≤◌, length, IfOk, IfErr};
+ghost use Rattle.std.specs.Prelude.{◌≡◌, ◌≢◌, ℕ, true, false, ◌<◌, ◌≤◌, List, None, Some, option_map, slice_get, length, IfOk, IfErr, IfSome, IfNone};
 ghost use Rattle.onfi_request.specs.declared.want.Want.{Want as AWant};
-ghost use Rattle.onfi_audit.specs.Audit.{Audit as Left, IsAccepted, IsAccepting, TellsFault, accepting, first_at, opening, readied, request_of, resuming};
+ghost use Rattle.onfi_audit.specs.declared.stage.LunStage.{LunStage as AStage};
+ghost use Rattle.onfi_audit.specs.Audit.{Audit as Left, IsAccepted, AwaitsPosts, IsAccepting, IsAlone, IsGroupOn, IsRegained, IsStray, TellsFault, accepting, earliest, early_by, first_at, from_on, opening, readied, request_of, resuming, with_stage};
 
 mod judging;
 
+use crate::line::Line;
 use crate::luns::Luns;
-use crate::requests::first_at;
+use crate::requests::{find_named, first_at};
 use crate::stage::LunStage;
 use crate::waiting::Waiting;
 use onfi_addr::plane_at;
 use onfi_flight::Flight;
-use onfi_group::Rules;
+use onfi_group::{Group, Rules};
 use onfi_request::Want;
-use onfi_timing::{Kind, Timing};
+use onfi_timing::{Kind, Operation, Timing};
 use std::alloc::{AllocError, Global};
 use std::marker::Model;
 use thiserror::Error;
@@ -220,6 +222,74 @@ impl Audit {
         self.accepted -= 1;
     }
 
+    /// By how much the phase comes too soon, in ns, where it may come at all: 0 where bus and LUN wait for it.
+    pub fn early_by(&self, line: &Line) -> u64
+        ensures { result ≡ early_by self.now line.now }
+    {
+        self.earliest(line).saturating_sub(line.start)
+    }
+
+    // From when on the bus is free and the LUN may have the phase, if it may at all.
+    fn earliest(&self, line: &Line) -> u64
+        ensures { result ≡ earliest self.now line.now }
+    {
+        let stage = self.luns.as_slice().get(usize::from(line.lun));
+        self.bus_free.max(from_on(stage, line))
+    }
+
+    /// The LUN does this from now on; one that isn't there does nothing.
+    pub fn put_stage(&mut self, lun: u8, stage: LunStage)
+        ensures { self.new ≡ with_stage self.old lun stage }
+    {
+        let at = usize::from(lun);
+        if at < self.luns.as_slice().len() {
+            self.luns.set(at, stage);
+        }
+    }
+
+    /// What the line's LUN does, and what it would do where the log lacks the phases before the line: it is free before a command,
+    /// and before a post of a member of its group that post is next. None where the line is a post of nothing that it runs, or the
+    /// LUN isn't there.
+    pub fn regain_stage(&self, line: &Line) -> Option<(LunStage, LunStage)>
+        ensures there { IfSome result (λ p. slice_get self.now.luns line.now.lun ≡ Some p.0) }
+        ensures some { IfSome result (λ p. IsRegained p.0 line.now p.1) }
+        ensures none { IfNone result (IsStray (slice_get self.now.luns line.now.lun) line.now) }
+    {
+        let stage = self.luns.as_slice().get(usize::from(line.lun))?;
+        if !line.is_post {
+            return Some((stage.copy(), LunStage::Free { since: 0 }));
+        }
+        let group = group_on(stage)?;
+        let (at, _) = find_named(group.members(), line)?;
+        let next = (group.len() + at) as u8;
+        let regained = LunStage::Running {
+            group,
+            next,
+            ready: 0,
+        };
+        Some((stage.copy(), regained))
+    }
+
+    /// What the line's LUN does where the line is the status of a member of the group that it runs, as though the group had that
+    /// member alone. None where it is none: the line is a command or an output, or the LUN doesn't wait for a post of that member.
+    pub fn find_alone(&self, line: &Line) -> Option<LunStage>
+        ensures some { IfSome result (IsAlone (slice_get self.now.luns line.now.lun) line.now) }
+        ensures none { IfNone result ((x : AStage) → IsAlone (slice_get self.now.luns line.now.lun) line.now x → ⊥) }
+    {
+        let stage = self.luns.as_slice().get(usize::from(line.lun))?;
+        if !line.is_post || line.operation == Operation::Read {
+            return None;
+        }
+        let (group, ready) = awaited(stage)?;
+        let (_, member) = find_named(group.members(), line)?;
+        let alloc = self.wants.alloc();
+        Some(LunStage::Running {
+            group: Group::of(alloc, &[member]),
+            next: 1,
+            ready,
+        })
+    }
+
     /// The LUN is reported ready at that moment, in ns: what its group has next may come from then on, or as it might before
     /// where that is sooner. A LUN that is free stays so.
     pub fn ready(&mut self, lun: u8, moment: u64)
@@ -235,6 +305,46 @@ impl Audit {
 
 ghost use Rattle.onfi_timing.specs.declared.kind.Kind.TheVariants.{Erase};
 ghost use Rattle.onfi_audit.specs.Audit.{readied_stage};
+
+// From when on a LUN may have the phase of a line.
+fn from_on(stage: Option<&LunStage>, line: &Line) -> u64
+    ensures { result ≡ from_on (option_map (λ s. s.now) stage.entry) line.now }
+{
+    match stage {
+        None => 0,
+        Some(LunStage::Free { since }) => *since,
+        Some(LunStage::Running { ready, .. }) => *ready,
+        Some(LunStage::Open { more, ready, .. }) => if line.is_post { *ready } else { *more },
+    }
+}
+
+// The group that a LUN runs.
+fn group_on(stage: &LunStage) -> Option<Group>
+    ensures some { IfSome result (IsGroupOn (Some stage.now)) }
+    ensures none { IfNone result ((group : List AWant) → IsGroupOn (Some stage.now) group → ⊥) }
+{
+    match stage {
+        LunStage::Free { .. } => None,
+        LunStage::Running { group, .. } | LunStage::Open { group, .. } => Some(group.copy()),
+    }
+}
+
+// The group of which a LUN has its posts next, and from when on.
+fn awaited(stage: &LunStage) -> Option<(Group, u64)>
+    ensures some { IfSome result (λ p. AwaitsPosts (Some stage.now) p.0 p.1) }
+    ensures none { IfNone result ((group : List AWant) (ready : ℕ) → AwaitsPosts (Some stage.now) group ready → ⊥) }
+{
+    match stage {
+        LunStage::Free { .. } => None,
+        LunStage::Running { group, next, ready } => {
+            if usize::from(*next) < group.len() {
+                return None;
+            }
+            Some((group.copy(), *ready))
+        }
+        LunStage::Open { group, ready, .. } => Some((group.copy(), *ready)),
+    }
+}
 
 // Whether an erase names another page than 0.
 fn is_page_of_erase(kind: Kind, page: u16) -> bool

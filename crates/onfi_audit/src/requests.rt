@@ -1,6 +1,6 @@
 //! The request that a command is of.
 
-ghost use Rattle.std.specs.Prelude.{◌≡◌, ◌↔◌, None, Some, IsTrue, IfSome, IfNone, MatchOption, false};
+ghost use Rattle.std.specs.Prelude.{◌≡◌, ◌↔◌, None, Some, IsTrue, IfSome, IfNone, MatchOption, false, slice_get};
 ghost use Rattle.std.specs.List.{AllByRecursion as Each};
 ghost use Rattle.onfi_group.specs.Words.{Has};
 ghost use Rattle.onfi_audit.specs.Audit.{Names, first_at};
@@ -28,6 +28,20 @@ pub(crate) fn first_named(wants: &[Want], line: &Line) -> Option<Want>
     for want in wants {
         if line.names(want) {
             return Some(*want);
+        }
+    }
+    None
+}
+
+/// The first of these requests that the line names, and where it stands.
+pub(crate) fn find_named(wants: &[Want], line: &Line) -> Option<(usize, Want)>
+    ensures there { IfSome result (λ p. slice_get wants.now p.0 ≡ Some p.1) }
+    ensures named { IfSome result (λ p. Names line.now p.1) }
+    ensures none { IfNone result (Each (λ w. Names line.now w → ⊥) wants.now) }
+{
+    for (at, want) in wants.iter().enumerate() {
+        if line.names(want) {
+            return Some((at, *want));
         }
     }
     None

@@ -73,9 +73,9 @@ run = with_rule (with_rule (with_rule run_planning trace_file) quiet) (file (cod
 abbrev pub device : App
 device = with_rule (with_rule (command (codes "device")) quiet) (file (codes "FILE"))
 
--- `audit [--all] [--ready-by-status]`
+-- `audit [--all] [--ready-by-status] [--tolerance NS] [--one-status]`
 abbrev pub audit_judging : App
-audit_judging = with_rule (with_rule (command (codes "audit")) (flag (codes "all"))) (flag (codes "ready-by-status"))
+audit_judging = with_rule (with_rule (with_rule (with_rule (command (codes "audit")) (flag (codes "all"))) (flag (codes "ready-by-status"))) (value (codes "tolerance"))) (flag (codes "one-status"))
 
 -- .. with `[--optimum] [--limit N] [--csv]`
 abbrev pub audit_measuring : App
@@ -108,6 +108,11 @@ IsLimit usual given n = IsNumber 1048576 usual given n
 -- .. as the number of workers
 abbrev pub IsWorkers : Option (List ℕ) → ℕ → Type 0
 IsWorkers given n = IsNumber 8 1 given n
+
+-- by how much a phase may come too soon, 1 to 1,000,000; 0 where it wasn't given
+abbrev pub IsTolerance : Option (List ℕ) → ℕ → Type 0
+IsTolerance None n = n ≡ 0
+IsTolerance (Some text) n = field.number 1 1000000 text ≡ Ok n
 
 -- something was given that is no number from 1 to `most`
 abbrev pub IsOutside : ℕ → Option (List ℕ) → Type 0
@@ -213,11 +218,15 @@ pub record IsAudit (options : AuditOptions) (used : List Used) : Type 0 where
   pub no_table : given (codes "csv") used ≡ false
   pub is_all : options.all ≡ given (codes "all") used
   pub is_by_status : options.by_status ≡ given (codes "ready-by-status") used
+  pub is_tolerance : IsTolerance (first_of (codes "tolerance") used) options.tolerance
+  pub is_one_status : options.one_status ≡ given (codes "one-status") used
 
 -- `audit --optimum` is for this, by the stated times
 pub record IsGaps (options : GapOptions) (used : List Used) : Type 0 where
   pub optimum : given (codes "optimum") used ≡ true
   pub stated : given (codes "ready-by-status") used ≡ false
+  pub no_tolerance : is_some (first_of (codes "tolerance") used) ≡ false
+  pub each_status : given (codes "one-status") used ≡ false
   pub is_limit : IsLimit 65536 (first_of (codes "limit") used) options.limit
   pub is_all : options.all ≡ given (codes "all") used
   pub is_table : options.csv ≡ given (codes "csv") used

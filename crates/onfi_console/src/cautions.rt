@@ -59,6 +59,32 @@ fn page_rows(alloc: Global, script: &[u8]) -> Option<(Vec<Row>, Geometry)> {
     Some((rows, device.geometry))
 }
 
+/// How many bits number the planes of the device of a script, where it says that.
+pub fn plane_bits_in(alloc: Global, input: &Input<'_>) -> Option<u8> {
+    let size = script_len(input.text)?;
+    let script = &input.text[..size];
+    let shape = script
+        .split(|byte| *byte == b'\n')
+        .find(|line| line.starts_with(b"shape,"));
+    match shape {
+        Some(row) => bits_of(row),
+        None => match page_rows(alloc, script) {
+            Some((_, geometry)) => Some(geometry.plane_address_bits),
+            None => None,
+        },
+    }
+}
+
+/// The plane bits of a row `shape`.
+fn bits_of(row: &[u8]) -> Option<u8> {
+    match row.split(|byte| *byte == b',').nth(2) {
+        Some(b"0") => Some(0),
+        Some(b"1") => Some(1),
+        Some(b"2") => Some(2),
+        _ => None,
+    }
+}
+
 /// Appends to a message what is to be said of the rows that name blocks or pages beyond the device.
 fn push_beyond(
     alloc: Global,

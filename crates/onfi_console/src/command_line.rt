@@ -1,7 +1,7 @@
 //! The command line.
 ghost use Rattle.std.specs.Prelude.{◌≡◌, ◌≢◌, ◌≤◌, None, Some, false, true, is_some, IfErr, IfOk, OnOk, codes, map, option_map, string_bytes};
 ghost use Rattle.std.specs.List.{list_any};
-ghost use Rattle.clap.specs.Words.{first_value, found_of, kind_of, rows_of, subcommand_of, subcommand_rows_of};
+ghost use Rattle.clap.specs.Words.{first_of, first_value, found_of, kind_of, rows_of, subcommand_of, subcommand_rows_of};
 ghost use Rattle.clap.specs.declared.error.kind.ErrorKind.{ErrorKind};
 ghost use Rattle.onfi_script.specs.Limit.{IsLimited};
 ghost use Rattle.onfi_console.specs.Readers.{AreRead};
@@ -37,6 +37,9 @@ const PLANS_NOTHING: &str = "it plans nothing";
 
 /// The usual limit of searches whose plans may be other than optimal, the plain one excepted; it bounds their time and memory.
 const USUAL: u32 = 65_536;
+
+/// By as many ns as a phase of a log may come too soon.
+const MOST_TOLERANCE: u64 = 1_000_000;
 
 /// As many workers as a search may have.
 const MOST_WORKERS: u32 = 8;
@@ -299,14 +302,36 @@ fn run_of(used: &ArgMatches<'_>) -> Result<Named, ValueFault>
     Ok(Named::Run { options })
 }
 
-/// How a log is judged, by the flags that are given.
-fn audit_options(used: &ArgMatches<'_>) -> AuditOptions
-    ensures all { result.all ≡ spec.given (codes "all") (rows_of (found_of used.now)) }
-    ensures by_status { result.by_status ≡ spec.given (codes "ready-by-status") (rows_of (found_of used.now)) }
+/// By how much a phase may come too soon, in ns.
+fn tolerance_of(used: &ArgMatches<'_>) -> Result<u64, ValueFault>
+    ensures value { IfOk result (λ n. spec.IsTolerance (first_value (found_of used.now) (codes "tolerance")) n) }
 {
+    let Some(text) = used.get_str("tolerance") else {
+        return Ok(0);
+    };
+    match number(text.as_bytes(), 1, MOST_TOLERANCE) {
+        Ok(tolerance) => Ok(tolerance),
+        Err(_) => Err(ValueFault::Wants("--tolerance", "a number from 1 to 1000000, digits alone")),
+    }
+}
+
+/// How a log is judged.
+fn audit_options(used: &ArgMatches<'_>) -> Result<AuditOptions, ValueFault>
+    ensures all { IfOk result (λ options. options.all ≡ spec.given (codes "all") (rows_of (found_of used.now))) }
+    ensures by_status { IfOk result (λ options. options.by_status ≡ spec.given (codes "ready-by-status") (rows_of (found_of used.now))) }
+    ensures tolerance { IfOk result (λ options. spec.IsTolerance (first_of (codes "tolerance") (rows_of (found_of used.now))) options.tolerance) }
+    ensures one_status { IfOk result (λ options. options.one_status ≡ spec.given (codes "one-status") (rows_of (found_of used.now))) }
+{
+    let tolerance = tolerance_of(used)?;
     let all = is_given(used, "all");
     let by_status = is_given(used, "ready-by-status");
-    AuditOptions { all, by_status }
+    let one_status = is_given(used, "one-status");
+    Ok(AuditOptions {
+        all,
+        by_status,
+        tolerance,
+        one_status,
+    })
 }
 
 /// What `audit --optimum` with these arguments names.
@@ -315,10 +340,20 @@ fn audit_optimum_of(used: &ArgMatches<'_>) -> Result<Named, ValueFault>
     ensures range { IfOk result (λ named. spec.IsInRange named) }
     ensures named { IfOk result (λ named. spec.IsNamed named (codes "audit") (rows_of (found_of used.now))) }
 {
-    let AuditOptions { all, by_status } = audit_options(used);
+    let all = is_given(used, "all");
+    let by_status = is_given(used, "ready-by-status");
     if by_status {
         let reason = "pieces are planned by the stated times";
         return Err(ValueFault::Beside("--ready-by-status", "--optimum", reason));
+    }
+    let one_status = is_given(used, "one-status");
+    if one_status {
+        let reason = "pieces are planned with all statuses";
+        return Err(ValueFault::Beside("--one-status", "--optimum", reason));
+    }
+    if has_value(used, "tolerance") {
+        let reason = "pieces are planned to the ns";
+        return Err(ValueFault::Beside("--tolerance", "--optimum", reason));
     }
     let nodes = limit_of(used, USUAL)?;
     let limit = Limit::of(nodes).unwrap();
@@ -344,7 +379,7 @@ fn audit_of(used: &ArgMatches<'_>) -> Result<Named, ValueFault>
         let reason = "nothing else of 'audit' is a table";
         return Err(ValueFault::Without("--csv", "--optimum", reason));
     }
-    let options = audit_options(used);
+    let options = audit_options(used)?;
     Ok(Named::Audit { options })
 }
 

@@ -159,14 +159,17 @@ fn device<'a>(alloc: Global) -> Result<Command<'a>, AllocError>
     with(device, file(alloc, "FILE", help::FILE))
 }
 
-/// `audit [--all] [--ready-by-status]`
+/// `audit [--all] [--ready-by-status] [--tolerance NS] [--one-status]`
 fn audit_judging<'a>(alloc: Global) -> Result<Command<'a>, AllocError>
     ensures app { IfOk result (λ a. app_of a ≡ spec.audit_judging) }
     ensures local { IfOk result (λ a. (fields_of a).has_globals ≡ false) }
 {
     let audit = command(alloc, "audit", help::AUDIT, help::AUDIT_MORE);
     let audit = with(audit, flag(alloc, "all", help::ALL))?;
-    with(audit, flag(alloc, "ready-by-status", help::READY_BY_STATUS))
+    let audit = with(audit, flag(alloc, "ready-by-status", help::READY_BY_STATUS))?;
+    let tolerance = value(alloc, "tolerance", "NS", help::TOLERANCE);
+    let audit = with(audit, tolerance)?;
+    with(audit, flag(alloc, "one-status", help::ONE_STATUS))
 }
 
 /// .. with `[--optimum] [--limit N] [--csv]`

@@ -36,6 +36,20 @@ impl OtherText {
     }
 }
 
+impl OtherText {
+    /// What is said of it where a log was expected, if it can't be the beginning of one.
+    pub fn log_text(self) -> Option<&'static str> {
+        match self {
+            OtherText::Wide | OtherText::Mark | OtherText::NoPlan => Some(self.text()),
+            OtherText::Plan => Some(
+                "this is a plan text where a log should be; 'plan --trace' prints one",
+            ),
+            OtherText::Script => Some("this is a script where a log should be"),
+            OtherText::Trace => None,
+        }
+    }
+}
+
 /// Whether a text has two bytes a character, by its byte order mark or the zero in its first character.
 fn is_wide(text: &[u8]) -> bool {
     text.starts_with(b"\xFF\xFE")

@@ -1,6 +1,6 @@
 //! The texts of help. Times are ns, statuses are those that the program ends with.
 
-pub const VERSION: &str = "1.0.0";
+pub const VERSION: &str = "0.9.0";
 
 pub const PROGRAM: &str =
     "Plans a channel of NAND dies on one ONFI bus, checks such plans, and runs hosts' operations.";
@@ -70,26 +70,17 @@ pub const AUDIT: &str =
     "Says whether a log of phases is legal, of any length, or which line breaks which condition.";
 
 pub const AUDIT_MORE: &str = "\
-Input: a script up to its line 'end', of a device and the state of bus and LUNs, and a log behind that line or in the file LOG,
-with a line for each phase in rising start: START LUN KIND PART BLOCK PAGE, or a line of 'plan --trace' or 'plan --requests',
-whose END and command bytes must be its phase's.
+Input: a script up to its line 'end', of a device and the state of bus and LUNs, and a log after it or in the file LOG: a line
+START LUN KIND PART BLOCK PAGE for each phase in rising start, or one of 'plan --trace'; a comment begins with '#'.
 Requests are those of the script (want), any number; without such rows each first command of one mentions it.
-With --ready-by-status a line may be START LUN ready: a poll of that LUN's status ended at START, and it was ready.
-Output: 'legal N', the number of phases; or 'illegal LINE CONDITION ..' of the first line that breaks a condition, with --all
-of each; or 'refused log LINE' where a line says nothing.
-With --optimum a legal log is measured too: in the order of their first commands its groups make pieces of at most eight
-requests, and what the log ends of each is planned anew from where it began. Of each piece
-'piece LINE REQUESTS BEGIN END BEST BELOW': its first line, its requests, from when the bus was free, when the log and when the
-plan ended them, before when nothing does, all in ns; then 'gap MEAN MEDIAN MOST' of END - BEST, and 'bound BEGIN END BUS DIE
-SHARE' of all requests: none ends them before BUS or DIE, whose greater is SHARE thousandths of the log's time. With --csv in
-place of all that a table under line,requests,begin,end,best,below.
+Output: 'legal N', the number of phases; 'illegal LINE CONDITION ..' of the first line that breaks a condition, with --all of
+each; or 'refused log LINE'. With --optimum lines 'piece', 'gap' and 'bound' say how far a legal log is from the best.
 
 Statuses: 0 legal; 1 the script is refused; 2 illegal, or the log is refused; 4 memory was refused; 5 the command line is
 refused; 7 a read or write failed.
 
 Example:
   onfi_sim plan --trace examples/batch.onfi > batch.log
-  onfi_sim audit examples/batch.onfi batch.log
   onfi_sim audit --optimum examples/batch.onfi batch.log";
 
 pub const BY_PLAN: &str =
@@ -133,7 +124,13 @@ pub const PLAN_FILE: &str = "The plan text; none: it stands behind the script";
 pub const ALL: &str = "Report each line that breaks a condition, not the first alone";
 
 pub const READY_BY_STATUS: &str =
-    "Take lines 'START LUN ready': that LUN's status said ready then, so its group's next phase may start";
+    "Take lines 'START LUN ready' and 'START LUN edge': by its status or its R/B# that LUN was ready then";
+
+pub const TOLERANCE: &str =
+    "Take phases that come at most NS ns too soon; 'used N' then says by how much one did at most";
+
+pub const ONE_STATUS: &str =
+    "Take a status of a program or an erase as that of all planes of its group, as captures have it";
 
 pub const OPTIMUM: &str =
     "Say how much later a legal log ended its pieces than they could end, by plans of at most eight requests";

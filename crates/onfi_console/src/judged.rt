@@ -75,8 +75,8 @@ fn tokens_message(
     }
 }
 
-/// The text after the line `end`.
-fn plan_text<'a>(input: &Input<'a>) -> &'a [u8] {
+/// The text after the line `end`: a plan text, or a log.
+pub fn text_after<'a>(input: &Input<'a>) -> &'a [u8] {
     match script_len(input.text) {
         Some(size) => after_end(&input.text[size..]),
         None => b"",
@@ -89,7 +89,7 @@ fn plan_line_message(
     input: &Input<'_>,
     number: usize,
 ) -> Result<String, AllocError> {
-    let (text, above) = (plan_text(input), number.saturating_sub(1));
+    let (text, above) = (text_after(input), number.saturating_sub(1));
     let start = line_start(text, above);
     let before = input.text.len().saturating_sub(text.len());
     let (name, line) = input.place(before.saturating_add(start));
@@ -158,13 +158,13 @@ fn certificate_fault(command: Command, input: &Input<'_>, why: Why) -> &'static 
         Why::Cert(TextFault::Option) | Why::Known(TextFault::Option) =>
             "its header is of the other option: 'strict' of the script differs from that of the plan",
         Why::Cert(TextFault::Text(CertTextFault::TooLong)) => "it has too many tokens",
-        _ => header_fault(command, line_at(certificate(plan_text(input)), 0)),
+        _ => header_fault(command, line_at(certificate(text_after(input)), 0)),
     }
 }
 
 /// The message about a token that is none, counted from 0.
 fn bad_token_message(alloc: Global, input: &Input<'_>, at: usize) -> Result<String, AllocError> {
-    let text = certificate(plan_text(input));
+    let text = certificate(text_after(input));
     let behind = text.get(line_start(text, 1)..).unwrap_or(b"");
     let (token, why) = (
         escape_bytes(alloc, token_at(behind, at))?,

@@ -17,6 +17,7 @@ mod help;
 mod input;
 mod judged;
 mod lines;
+mod logged;
 mod parsed;
 mod place;
 mod ran;

@@ -12,7 +12,7 @@ fn has_leading_zero(line: &[u8]) -> bool {
 }
 
 /// Whether two blanks stand side by side.
-fn has_two_blanks(line: &[u8]) -> bool {
+pub fn has_two_blanks(line: &[u8]) -> bool {
     line.windows(2).any(|pair| pair == b"  ".as_slice())
 }
 

@@ -4,6 +4,7 @@ ghost use Rattle.std.specs.Prelude.{◌≡◌, IfOk, None, true};
 use crate::cautions::push_cautions;
 use crate::input::Input;
 use crate::judged::describe_refusal;
+use crate::logged::describe_log;
 use crate::parsed::{MOST, Named, Parsed};
 use crate::ran::run_message;
 use crate::script::{purpose_of, script_message};
@@ -56,6 +57,7 @@ fn about(
             refusal,
         )?)),
         (_, Named::Run { .. }) => run_message(alloc, answer),
+        (_, Named::Audit { .. } | Named::Gaps { .. }) => describe_log(alloc, input, answer),
         (Some(Why::Over(opened)), Named::Problem { .. }) => {
             Ok(Some(over_message(alloc, parsed.limit(), opened)?))
         }

@@ -1,6 +1,6 @@
 //! How far a log is from the best.
 
-ghost use Rattle.std.specs.Prelude.{◌≡◌, ◌+◌, ◌<◌, ◌≤◌, drop, length, IfOk, OnOk};
+ghost use Rattle.std.specs.Prelude.{◌≡◌, ◌+◌, ◌<◌, ◌≤◌, [], ◌∷◌, ◌++◌, drop, length, IfOk, OnOk};
 ghost use Rattle.onfi_group.specs.Words.{Pairs};
 ghost use Rattle.onfi_log.specs.Laws.{phases_of};
 ghost use Rattle.onfi_log.specs.Parts.{parts};
@@ -16,7 +16,7 @@ use crate::planning::{Terms, plan_piece};
 use crate::walk::{LUNS, Walk};
 use crate::whole::{LogBound, find_bound};
 use onfi_audit::{Audit, Line};
-use onfi_log::{LogAnswer, Requests, cut, judge_log, read_line};
+use onfi_log::{LogAnswer, Requests, cut, is_comment, judge_log, read_line};
 use onfi_plan::Limit;
 use std::alloc::{AllocError, Global};
 
@@ -31,23 +31,37 @@ pub struct Gaps {
     pub bound: Option<LogBound>,
 }
 
-/// The phases that the lines of a log say, up to the first that says nothing.
+/// The phases that the lines of a log say, up to the first that says nothing and is no comment.
 fn lines_of(alloc: Global, text: &[u8]) -> Result<Vec<Line>, AllocError>
     ensures { IfOk result (λ v. v.items ≡ phases_of (parts 10 text.now)) }
 {
     let mut lines = Vec::new(alloc);
     let mut left = text;
     while let Some((text, after)) = cut(left, b'\n') {
+        left = after;
+        if is_comment(text) {
+            continue;
+        }
         let Some(line) = read_line(text) else {
             return Ok(lines);
         };
         lines.push(line.phase)?;
-        left = after;
     }
-    if let Some(line) = read_line(left) {
+    put_last(&mut lines, left)?;
+    Ok(lines)
+}
+
+/// Appends the phase that the last line of a log says, which has no line end.
+fn put_last(lines: &mut Vec<Line>, text: &[u8]) -> Result<(), AllocError>
+    ensures { OnOk result (lines.new.items ≡ lines.old.items ++ phases_of (text.now ∷ [])) }
+{
+    if is_comment(text) {
+        return Ok(());
+    }
+    if let Some(line) = read_line(text) {
         lines.push(line.phase)?;
     }
-    Ok(lines)
+    Ok(())
 }
 
 /// What is found so far: the pieces, and the number of the group that begins the next one.

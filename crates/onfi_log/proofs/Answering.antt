@@ -1,13 +1,14 @@
 -- The answer to a log, from a line on.
-use Rattle.std.proofs.Common.{◌≡◌, ◌<◌, ℕ, ◌+◌, Bool, true, false, List, [], ◌∷◌, ◌++◌, length, Option, Some, None, Ok, Err, sym, ap, ◌∙◌, subst, arith}
+use Rattle.std.proofs.Common.{◌≡◌, ◌<◌, ℕ, ◌+◌, Bool, true, false, List, [], ◌∷◌, ◌++◌, length, Option, Some, None, Ok, Err, sym, subst, arith}
 use Rattle.std.specs.Prelude.{Result, IfOk}
 use Rattle.onfi_audit.specs.Audit.{Audit}
 use Rattle.onfi_log.specs.declared.breach.LineBreach.{LineBreach}
 use Rattle.onfi_log.specs.declared.entry.LogEntry.{LogEntry}
+use Rattle.onfi_log.specs.declared.manner.Manner.{Manner}
 use Rattle.onfi_log.specs.declared.readies.Readies.{Readies}
 use Rattle.onfi_log.specs.declared.requests.Requests.{Requests}
 use Rattle.onfi_log.specs.Entry.{entry_of, lun_in, phases_in}
-use Rattle.onfi_log.specs.Judging.{IsFresh, Judged, Takes, unclosed}
+use Rattle.onfi_log.specs.Judging.{IsFresh, Judged, Takes, beginning}
 use Rattle.onfi_log.specs.Parts.{parts}
 use Rattle.onfi_log.specs.Text.{Answer, AnswersFrom, AnswersLogBy, OnBreach, OnEntry, breach_text, broken, wrong}
 use Rattle.onfi_log.proofs.PartsLemmas.{some_parts}
@@ -57,14 +58,9 @@ module _ (readies : Readies) (all : Bool) (j : Judged) (number phases : ℕ) (fo
     broken_at b step first e = from_step (Some b) step (subst (λ f. OnBreach (Some b) f number (lun_in entry) found answer then) (sym first) e)
 
 -- the answer from the first line on is that to the log
-pub answered : (readies : Readies) (all : Bool) (requests : Requests) (audit : Audit) (j : Judged) (text : List ℕ) (answer : Answer) → j.requests ≡ requests → j.audit ≡ audit
-    → IsFresh requests j.greatest → j.closers ≡ unclosed → AnswersFrom readies all j 1 0 [] (parts 10 text) answer → AnswersLogBy requests readies audit all text answer
-answered readies all requests audit j text answer er ea fresh ec h =
-    let same : j ≡ (let k : Judged = record { requests = requests; audit = audit; greatest = j.greatest; closers = unclosed } in k) =
-    ap (λ r. let k : Judged = record { requests = r; audit = j.audit; greatest = j.greatest; closers = j.closers } in k) er
-    ∙ ap (λ a. let k : Judged = record { requests = requests; audit = a; greatest = j.greatest; closers = j.closers } in k) ea
-    ∙ ap (λ cs. let k : Judged = record { requests = requests; audit = audit; greatest = j.greatest; closers = cs } in k) ec in
-    (j.greatest, fresh, subst (λ k. AnswersFrom readies all k 1 0 [] (parts 10 text) answer) same h)
+pub answered : (manner : Manner) (all : Bool) (requests : Requests) (audit : Audit) (j : Judged) (text : List ℕ) (answer : Answer) → j ≡ beginning requests manner audit j.greatest
+    → IsFresh requests j.greatest → AnswersFrom manner.readies all j 1 0 [] (parts 10 text) answer → AnswersLogBy requests manner audit all text answer
+answered manner all requests audit j text answer begins fresh h = (j.greatest, fresh, subst (λ k. AnswersFrom manner.readies all k 1 0 [] (parts 10 text) answer) begins h)
 
 pub if_ok : {A E : Type 0} (P Q : A → Type 0) (r : Result A E) → ((x : A) → P x → Q x) → IfOk r P → IfOk r Q
 if_ok P Q (Ok x) more h = more x h

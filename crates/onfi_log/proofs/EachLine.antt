@@ -1,27 +1,29 @@
 -- Each line that breaks a condition is named, and lines that overlap break one.
-use Rattle.std.proofs.Common.{◌≡◌, ◌≢◌, ℕ, ◌+◌, ◌≤◌, ◌<◌, inl, inr, Bool, true, List, [], ◌∷◌, ◌++◌, Option, None, Some, refl, sym, ap, ◌∙◌, subst, append_assoc, append-nil, arith}
+use Rattle.std.proofs.Common.{◌≡◌, ◌≢◌, ℕ, ◌+◌, ◌-◌, ◌≤◌, ◌<◌, inl, inr, Bool, true, List, [], ◌∷◌, ◌++◌, Option, None, Some, refl, sym, ap, ◌∙◌, subst, append_assoc, append-nil, arith}
 use Rattle.std.specs.Prelude.{◌==◌, max, nat_le, nat_lt, slice_get, length}
 use Rattle.std.specs.List.{AllByRecursion as All}
 use Rattle.std.proofs.lemmas.Bool.{cases_Bool, eqb-true}
 use Rattle.onfi_request.specs.declared.want.Want.{Want}
 use Rattle.onfi_group.specs.Words.{Pairs}
 use Rattle.onfi_group.proofs.Lists.{All-weaker}
-use Rattle.onfi_audit.specs.Audit.{Audit, MayCome, MayComeOn, after_line, readied_on}
+use Rattle.onfi_audit.specs.Audit.{Audit, after_line, earliest, readied_on}
 use Rattle.onfi_audit.specs.declared.line.Line.{Line}
 use Rattle.onfi_audit.specs.declared.stage.LunStage.{LunStage}
-use Rattle.onfi_audit.specs.declared.stage.LunStage.TheVariants as stage
 use Rattle.onfi_audit.proofs.Bus.{bus_law}
 use Rattle.onfi_log.specs.declared.breach.LineBreach.{LineBreach}
 use Rattle.onfi_log.specs.declared.breach.LineBreach.TheVariants.{OtherEnd}
 use Rattle.onfi_log.specs.declared.entry.LogEntry.{LogEntry}
 use Rattle.onfi_log.specs.declared.entry.LogEntry.TheVariants as says
+use Rattle.onfi_log.specs.declared.entry.Sign.TheVariants.{Status, Edge}
 use Rattle.onfi_log.specs.declared.line.LogLine.{LogLine}
+use Rattle.onfi_log.specs.declared.manner.Statuses.{Statuses}
+use Rattle.onfi_log.specs.declared.manner.Statuses.TheVariants.{EachPlane, OneForAll}
 use Rattle.onfi_log.specs.declared.readies.Readies.{Readies}
 use Rattle.onfi_log.specs.Entry.{entry_of, lun_in, phases_in}
-use Rattle.onfi_log.specs.Judging.{Judged, Takes, after_report, brings, or_else, other_end, ran, unclosed, with_brought}
-use Rattle.onfi_log.specs.Laws.{AreLines, EachLaw, EndsAsSaid, Follow, Found, IsEach, Overlaps, found_text, found_texts, moment_of}
+use Rattle.onfi_log.specs.Judging.{FacesBy, Judged, Regains, Steps, Takes, after_report, beginning, brings, or_else, other_end, ran, staged, with_brought}
+use Rattle.onfi_log.specs.Laws.{AreLines, EachLaw, EndsAsSaid, Follow, Found, IsEach, IsOver, Overlaps, found_text, found_texts}
 use Rattle.onfi_log.specs.Parts.{parts}
-use Rattle.onfi_log.specs.Text.{Answer, AnswersFrom, OnBreach, OnEntry, breach_text, ended, ended_by, wrong}
+use Rattle.onfi_log.specs.Text.{Answer, AnswersFrom, OnBreach, OnEntry, breach_text, ended, ended_by, used_of, wrong}
 use Rattle.onfi_log.proofs.Answering.{Goes}
 use Rattle.onfi_log.proofs.LegalLogs.{in_order}
 
@@ -32,6 +34,16 @@ bus j = j.audit.bus_free
 
 free_brought : (j : Judged) (line : Line) → (with_brought j line).bus_free ≡ bus j
 free_brought j line = elim (cases_Bool (brings j line)) [ inl b ↦ rw b refl | inr b ↦ rw b refl ]
+
+free_faced : (statuses : Statuses) (j h : Judged) (line : Line) → FacesBy statuses j line h → bus h ≡ bus j
+free_faced EachPlane j h line e = ap (λ (x : Judged). bus x) e
+free_faced OneForAll j h line (inl (x, alone, e)) = ap (λ (x : Judged). bus x) e
+free_faced OneForAll j h line (inr (none, e)) = ap (λ (x : Judged). bus x) e
+
+tolerance_faced : (statuses : Statuses) (j h : Judged) (line : Line) → FacesBy statuses j line h → h.tolerance ≡ j.tolerance
+tolerance_faced EachPlane j h line e = ap (λ (x : Judged). x.tolerance) e
+tolerance_faced OneForAll j h line (inl (x, alone, e)) = ap (λ (x : Judged). x.tolerance) e
+tolerance_faced OneForAll j h line (inr (none, e)) = ap (λ (x : Judged). x.tolerance) e
 
 -- what ran leaves the bus free no sooner
 ran_later : (j k : Judged) (line : LogLine) → k ≡ ran j line → bus j ≤ bus k
@@ -51,29 +63,40 @@ report_later j k lun moment None e =
     omega (arith, same)
 report_later j k lun moment (Some b) e = let same : bus k ≡ bus j = ap (λ (x : Judged). bus x) e in omega (arith, same)
 
+past_later : (j k : Judged) (line : LogLine) → Regains j line k → bus j ≤ bus k
+past_later j k line (inl past) = elim past.runs [
+  | inl (may, e) ↦ ran_later (staged j line.phase.lun past.stage) k line e
+  | inr (none, e) ↦ (let same : bus k ≡ bus j = ap (λ (x : Judged). bus x) e in omega (arith, same))
+]
+past_later j k line (inr (stray, e)) = let same : bus k ≡ bus j = ap (λ (x : Judged). bus x) e in omega (arith, same)
+
+steps_later : (j k : Judged) (line : LogLine) (b : Option LineBreach) → Steps j line b k → bus j ≤ bus k
+steps_later j k line None (right, e) = ran_later j k line e
+steps_later j k line (Some b) (breaks, inl (may, e)) = ran_later j k line e
+steps_later j k line (Some b) (breaks, inr (none, regains)) = past_later j k line regains
+
 -- the bus never goes back
 taken_later : (j k : Judged) (entry : LogEntry) (b : Option LineBreach) → Takes j entry b k → bus j ≤ bus k
-taken_later j k (says.Phase line) None (right, e) = ran_later j k line e
-taken_later j k (says.Phase line) (Some b) (breaks, inl (may, e)) = ran_later j k line e
-taken_later j k (says.Phase line) (Some b) (breaks, inr (none, e)) = let same : bus k ≡ bus j = ap (λ (x : Judged). bus x) e in omega (arith, same)
-taken_later j k (says.Ready lun moment) b (is, e) = report_later j k lun moment b e
+taken_later j k (says.Phase line) b (h, faces, steps) =
+    let same = free_faced j.statuses j h line.phase faces in
+    let later = steps_later h k line b steps in
+    omega (arith, same, later)
+taken_later j k (says.Ready lun moment sign) b (is, e) = report_later j k lun moment b e
+taken_later j k says.Comment b (is, e) = let same : bus k ≡ bus j = ap (λ (x : Judged). bus x) e in omega (arith, same)
 
--- what may come begins when the bus is free
-may_on_time : (a : Audit) (line : Line) (o : Option LunStage) → MayComeOn a line o → a.bus_free ≤ line.start
-may_on_time a line None may = absurd may
-may_on_time a line (Some (stage.Free since)) j = let t = j.on_time in omega (arith, t)
-may_on_time a line (Some (stage.Running group next ready)) goes = let t = goes.on_time in omega (arith, t)
-may_on_time a line (Some (stage.Open group more ready)) (inl j) = let t = j.on_time in omega (arith, t)
-may_on_time a line (Some (stage.Open group more ready)) (inr goes) = let t = goes.on_time in omega (arith, t)
-
--- so does what breaks no condition
-right_on_time : (j k : Judged) (entry : LogEntry) → Takes j entry None k → bus j ≤ moment_of entry
-right_on_time j k (says.Phase line) (right, e) =
-    let a = with_brought j line.phase in
-    let same = free_brought j line.phase in
-    let late = may_on_time a line.phase (slice_get a.luns line.phase.lun) right.may in
-    omega (arith, same, late)
-right_on_time j k (says.Ready lun moment) (none, e) = (in_order j.audit lun moment none).1
+-- what breaks no condition isn't over what is on the bus
+right_on_time : (j k : Judged) (entry : LogEntry) (moment : ℕ) → Takes j entry None k → moment ≤ bus j → IsOver entry j.tolerance moment → ⊥
+right_on_time j k (says.Phase line) moment (h, faces, (right, e)) low over =
+    let a = with_brought h line.phase in
+    let same = free_brought h line.phase in
+    let faced = free_faced j.statuses j h line.phase faces in
+    let tolerance = tolerance_faced j.statuses j h line.phase faces in
+    let in_time : earliest a line.phase - line.phase.start ≤ h.tolerance = right.comes.in_time in
+    let free : a.bus_free ≤ earliest a line.phase = omega arith in
+    absurd (omega (arith, same, faced, tolerance, in_time, free, low, over))
+right_on_time j k (says.Ready lun time Status) moment (none, e) low over = let seen = (in_order Status j.audit lun time none).1 in absurd (omega (arith, seen, low, over))
+right_on_time j k (says.Ready lun time Edge) moment (none, e) low over = over
+right_on_time j k says.Comment moment (none, e) low over = over
 
 -- Lines that overlap
 
@@ -88,10 +111,8 @@ no_sooner (f ∷ found) j moment low (e, follow) =
     let later = taken_later f.before f.after f.entry f.breach f.takes in
     (omega (arith, same, low), no_sooner found f.after moment (omega (arith, same, low, later)) follow)
 
-named : (f : Found) (moment : ℕ) → moment ≤ bus f.before → moment_of f.entry < moment → f.breach ≢ None
-named f moment low soon none =
-    let late = right_on_time f.before f.after f.entry (subst (λ b. Takes f.before f.entry b f.after) none f.takes) in
-    absurd (omega (arith, low, soon, late))
+named : (f : Found) (moment : ℕ) → moment ≤ bus f.before → IsOver f.entry f.before.tolerance moment → f.breach ≢ None
+named f moment low over none = right_on_time f.before f.after f.entry moment (subst (λ b. Takes f.before f.entry b f.after) none f.takes) low over
 
 each_overlap : (found : List Found) (j : Judged) → Follow j found → Pairs (λ earlier later. Overlaps earlier later → later.breach ≢ None) found
 each_overlap [] j follow = tt
@@ -116,8 +137,9 @@ ends_as_said : (f : Found) → EndsAsSaid f
 ends_as_said f line end is none said =
     let of_line : Takes f.before (says.Phase line) f.breach f.after = subst (λ e. Takes f.before e f.breach f.after) is f.takes in
     let takes : Takes f.before (says.Phase line) None f.after = subst (λ b. Takes f.before (says.Phase line) b f.after) none of_line in
-    let (right, e) = takes in
-    ap (λ (x : Judged). bus x) e ∙ end_is line.end (after_line (with_brought f.before line.phase) line.phase).bus_free end _ right.fits said
+    let (h, faces, steps) = takes in
+    let (right, e) = steps in
+    ap (λ (x : Judged). bus x) e ∙ end_is line.end (after_line (with_brought h line.phase) line.phase).bus_free end _ right.fits said
 
 each_ends : (found : List Found) → All EndsAsSaid found
 each_ends [] = tt
@@ -137,10 +159,10 @@ record IsEnd (said : List ℕ) (answer : Answer) : Type 0 where
   pub rest : List ℕ
   pub text : answer.text ≡ said ++ rest
 
-ends : (number phases : ℕ) (said last : List ℕ) (answer : Answer) → answer ≡ ended number phases said last → IsEnd said answer
-ends number phases [] [] answer e = record { rest = (ended_by phases []).text; text = ap (λ (a : Answer). a.text) e }
-ends number phases (c ∷ said) [] answer e = record { rest = []; text = ap (λ (a : Answer). a.text) e ∙ sym (append-nil (c ∷ said)) }
-ends number phases said (c ∷ last) answer e = record { rest = _; text = ap (λ (a : Answer). a.text) e }
+ends : (number phases : ℕ) (used : Option ℕ) (said last : List ℕ) (answer : Answer) → answer ≡ ended number phases used said last → IsEnd said answer
+ends number phases used [] [] answer e = record { rest = (ended_by phases used []).text; text = ap (λ (a : Answer). a.text) e }
+ends number phases used (c ∷ said) [] answer e = record { rest = []; text = ap (λ (a : Answer). a.text) e ∙ sym (append-nil (c ∷ said)) }
+ends number phases used said (c ∷ last) answer e = record { rest = _; text = ap (λ (a : Answer). a.text) e }
 
 none_found : (readies : Readies) (j : Judged) (number : ℕ) (said : List ℕ) (texts : List (List ℕ)) (answer : Answer) → AreLines readies texts [] → IsEnd said answer
     → IsFound readies j number said texts answer
@@ -188,13 +210,13 @@ on_entry (Some entry) readies j number phases said text next more answer is (b, 
 
 found_from : (texts : List (List ℕ)) (readies : Readies) (j : Judged) (number phases : ℕ) (said : List ℕ) (answer : Answer)
     → AnswersFrom readies true j number phases said texts answer → IsFound readies j number said texts answer
-found_from [] readies j number phases said answer e = none_found readies j number said [] answer refl (ends number phases said [] answer e)
-found_from (last ∷ []) readies j number phases said answer e = none_found readies j number said (last ∷ []) answer refl (ends number phases said last answer e)
+found_from [] readies j number phases said answer e = none_found readies j number said [] answer refl (ends number phases (used_of j) said [] answer e)
+found_from (last ∷ []) readies j number phases said answer e = none_found readies j number said (last ∷ []) answer refl (ends number phases (used_of j) said last answer e)
 found_from (text ∷ next ∷ more) readies j number phases said answer on =
     on_entry (entry_of readies text) readies j number phases said text next more answer refl on (λ k n s goes. found_from (next ∷ more) readies k (number + 1) n s answer goes)
 
 pub each_law : EachLaw
-each_law audit requests readies text answer (greatest, fresh, answers) =
-    let j : Judged = record { requests = requests; audit = audit; greatest = greatest; closers = unclosed } in
-    let is = found_from (parts 10 text) readies j 1 0 [] answer answers in
-    (j, refl, record { found = is.found; follow = is.follow; lines = is.lines; rest = is.rest; text = is.text; overlaps = each_overlap is.found j is.follow; ends = each_ends is.found })
+each_law audit requests manner text answer (greatest, fresh, answers) =
+    let j = beginning requests manner audit greatest in
+    let is = found_from (parts 10 text) manner.readies j 1 0 [] answer answers in
+    (j, refl, refl, record { found = is.found; follow = is.follow; lines = is.lines; rest = is.rest; text = is.text; overlaps = each_overlap is.found j is.follow; ends = each_ends is.found })

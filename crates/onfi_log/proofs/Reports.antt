@@ -1,26 +1,28 @@
 -- Whole logs with reports of statuses: what is accepted is legal where LUNs are ready as reported.
-use Rattle.std.proofs.Common.{◌≡◌, ℕ, ◌<◌, ◌≤◌, List, [], ◌∷◌, length, Option, None, Some, refl, sym, ap, ◌∙◌, subst, inl, inr}
+use Rattle.std.proofs.Common.{◌≡◌, ℕ, ◌<◌, List, [], ◌∷◌, length, Option, None, Some, refl, sym, ap, ◌∙◌, subst, inl, inr}
 use Rattle.std.specs.Prelude.{slice_get, slice_set}
 use Rattle.std.specs.List.{AllByRecursion as All}
+use Rattle.std.proofs.lemmas.List.{length-map}
 use Rattle.onfi_request.specs.declared.want.Want.{Want}
 use Rattle.onfi_problem.specs.declared.lun_state.LunState.{LunState}
 use Rattle.onfi_problem.specs.Problem.{Problem, IsProblem}
 use Rattle.onfi_problem.proofs.Places.{get_set_same, get_set_other, length_set, same_place}
 use Rattle.onfi_audit.specs.declared.stage.LunStage.{LunStage}
 use Rattle.onfi_audit.specs.declared.stage.LunStage.TheVariants as stage
-use Rattle.onfi_audit.specs.Audit.{Audit, IsAccepted, MayCome, accepting, after_line, opening, readied, readied_on, readied_stage}
+use Rattle.onfi_audit.specs.Audit.{Audit, IsAccepted, MayCome, accepting, after_line, opening, readied, readied_on, readied_stage, stage_of}
 use Rattle.onfi_audit.specs.Legal.{Fits, IsAudit, IsChoice, IsStage, closed, problem_at, state_at, states_at, with_wants}
 use Rattle.onfi_audit.proofs.Logs.{AreAccepted, SameFrame, accepted_same, after_more, all_wait, choice_none, closed_is, frame_on, kept, kept_accepting, later_numbers, may_more, more_kept, more_next, more_none, opening_is, opening_none, stages_set, with_more}
 use Rattle.onfi_audit.proofs.States.{opening_states, states_back, states_get, states_length, states_set}
 use Rattle.onfi_audit.proofs.Steps.{back, same_parts}
-use Rattle.onfi_log.specs.Laws.{Event, LeadsBy, Mentions, Reports, Runs, mentioned, ready_by, ready_on, ready_state}
+use Rattle.onfi_log.specs.Laws.{Event, IsSeen, LeadsBy, Mentions, Remarks, Reports, Runs, mentioned, ready_by, ready_on, ready_state}
 
 -- each event in its turn
 abbrev pub AuditedBy : Audit → List Event → Audit → Type 0
 AuditedBy a [] b = a ≡ b
 AuditedBy a (Mentions w ∷ events) b = IsAccepted a w × AuditedBy (accepting a w) events b
 AuditedBy a (Runs line ∷ events) b = MayCome a line × AuditedBy (after_line a line) events b
-AuditedBy a (Reports lun moment ∷ events) b = (lun < length a.luns) × (a.bus_free ≤ moment) × AuditedBy (readied a lun moment) events b
+AuditedBy a (Reports lun moment sign ∷ events) b = (lun < length a.luns) × IsSeen sign moment a.bus_free × AuditedBy (readied a lun moment) events b
+AuditedBy a (Remarks ∷ events) b = AuditedBy a events b
 
 -- A LUN that is reported ready
 
@@ -119,21 +121,24 @@ are_accepted [] a b h = tt
 are_accepted (Mentions w ∷ events) a b (is, rest) = (is, are_accepted events (accepting a w) b rest)
 are_accepted (Runs line ∷ events) a b (may, rest) =
     accepted_same (mentioned events) (after_line a line) a (frame_on a line (slice_get a.luns line.lun)) (are_accepted events (after_line a line) b rest)
-are_accepted (Reports lun moment ∷ events) a b (there, free, rest) =
+are_accepted (Reports lun moment sign ∷ events) a b (there, free, rest) =
     accepted_same (mentioned events) (readied a lun moment) a (report_frame a lun moment) (are_accepted events (readied a lun moment) b rest)
+are_accepted (Remarks ∷ events) a b rest = are_accepted events a b rest
 
 audited_kept : (events : List Event) (a b : Audit) → IsAudit a → AuditedBy a events b → IsAudit b
 audited_kept [] a b ia e = subst IsAudit e ia
 audited_kept (Mentions w ∷ events) a b ia (is, rest) = audited_kept events (accepting a w) b (kept_accepting a w ia is) rest
 audited_kept (Runs line ∷ events) a b ia (may, rest) = audited_kept events (after_line a line) b (kept a ia line may) rest
-audited_kept (Reports lun moment ∷ events) a b ia (there, free, rest) = audited_kept events (readied a lun moment) b (report_kept a lun moment ia) rest
+audited_kept (Reports lun moment sign ∷ events) a b ia (there, free, rest) = audited_kept events (readied a lun moment) b (report_kept a lun moment ia) rest
+audited_kept (Remarks ∷ events) a b ia rest = audited_kept events a b ia rest
 
 -- phases and reports alone
 abbrev JudgedBy : Audit → List Event → Audit → Type 0
 JudgedBy a [] b = a ≡ b
 JudgedBy a (Mentions w ∷ events) b = JudgedBy a events b
 JudgedBy a (Runs line ∷ events) b = MayCome a line × JudgedBy (after_line a line) events b
-JudgedBy a (Reports lun moment ∷ events) b = (lun < length a.luns) × (a.bus_free ≤ moment) × JudgedBy (readied a lun moment) events b
+JudgedBy a (Reports lun moment sign ∷ events) b = (lun < length a.luns) × IsSeen sign moment a.bus_free × JudgedBy (readied a lun moment) events b
+JudgedBy a (Remarks ∷ events) b = JudgedBy a events b
 
 -- the same with all requests accepted up front
 up_front : (events : List Event) (a b : Audit) → IsAudit a → AuditedBy a events b → JudgedBy (with_more a (mentioned events)) events b
@@ -147,12 +152,13 @@ up_front (Runs line ∷ events) a b ia (may, rest) =
       may_more a more line o may,
       subst (λ c. JudgedBy c events b) (sym (after_more a more line o ia later may)) (up_front events (after_line a line) b (kept a ia line may) rest),
     )
-up_front (Reports lun moment ∷ events) a b ia (there, free, rest) =
+up_front (Reports lun moment sign ∷ events) a b ia (there, free, rest) =
     let more = mentioned events in (
       there,
       free,
       subst (λ c. JudgedBy c events b) (sym (report_more a lun moment more)) (up_front events (readied a lun moment) b (report_kept a lun moment ia) rest),
     )
+up_front (Remarks ∷ events) a b ia rest = up_front events a b ia rest
 
 -- what may stand after events comes from what may have stood before them
 record LedBy (a : Audit) (events : List Event) (q : Problem) : Type 0 where
@@ -169,13 +175,28 @@ led_by (Runs line ∷ events) a b ia (may, judged) after choice =
     let r = led_by events (after_line a line) b (kept a ia line may) judged after choice in
     let c = back a ia line may r.before r.choice in
     record { before = c.before; choice = c.choice; leads = (c.move, c.is, subst (λ p. LeadsBy p events (problem_at b after)) (sym c.leaves) r.leads) }
-led_by (Reports lun moment ∷ events) a b ia (there, free, judged) after choice =
+led_by (Remarks ∷ events) a b ia judged after choice =
+    let r = led_by events a b ia judged after choice in
+    record { before = r.before; choice = r.choice; leads = r.leads }
+led_by (Reports lun moment sign ∷ events) a b ia (there, free, judged) after choice =
     let r = led_by events (readied a lun moment) b (report_kept a lun moment ia) judged after choice in
     let here : lun < length (problem_at a r.before).luns = subst (λ n. lun < n) (sym (states_length a.luns r.before)) there in
     record {
       before = r.before;
       choice = choice_before a lun moment r.before r.choice;
       leads = (here, free, subst (λ p. LeadsBy p events (problem_at b after)) (report_leaves a lun moment r.before) r.leads);
+    }
+
+-- the opening with all requests that are mentioned is a problem
+pub problem_all : (p : Problem) (events : List Event) (a : Audit) → IsProblem p → AuditedBy (opening p) events a → IsProblem (with_wants p (mentioned events))
+problem_all p events a ip audited =
+    let wants = mentioned events in
+    let first_is = more_kept wants (opening p) (opening_is p ip) (are_accepted events (opening p) a audited) in
+    record {
+      wants = first_is.wants;
+      in_range = subst (λ n. All (λ (w : Want). w.lun < n) wants) (length-map p.luns stage_of) first_is.in_range;
+      ids = first_is.ids;
+      running = ip.running;
     }
 
 -- from the opening, with all requests that are mentioned, they lead to what the audit has left

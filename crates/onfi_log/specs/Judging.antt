@@ -1,12 +1,12 @@
 -- Logs that are judged line by line.
-use Rattle.std.specs.Prelude.{◌≡◌, ℕ, ◌+◌, ◌-◌, ◌*◌, [], length, ◌==◌, ◌⊎◌, max, nat_le, nat_lt, if◌then◌else◌, Bool, true, false, List, Option, Some, None, unwrap_or, slice_get, slice_index_or, slice_set, replicate}
+use Rattle.std.specs.Prelude.{◌≡◌, ℕ, ◌+◌, ◌-◌, ◌*◌, [], length, ◌==◌, ◌⊎◌, max, nat_le, nat_lt, ◌≤◌, if◌then◌else◌, Bool, true, false, List, Option, Some, None, unwrap_or, slice_get, slice_index_or, slice_set, replicate}
 use Rattle.std.specs.List.{AllByRecursion as Each}
 use Rattle.onfi_timing.specs.declared.kind.Kind.{Kind}
 use Rattle.onfi_timing.specs.declared.kind.Kind.TheVariants as kind
 use Rattle.onfi_timing.specs.declared.operation.Operation.{Operation}
 use Rattle.onfi_timing.specs.declared.operation.Operation.TheVariants.{Read, Program, Erase}
 use Rattle.onfi_request.specs.declared.want.Want.{Want}
-use Rattle.onfi_audit.specs.Audit.{Audit, MayCome, MayComeLater, Tells, accepting, after_line, first_at, readied, request_of}
+use Rattle.onfi_audit.specs.Audit.{Audit, IsAlone, IsRegained, IsStray, MayComeLater, Tells, accepting, after_line, early_by, first_at, readied, request_of, with_stage}
 use Rattle.onfi_audit.specs.declared.line.Line.{Line}
 use Rattle.onfi_audit.specs.declared.breach.LogBreach.{LogBreach}
 use Rattle.onfi_audit.specs.declared.breach.LogBreach.TheVariants.{BlockOrder, BusNotFree, NoLun, OtherPhase, UnknownRequest}
@@ -18,18 +18,27 @@ use Rattle.onfi_log.specs.declared.bytes.Bytes.{Bytes}
 use Rattle.onfi_log.specs.declared.bytes.Bytes.TheVariants.{Last, More, Other}
 use Rattle.onfi_log.specs.Bytes.{fits}
 use Rattle.onfi_log.specs.declared.entry.LogEntry.{LogEntry}
-use Rattle.onfi_log.specs.declared.entry.LogEntry.TheVariants.{Phase, Ready}
+use Rattle.onfi_log.specs.declared.entry.LogEntry.TheVariants.{Phase, Ready, Comment}
+use Rattle.onfi_log.specs.declared.entry.Sign.{Sign}
+use Rattle.onfi_log.specs.declared.entry.Sign.TheVariants.{Status, Edge}
 use Rattle.onfi_log.specs.declared.line.LogLine.{LogLine}
+use Rattle.onfi_log.specs.declared.manner.Manner.{Manner}
+use Rattle.onfi_log.specs.declared.manner.Statuses.{Statuses}
+use Rattle.onfi_log.specs.declared.manner.Statuses.TheVariants.{EachPlane, OneForAll}
 use Rattle.onfi_log.specs.declared.requests.Requests.{Requests}
 use Rattle.onfi_log.specs.declared.requests.Requests.TheVariants.{Accepted, Mentioned}
 
--- a log as far as it was judged: which requests it is of, what it has left, of each block one more than the greatest number
--- that a request had which began there, 0 where none had one, and of each LUN the bytes of the command that began a request last
+-- a log as far as it was judged: which requests it is of, how much too soon a phase may come, which statuses it has, what it has left,
+-- of each block one more than the greatest number that a request had which began there, 0 where none had one, of each LUN the bytes of
+-- the command that began a request last, and by how much a phase that ran came too soon at most
 pub record Judged : Type 0 where
   pub requests : Requests
+  pub tolerance : ℕ
+  pub statuses : Statuses
   pub audit : Audit
   pub greatest : List ℕ
   pub closers : List (Option Bytes)
+  pub early : ℕ
 
 -- Requests that the log mentions
 
@@ -186,14 +195,27 @@ misfit j line = misfit_by (last_known j.audit line.phase) (after_line (with_brou
 abbrev pub with_notes : Judged → Bool → LogLine → Judged
 with_notes j begins line = record j { greatest = noted begins j.greatest line; closers = closed begins j.closers line }
 
+-- the state in which a line is judged
+abbrev pub bringing : Judged → Line → Judged
+bringing j line = record j { audit = with_brought j line }
+
+-- a phase ran; how much too soon it came is kept
+abbrev pub gone_by : Judged → Line → Judged
+gone_by j line = record j { audit = after_line j.audit line; early = max j.early (early_by j.audit line) }
+
 -- the log once the line's phase ran
 abbrev pub ran : Judged → LogLine → Judged
-ran j line = with_notes (record j { audit = after_line (with_brought j line.phase) line.phase }) (begins j.audit line.phase) line
+ran j line = with_notes (gone_by (bringing j line.phase) line.phase) (begins j.audit line.phase) line
+
+-- a phase may come, and comes too soon by no more than that
+pub record ComesBy (tolerance : ℕ) (a : Audit) (line : Line) : Type 0 where
+  pub may : MayComeLater a line
+  pub in_time : early_by a line ≤ tolerance
 
 -- the line breaks no condition
 pub record IsRight (j : Judged) (line : LogLine) : Type 0 where
   pub named : amiss j line ≡ None
-  pub may : MayCome (with_brought j line.phase) line.phase
+  pub comes : ComesBy j.tolerance (with_brought j line.phase) line.phase
   pub fits : misfit j line ≡ None
 
 -- a phase breaks a condition of logs
@@ -203,41 +225,73 @@ TellsOf a line (NotClosed lun) = ⊥
 TellsOf a line (OtherEnd end ends) = ⊥
 TellsOf a line (OtherBytes operation is_post is_last) = ⊥
 
--- a phase breaks this one, where that is amiss with it
-abbrev pub BreaksBy : Option LineBreach → Audit → Line → LineBreach → Type 0
-BreaksBy amiss a line b = (amiss ≡ Some b) ⊎ ((amiss ≡ None) × TellsOf a line b × (MayCome a line → ⊥))
+-- a phase breaks this one, where that is amiss with it, and it may come so much too soon
+abbrev pub BreaksBy : Option LineBreach → ℕ → Audit → Line → LineBreach → Type 0
+BreaksBy amiss tolerance a line b = (amiss ≡ Some b) ⊎ ((amiss ≡ None) × TellsOf a line b × (ComesBy tolerance a line → ⊥))
 
 -- a phase may come, but not as the line has it
 pub record IsMisfit (j : Judged) (line : LogLine) (b : LineBreach) : Type 0 where
   pub named : amiss j line ≡ None
-  pub may : MayCome (with_brought j line.phase) line.phase
+  pub comes : ComesBy j.tolerance (with_brought j line.phase) line.phase
   pub misfit : misfit j line ≡ Some b
 
 abbrev pub Breaks : Judged → LogLine → LineBreach → Type 0
-Breaks j line b = BreaksBy (amiss j line) (with_brought j line.phase) line.phase b ⊎ IsMisfit j line b
+Breaks j line b = BreaksBy (amiss j line) j.tolerance (with_brought j line.phase) line.phase b ⊎ IsMisfit j line b
 
--- then its phase counts as run where it may come, if not so soon; and else as left out
+-- whether the line's phase ran, as it does where it may come, if not so soon; and the log then
+abbrev pub RanBy : Bool → Judged → LogLine → Judged → Type 0
+RanBy true j line k = MayComeLater (with_brought j line.phase) line.phase × (k ≡ ran j line)
+RanBy false j line k = (MayComeLater (with_brought j line.phase) line.phase → ⊥) × (k ≡ j)
+
+-- the log with that LUN doing this
+abbrev pub staged : Judged → ℕ → LunStage → Judged
+staged j lun x = record j { audit = with_stage j.audit lun x }
+
+-- a line that may not come even later runs where phases are taken as missing before it, if it then may come
+pub record RunsPast (j : Judged) (line : LogLine) (k : Judged) : Type 0 where
+  pub before : LunStage
+  pub there : slice_get j.audit.luns line.phase.lun ≡ Some before
+  pub stage : LunStage
+  pub regained : IsRegained before line.phase stage
+  pub runs : RanBy true (staged j line.phase.lun stage) line k ⊎ (RanBy false (staged j line.phase.lun stage) line (staged j line.phase.lun stage) × (k ≡ j))
+
+abbrev pub Regains : Judged → LogLine → Judged → Type 0
+Regains j line k = RunsPast j line k ⊎ (IsStray (slice_get j.audit.luns line.phase.lun) line.phase × (k ≡ j))
+
+-- after a line that breaks a condition its phase counts as run where it may come, if not so soon; else where it may come once phases are
+-- taken as missing before it; and else as left out
 abbrev pub GoesOnBy : Judged → LogLine → Judged → Type 0
-GoesOnBy j line k =
-    (MayComeLater (with_brought j line.phase) line.phase × (k ≡ ran j line))
-    ⊎ ((MayComeLater (with_brought j line.phase) line.phase → ⊥) × (k ≡ j))
+GoesOnBy j line k = RanBy true j line k ⊎ (RanBy false j line j × Regains j line k)
 
 -- the line breaks that condition, or none, and that is the log then
 abbrev pub Steps : Judged → LogLine → Option LineBreach → Judged → Type 0
 Steps j line None k = IsRight j line × (k ≡ ran j line)
 Steps j line (Some b) k = Breaks j line b × GoesOnBy j line k
 
--- the state in which a line is judged
-abbrev pub bringing : Judged → Line → Judged
-bringing j line = record j { audit = with_brought j line }
+-- One status for a group of several planes
+
+-- a status is that of all of its group where a log has one for each group: what the line is judged after
+abbrev pub FacesBy : Statuses → Judged → Line → Judged → Type 0
+FacesBy EachPlane j line h = h ≡ j
+FacesBy OneForAll j line h =
+    ((x : LunStage) × IsAlone (slice_get j.audit.luns line.lun) line x × (h ≡ staged j line.lun x))
+    ⊎ (((x : LunStage) → IsAlone (slice_get j.audit.luns line.lun) line x → ⊥) × (h ≡ j))
+
+abbrev pub Faces : Judged → Line → Judged → Type 0
+Faces j line h = FacesBy j.statuses j line h
 
 -- A LUN that is reported ready
 
--- why its status can't have reported it ready then: it isn't there, or a phase is on the bus, over which a status is read
-abbrev pub misreported : Audit → ℕ → ℕ → Option LineBreach
-misreported a lun moment =
+-- a status is read over the bus, so not while a phase is on it
+abbrev pub is_over_bus : Sign → ℕ → ℕ → Bool
+is_over_bus Status moment bus_free = nat_lt moment bus_free
+is_over_bus Edge moment bus_free = false
+
+-- why it can't have been reported ready then: it isn't there, or a phase is on the bus
+abbrev pub misreported : Audit → ℕ → ℕ → Sign → Option LineBreach
+misreported a lun moment sign =
     if nat_le (length a.luns) lun then Some (Condition (NoLun lun))
-    else (if nat_lt moment a.bus_free then Some (Condition (BusNotFree moment a.bus_free))
+    else (if is_over_bus sign moment a.bus_free then Some (Condition (BusNotFree moment a.bus_free))
     else None)
 
 -- the log after a report that breaks this condition, or none
@@ -247,8 +301,9 @@ after_report j lun moment (Some b) = j
 
 -- what a line says breaks that condition, or none, and that is the log then
 abbrev pub Takes : Judged → LogEntry → Option LineBreach → Judged → Type 0
-Takes j (Phase line) b k = Steps j line b k
-Takes j (Ready lun moment) b k = (b ≡ misreported j.audit lun moment) × (k ≡ after_report j lun moment b)
+Takes j (Phase line) b k = (h : Judged) × Faces j line.phase h × Steps h line b k
+Takes j (Ready lun moment sign) b k = (b ≡ misreported j.audit lun moment sign) × (k ≡ after_report j lun moment b)
+Takes j Comment b k = (b ≡ None) × (k ≡ j)
 
 -- A log of which nothing was judged
 
@@ -260,3 +315,8 @@ IsFresh Mentioned greatest = (length greatest ≡ 8 * 65536) × Each (λ n. n �
 -- .. and no command has a closer
 abbrev pub unclosed : List (Option Bytes)
 unclosed = replicate 8 None
+
+-- .. and no phase came too soon
+abbrev pub beginning : Requests → Manner → Audit → List ℕ → Judged
+beginning requests manner audit greatest =
+    record { requests = requests; tolerance = manner.tolerance; statuses = manner.statuses; audit = audit; greatest = greatest; closers = unclosed; early = 0 }

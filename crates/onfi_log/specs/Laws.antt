@@ -1,5 +1,5 @@
 -- Laws of logs that are answered.
-use Rattle.std.specs.Prelude.{◌≡◌, ◌≢◌, ℕ, ◌+◌, ◌<◌, ◌≤◌, min, Bool, true, List, [], ◌∷◌, ◌++◌, length, map, Option, Some, None, slice_get, slice_set}
+use Rattle.std.specs.Prelude.{◌≡◌, ◌≢◌, ℕ, ◌+◌, ◌<◌, ◌≤◌, min, if◌then◌else◌, Bool, true, false, List, [], ◌∷◌, ◌++◌, length, map, Option, Some, None, slice_get, slice_set}
 use Rattle.std.specs.List.{AllByRecursion as Each}
 use Rattle.onfi_request.specs.declared.want.Want.{Want}
 use Rattle.onfi_group.specs.Words.{Pairs}
@@ -13,12 +13,16 @@ use Rattle.onfi_audit.specs.declared.line.Line.{Line}
 use Rattle.onfi_log.specs.declared.breach.LineBreach.{LineBreach}
 use Rattle.onfi_log.specs.declared.entry.LogEntry.{LogEntry}
 use Rattle.onfi_log.specs.declared.entry.LogEntry.TheVariants as says
+use Rattle.onfi_log.specs.declared.entry.Sign.{Sign}
+use Rattle.onfi_log.specs.declared.entry.Sign.TheVariants.{Status, Edge}
 use Rattle.onfi_log.specs.declared.line.LogLine.{LogLine}
+use Rattle.onfi_log.specs.declared.manner.Manner.{Manner}
 use Rattle.onfi_log.specs.declared.readies.Readies.{Readies}
 use Rattle.onfi_log.specs.declared.requests.Requests.{Requests}
 use Rattle.onfi_log.specs.Entry.{entry_of, lun_in}
 use Rattle.onfi_log.specs.Judging.{Judged, Takes, brought_by}
-use Rattle.onfi_log.specs.Line.{line_of}
+use Rattle.onfi_log.specs.Line.{is_comment, line_of}
+use Rattle.onfi_log.specs.Manner.{exact_by}
 use Rattle.onfi_log.specs.Parts.{parts}
 use Rattle.onfi_log.specs.Text.{Answer, AnswersLog, AnswersLogBy, breach_text}
 
@@ -28,18 +32,24 @@ use Rattle.onfi_log.specs.Text.{Answer, AnswersLog, AnswersLogBy, breach_text}
 abbrev pub IsSaid : List ℕ → Line → Type 0
 IsSaid text line = (l : LogLine) × (line_of text ≡ Some l) × (l.phase ≡ line)
 
--- each of the texts but the last, which has no line end, says one of the phases
+-- a comment, or the first of the phases
+abbrev pub SaysFirst : Bool → List ℕ → List Line → (List Line → Type 0) → Type 0
+SaysFirst true text lines Rest = Rest lines
+SaysFirst false text [] Rest = ⊥
+SaysFirst false text (line ∷ lines) Rest = IsSaid text line × Rest lines
+
+-- each of the texts but comments and the last, which has no line end, says one of the phases
 abbrev pub Says : List (List ℕ) → List Line → Type 0
 Says [] lines = lines ≡ []
 Says (last ∷ []) lines = lines ≡ []
-Says (text ∷ next ∷ more) [] = ⊥
-Says (text ∷ next ∷ more) (line ∷ lines) = IsSaid text line × Says (next ∷ more) lines
+Says (text ∷ next ∷ more) lines = SaysFirst (is_comment text) text lines (λ rest. Says (next ∷ more) rest)
 
--- what is answered as legal is: with the requests that it mentions, and after what came before, its phases lead from the opening on
+-- what is answered as legal is: with the requests that it mentions, and after what came before, the opening is a problem, and its
+-- phases lead on from that
 abbrev pub LegalLaw : Type 0
 LegalLaw = (p : Problem) (before : List Entry) (a : Audit) (requests : Requests) (all : Bool) (text : List ℕ) (answer : Answer)
     → IsProblem p → Audited (opening p) before a → AnswersLog requests a all text answer → answer.status ≡ 0
-    → (entries : List Entry) × (q : Problem) × Says (parts 10 text) (lines_of entries)
+    → (entries : List Entry) × (q : Problem) × Says (parts 10 text) (lines_of entries) × IsProblem (with_wants p (wants_of (before ++ entries)))
     × Leads (with_wants p (wants_of (before ++ entries))) (lines_of (before ++ entries)) q
 
 -- The lines of a legal log
@@ -48,10 +58,10 @@ abbrev pub with_phase : Option LogLine → List Line → List Line
 with_phase None lines = []
 with_phase (Some l) lines = l.phase ∷ lines
 
--- the phases that the texts say, up to the first that says none
+-- the phases that the texts say, up to the first that says none and is no comment
 abbrev pub phases_of : List (List ℕ) → List Line
 phases_of [] = []
-phases_of (text ∷ texts) = with_phase (line_of text) (phases_of texts)
+phases_of (text ∷ texts) = if is_comment text then phases_of texts else with_phase (line_of text) (phases_of texts)
 
 -- each line may come after those before it, with the request that it brings
 abbrev pub AllCome : Requests → Audit → List Line → Type 0
@@ -78,11 +88,12 @@ ready_on p lun moment (Some s) = record p { luns = slice_set p.luns lun (ready_s
 abbrev pub ready_by : Problem → ℕ → ℕ → Problem
 ready_by p lun moment = ready_on p lun moment (slice_get p.luns lun)
 
--- what a log has: a request that it mentions, a phase, or a report that a LUN is ready at a moment
+-- what a log has: a request that it mentions, a phase, a report that a LUN is ready at a moment, by what sign, or a comment
 pub data Event : Type 0 where
   Mentions : Want → Event
   Runs : Line → Event
-  Reports : ℕ → ℕ → Event
+  Reports : ℕ → ℕ → Sign → Event
+  Remarks : Event
 
 abbrev pub event_of : Entry → Event
 event_of (Accept w) = Mentions w
@@ -92,7 +103,8 @@ abbrev pub mentioned : List Event → List Want
 mentioned [] = []
 mentioned (Mentions w ∷ events) = w ∷ mentioned events
 mentioned (Runs line ∷ events) = mentioned events
-mentioned (Reports lun moment ∷ events) = mentioned events
+mentioned (Reports lun moment sign ∷ events) = mentioned events
+mentioned (Remarks ∷ events) = mentioned events
 
 -- each of the texts but the last, which has no line end, says one of the phases and reports
 abbrev pub SaysBy : Readies → List (List ℕ) → List Event → Type 0
@@ -101,22 +113,29 @@ SaysBy readies texts (Mentions w ∷ events) = SaysBy readies texts events
 SaysBy readies [] (Runs line ∷ events) = ⊥
 SaysBy readies (text ∷ texts) (Runs line ∷ events) =
     ((l : LogLine) × (entry_of readies text ≡ Some (says.Phase l)) × (l.phase ≡ line)) × SaysBy readies texts events
-SaysBy readies [] (Reports lun moment ∷ events) = ⊥
-SaysBy readies (text ∷ texts) (Reports lun moment ∷ events) = (entry_of readies text ≡ Some (says.Ready lun moment)) × SaysBy readies texts events
+SaysBy readies [] (Reports lun moment sign ∷ events) = ⊥
+SaysBy readies (text ∷ texts) (Reports lun moment sign ∷ events) = (entry_of readies text ≡ Some (says.Ready lun moment sign)) × SaysBy readies texts events
+SaysBy readies [] (Remarks ∷ events) = ⊥
+SaysBy readies (text ∷ texts) (Remarks ∷ events) = (entry_of readies text ≡ Some says.Comment) × SaysBy readies texts events
 
--- each phase is that of a move of the problem as it then stands, with the LUNs ready that were reported so when the bus was free,
--- and that problem is left
+-- a status was read when the bus was free; the edge of a ready/busy line comes at any moment
+abbrev pub IsSeen : Sign → ℕ → ℕ → Type 0
+IsSeen Status moment bus_free = bus_free ≤ moment
+IsSeen Edge moment bus_free = Unit {0}
+
+-- each phase is that of a move of the problem as it then stands, with the LUNs ready that were reported so, and that problem is left
 abbrev pub LeadsBy : Problem → List Event → Problem → Type 0
 LeadsBy p [] q = p ≡ q
 LeadsBy p (Mentions w ∷ events) q = LeadsBy p events q
 LeadsBy p (Runs line ∷ events) q = (move : Move) × IsLineOf p move line × LeadsBy (placed p move line.start) events q
-LeadsBy p (Reports lun moment ∷ events) q = (lun < length p.luns) × (p.bus_free ≤ moment) × LeadsBy (ready_by p lun moment) events q
+LeadsBy p (Reports lun moment sign ∷ events) q = (lun < length p.luns) × IsSeen sign moment p.bus_free × LeadsBy (ready_by p lun moment) events q
+LeadsBy p (Remarks ∷ events) q = LeadsBy p events q
 
 -- .. the same of a log with reports: its phases lead from the opening on where LUNs are ready as reported
 abbrev pub ReportedLaw : Type 0
 ReportedLaw = (p : Problem) (before : List Entry) (a : Audit) (requests : Requests) (readies : Readies) (all : Bool) (text : List ℕ) (answer : Answer)
-    → IsProblem p → Audited (opening p) before a → AnswersLogBy requests readies a all text answer → answer.status ≡ 0
-    → (events : List Event) × (q : Problem) × SaysBy readies (parts 10 text) events
+    → IsProblem p → Audited (opening p) before a → AnswersLogBy requests (exact_by readies) a all text answer → answer.status ≡ 0
+    → (events : List Event) × (q : Problem) × SaysBy readies (parts 10 text) events × IsProblem (with_wants p (mentioned (map event_of before ++ events)))
     × LeadsBy (with_wants p (mentioned (map event_of before ++ events))) (map event_of before ++ events) q
 
 -- Each line that breaks a condition
@@ -151,13 +170,16 @@ abbrev pub found_texts : ℕ → List Found → List ℕ
 found_texts number [] = []
 found_texts number (f ∷ found) = found_text number f.entry f.breach ++ found_texts (number + 1) found
 
-abbrev pub moment_of : LogEntry → ℕ
-moment_of (says.Phase line) = line.phase.start
-moment_of (says.Ready lun moment) = moment
+-- what needs the bus begins by more than that before it is free
+abbrev pub IsOver : LogEntry → ℕ → ℕ → Type 0
+IsOver (says.Phase line) tolerance bus_free = line.phase.start + tolerance < bus_free
+IsOver (says.Ready lun moment Status) tolerance bus_free = moment < bus_free
+IsOver (says.Ready lun moment Edge) tolerance bus_free = ⊥
+IsOver says.Comment tolerance bus_free = ⊥
 
--- the later line begins while the earlier one, or what came before that, is on the bus
+-- the later line begins while the earlier one, or what came before that, is on the bus, and by more than a phase may come too soon
 abbrev pub Overlaps : Found → Found → Type 0
-Overlaps earlier later = moment_of later.entry < earlier.after.audit.bus_free
+Overlaps earlier later = IsOver later.entry later.before.tolerance earlier.after.audit.bus_free
 
 -- a line that breaks nothing ends when it says so: from then on the bus is free
 abbrev pub EndsAsSaid : Found → Type 0
@@ -175,5 +197,5 @@ pub record IsEach (readies : Readies) (j : Judged) (texts : List (List ℕ)) (an
   pub ends : Each EndsAsSaid found
 
 abbrev pub EachLaw : Type 0
-EachLaw = (audit : Audit) (requests : Requests) (readies : Readies) (text : List ℕ) (answer : Answer) → AnswersLogBy requests readies audit true text answer
-    → (j : Judged) × (j.audit ≡ audit) × IsEach readies j (parts 10 text) answer
+EachLaw = (audit : Audit) (requests : Requests) (manner : Manner) (text : List ℕ) (answer : Answer) → AnswersLogBy requests manner audit true text answer
+    → (j : Judged) × (j.audit ≡ audit) × (j.tolerance ≡ manner.tolerance) × IsEach manner.readies j (parts 10 text) answer

@@ -1,5 +1,5 @@
 -- What a line of a log says.
-use Rattle.std.specs.Prelude.{ℕ, ◌+◌, ◌==◌, nat_le, if◌then◌else◌, Bool, true, false, List, [], length, Option, Some, None, unwrap_or, slice_get, codes}
+use Rattle.std.specs.Prelude.{ℕ, ◌+◌, ◌==◌, nat_le, if◌then◌else◌, Bool, true, false, List, [], ◌∷◌, length, Option, Some, None, unwrap_or, slice_get, codes}
 use Rattle.std.specs.Str.{bytes_eq}
 use Rattle.onfi_timing.specs.Decimal.{number_of}
 use Rattle.onfi_timing.specs.declared.operation.Operation.{Operation}
@@ -21,6 +21,11 @@ up_to most n = if nat_le n most then Some n else None
 
 abbrev pub number : ℕ → List ℕ → Option ℕ
 number most text = and_then (number_of text) (up_to most)
+
+-- it begins with '#'
+abbrev pub is_comment : List ℕ → Bool
+is_comment [] = false
+is_comment (c ∷ cs) = c == 35
 
 abbrev pub operation : List ℕ → Option Operation
 operation text =

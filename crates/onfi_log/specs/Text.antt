@@ -1,5 +1,5 @@
 -- The answer to a log.
-use Rattle.std.specs.Prelude.{◌≡◌, ℕ, ◌+◌, Bool, true, false, List, [], ◌∷◌, ◌++◌, Option, Some, None, codes}
+use Rattle.std.specs.Prelude.{◌≡◌, ℕ, ◌+◌, ◌==◌, if◌then◌else◌, Bool, true, false, List, [], ◌∷◌, ◌++◌, Option, Some, None, codes}
 use Rattle.std.specs.Fmt.{decimal}
 use Rattle.onfi_audit.specs.Audit.{Audit}
 use Rattle.onfi_timing.specs.declared.operation.Operation.{Operation}
@@ -9,12 +9,13 @@ use Rattle.onfi_log.specs.declared.answer.LogAnswer.{LogAnswer}
 use Rattle.onfi_log.specs.declared.breach.LineBreach.{LineBreach}
 use Rattle.onfi_log.specs.declared.breach.LineBreach.TheVariants.{Condition, NotClosed, OtherBytes, OtherEnd}
 use Rattle.onfi_log.specs.declared.entry.LogEntry.{LogEntry}
+use Rattle.onfi_log.specs.declared.manner.Manner.{Manner}
 use Rattle.onfi_log.specs.declared.readies.Readies.{Readies}
-use Rattle.onfi_log.specs.declared.readies.Readies.TheVariants.{Stated}
 use Rattle.onfi_log.specs.declared.requests.Requests.{Requests}
 use Rattle.onfi_log.specs.Bytes.{closer_word, opener_word}
 use Rattle.onfi_log.specs.Entry.{entry_of, lun_in, phases_in}
-use Rattle.onfi_log.specs.Judging.{IsFresh, Judged, Takes, unclosed}
+use Rattle.onfi_log.specs.Judging.{IsFresh, Judged, Takes, beginning}
+use Rattle.onfi_log.specs.Manner.{exact}
 use Rattle.onfi_log.specs.Parts.{parts}
 
 -- what is written, and the status that goes with it
@@ -63,15 +64,24 @@ broken found = record { text = found; status = 2 }
 abbrev pub wrong : ℕ → List ℕ → Answer
 wrong number found = broken (found ++ (codes "refused log " ++ (decimal number ++ codes "\n")))
 
+-- `used N`: of a legal log whose phases may come too soon, by how much one did at most
+abbrev pub used_text : Option ℕ → List ℕ
+used_text None = []
+used_text (Some early) = codes "used " ++ (decimal early ++ codes "\n")
+
 -- .. where the log ends after so many phases
-abbrev pub ended_by : ℕ → List ℕ → Answer
-ended_by phases [] = record { text = codes "legal " ++ (decimal phases ++ codes "\n"); status = 0 }
-ended_by phases (c ∷ found) = broken (c ∷ found)
+abbrev pub ended_by : ℕ → Option ℕ → List ℕ → Answer
+ended_by phases used [] = record { text = codes "legal " ++ (decimal phases ++ (codes "\n" ++ used_text used)); status = 0 }
+ended_by phases used (c ∷ found) = broken (c ∷ found)
 
 -- .. with nothing more; what has no line end is no line
-abbrev pub ended : ℕ → ℕ → List ℕ → List ℕ → Answer
-ended number phases found [] = ended_by phases found
-ended number phases found (c ∷ last) = wrong number found
+abbrev pub ended : ℕ → ℕ → Option ℕ → List ℕ → List ℕ → Answer
+ended number phases used found [] = ended_by phases used found
+ended number phases used found (c ∷ last) = wrong number found
+
+-- where phases may come too soon, by how much one did at most
+abbrev pub used_of : Judged → Option ℕ
+used_of j = if j.tolerance == 0 then None else Some j.early
 
 -- The log
 
@@ -88,20 +98,20 @@ OnBreach (Some b) false number lun found answer Goes = answer ≡ broken (found 
 
 -- the answer to the lines of a log from that number on, after so many phases and lines of conditions that are broken
 abbrev pub AnswersFrom : Readies → Bool → Judged → ℕ → ℕ → List ℕ → List (List ℕ) → Answer → Type 0
-AnswersFrom readies all j number phases found [] answer = answer ≡ ended number phases found []
-AnswersFrom readies all j number phases found (last ∷ []) answer = answer ≡ ended number phases found last
+AnswersFrom readies all j number phases found [] answer = answer ≡ ended number phases (used_of j) found []
+AnswersFrom readies all j number phases found (last ∷ []) answer = answer ≡ ended number phases (used_of j) found last
 AnswersFrom readies all j number phases found (text ∷ next ∷ more) answer =
     OnEntry (entry_of readies text) number found answer (λ entry.
     (b : Option LineBreach) × (k : Judged) × Takes j entry b k
     × OnBreach b all number (lun_in entry) found answer (λ found'.
     AnswersFrom readies all k (number + 1) (phases + phases_in entry) found' (next ∷ more) answer))
 
--- the answer to a log whose lines may be reports, where those are taken
-abbrev pub AnswersLogBy : Requests → Readies → Audit → Bool → List ℕ → Answer → Type 0
-AnswersLogBy requests readies audit all text answer =
+-- the answer to a log that is taken in that manner
+abbrev pub AnswersLogBy : Requests → Manner → Audit → Bool → List ℕ → Answer → Type 0
+AnswersLogBy requests manner audit all text answer =
     (greatest : List ℕ) × IsFresh requests greatest
-    × AnswersFrom readies all (record { requests = requests; audit = audit; greatest = greatest; closers = unclosed }) 1 0 [] (parts 10 text) answer
+    × AnswersFrom manner.readies all (beginning requests manner audit greatest) 1 0 [] (parts 10 text) answer
 
 -- the answer to a log of phases alone
 abbrev pub AnswersLog : Requests → Audit → Bool → List ℕ → Answer → Type 0
-AnswersLog requests audit all text answer = AnswersLogBy requests Stated audit all text answer
+AnswersLog requests audit all text answer = AnswersLogBy requests exact audit all text answer

@@ -114,32 +114,50 @@ pub(crate) fn answer_wrong(
     Ok(answer_broken(found))
 }
 
+/// Of a legal log whose phases may come too soon, by how much one did at most.
+fn write_used(alloc: Global, used: Option<u64>) -> Result<String, AllocError>
+    ensures { IfOk result (λ s. string_bytes s ≡ spec.used_text used) }
+{
+    match used {
+        None => Ok(String::new(alloc)),
+        Some(early) => format!(in alloc; "used {early}\n"),
+    }
+}
+
 /// .. where the log ends after so many phases.
-fn write_end(alloc: Global, found: String, phases: u64) -> Result<LogAnswer, AllocError>
-    ensures { IfOk result (λ a. spec.answer_of a ≡ spec.ended_by phases (string_bytes found)) }
+fn write_end(
+    alloc: Global,
+    found: String,
+    phases: u64,
+    used: Option<u64>,
+) -> Result<LogAnswer, AllocError>
+    ensures { IfOk result (λ a. spec.answer_of a ≡ spec.ended_by phases used (string_bytes found)) }
 {
     if !found.is_empty() {
         return Ok(answer_broken(found));
     }
-    let text = format!(in alloc; "legal {phases}\n")?;
+    let used = write_used(alloc, used)?;
+    let text = format!(in alloc; "legal {phases}\n{used}")?;
     Ok(LogAnswer {
         text: text.into_bytes(),
         status: 0,
     })
 }
 
-/// .. where the log ends after so many phases and `last`, which has no line end and would be line `number`.
+/// .. where the log ends after so many phases, the soonest of which came too soon by what was used of a tolerance, and `last`, which has
+/// no line end and would be line `number`.
 pub(crate) fn answer_end(
     alloc: Global,
     found: String,
     number: u64,
     phases: u64,
+    used: Option<u64>,
     last: &[u8],
 ) -> Result<LogAnswer, AllocError>
-    ensures { IfOk result (λ a. spec.answer_of a ≡ spec.ended number phases (string_bytes found) last.now) }
+    ensures { IfOk result (λ a. spec.answer_of a ≡ spec.ended number phases used (string_bytes found) last.now) }
 {
     if last.is_empty() {
-        write_end(alloc, found, phases)
+        write_end(alloc, found, phases, used)
     } else {
         answer_wrong(alloc, found, number)
     }

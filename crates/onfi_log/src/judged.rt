@@ -1,20 +1,23 @@
 //! A log as far as it was judged.
-ghost use Rattle.std.specs.Prelude.{◌≡◌, ◌<◌, ◌≤◌, ◌^◌, ◌*◌, ◌+◌, ℕ, true, false, ◌↔◌, None, IsTrue, IsOk, IfOk, IfErr, IfSome, IfNone, slice_get, slice_index_or, length};
+ghost use Rattle.std.specs.Prelude.{◌≡◌, ◌<◌, ◌≤◌, ◌^◌, ◌*◌, ◌+◌, ℕ, true, false, ◌↔◌, None, IsTrue, IsOk, IfOk, IfErr, OnOk, max, IfSome, IfNone, slice_get, slice_index_or, length};
 ghost use Rattle.std.specs.List.{AllByRecursion as Each};
-ghost use Rattle.onfi_audit.specs.Audit.{IsAccepting, MayCome, MayComeLater, Tells, after_line, accepting, readied};
+ghost use Rattle.onfi_audit.specs.Audit.{IsAccepting, MayCome, MayComeLater, Tells, after_line, accepting, early_by, readied};
 ghost use Rattle.onfi_audit.specs.Audit.{Audit as AnAudit};
 ghost use Rattle.onfi_request.specs.declared.want.Want.{Want as AWant};
 ghost use Rattle.onfi_audit.specs.declared.breach.LogBreach.TheVariants.{BlockOrder, UnknownRequest};
 ghost use Rattle.onfi_log.specs.declared.breach.LineBreach.TheVariants.{Condition};
 ghost use Rattle.onfi_log.specs.Entry.{IsInRange};
+ghost use Rattle.onfi_log.specs.declared.manner.Statuses.TheVariants.{OneForAll};
 ghost use Rattle.onfi_log.specs.Judging as spec;
+ghost use Rattle.onfi_log.specs.Text.{used_of};
 ghost use Rattle.onfi_log.specs.Judging.{Judged as Log};
 
 use crate::breach::LineBreach;
 use crate::bringing::{begins_request, bring_where};
 use crate::bytes::Bytes;
-use crate::entry::LogEntry;
+use crate::entry::{LogEntry, Sign};
 use crate::line::LogLine;
+use crate::manner::{Manner, Statuses};
 use crate::requests::Requests;
 use onfi_audit::{Audit, Line, LogBreach, LunStage};
 use onfi_request::Want;
@@ -26,11 +29,15 @@ use std::marker::Model;
 #[derive(Drop)]
 pub(crate) struct Judged {
     requests: Requests,
+    tolerance: u64,
+    statuses: Statuses,
     audit: Audit,
     // Of each block one more than the greatest number that a request had which began there.
     greatest: Vec<u64>,
     // Of each LUN the bytes of the command that began a request last.
     closers: [Option<Bytes>; LUNS],
+    // By how much a phase that ran came too soon, at most, in ns.
+    early: u64,
 }
 
 impl Model for Judged {
@@ -38,7 +45,15 @@ impl Model for Judged {
 
     ghost Value = { Log };
 
-    ghost view = { λ j. record { requests = j.requests; audit = j.audit; greatest = j.greatest.items; closers = j.closers } };
+    ghost view = { λ j. record {
+      requests = j.requests;
+      tolerance = j.tolerance;
+      statuses = j.statuses;
+      audit = j.audit;
+      greatest = j.greatest.items;
+      closers = j.closers;
+      early = j.early;
+    } };
 }
 
 /// Why a command can't be of request `number` where that one waits first on its block.
@@ -145,6 +160,16 @@ fn find_misfit_by(is_last: Option<bool>, ends: u64, line: &LogLine) -> Option<Li
     }
 }
 
+/// Whether a phase is on the bus at a moment, over which that sign comes.
+fn is_over_bus(sign: Sign, moment: u64, bus_free: u64) -> bool
+    ensures { result ≡ spec.is_over_bus sign moment bus_free }
+{
+    match sign {
+        Sign::Status => moment < bus_free,
+        Sign::Edge => false,
+    }
+}
+
 /// Where the number of a block stands.
 fn block_at(line: &Line) -> usize
     ensures { result ≡ spec.block_at line.now }
@@ -171,11 +196,14 @@ impl Judged {
     ///
     /// # Errors
     /// Where memory was refused.
-    pub(crate) fn of(alloc: Global, requests: Requests, audit: Audit) -> Result<Judged, AllocError>
-        ensures requests { IfOk result (λ j. j.requests ≡ requests) }
-        ensures audit { IfOk result (λ j. j.audit ≡ audit) }
+    pub(crate) fn of(
+        alloc: Global,
+        requests: Requests,
+        manner: Manner,
+        audit: Audit,
+    ) -> Result<Judged, AllocError>
+        ensures begins { IfOk result (λ j. j ≡ spec.beginning requests manner audit j.greatest) }
         ensures fresh { IfOk result (λ j. spec.IsFresh requests j.greatest) }
-        ensures unclosed { IfOk result (λ j. j.closers ≡ spec.unclosed) }
     {
         let greatest = match requests {
             Requests::Accepted => Vec::new(alloc),
@@ -183,10 +211,23 @@ impl Judged {
         };
         Ok(Judged {
             requests,
+            tolerance: manner.tolerance,
+            statuses: manner.statuses,
             audit,
             greatest,
             closers: [None; LUNS],
+            early: 0,
         })
+    }
+
+    /// Where phases may come too soon, by how much one did at most, in ns.
+    pub(crate) fn used(&self) -> Option<u64>
+        ensures { result ≡ used_of self.now }
+    {
+        if self.tolerance == 0 {
+            return None;
+        }
+        Some(self.early)
     }
 
     /// Whether the line is a command that begins a request.
@@ -319,14 +360,43 @@ impl Judged {
         }
     }
 
-    /// Runs the phase though it may start too soon; whether it ran.
-    fn run_anyway(&mut self, line: &Line) -> bool
+    /// By how much the phase comes too soon, where it may come at all.
+    fn early_by(&self, line: &Line) -> u64
+        ensures { result ≡ early_by self.now.audit line.now }
+    {
+        self.audit.early_by(line)
+    }
+
+    /// Keeps by how much a phase came too soon.
+    fn note_early(&mut self, early: u64)
+        ensures { self.new ≡ record self.old { early = max self.old.early early } }
+    {
+        self.early = self.early.max(early);
+    }
+
+    /// Runs the phase on the channel though it may start too soon; whether it ran.
+    fn run_late(&mut self, line: &Line) -> bool
         requires { line.now.start < 2 ^ 62 }
         ensures ran { IsTrue result ↔ MayComeLater self.old.audit line.now }
         ensures after { result ≡ true → self.new ≡ record self.old { audit = after_line self.old.audit line.now } }
         ensures unchanged { result ≡ false → self.new ≡ self.old }
     {
         self.audit.run_anyway(line)
+    }
+
+    /// .. and keeps how much too soon it came.
+    fn run_anyway(&mut self, line: &Line) -> bool
+        requires { line.now.start < 2 ^ 62 }
+        ensures ran { IsTrue result ↔ MayComeLater self.old.audit line.now }
+        ensures after { result ≡ true → self.new ≡ spec.gone_by self.old line.now }
+        ensures unchanged { result ≡ false → self.new ≡ self.old }
+    {
+        let early = self.early_by(line);
+        if !self.run_late(line) {
+            return false;
+        }
+        self.note_early(early);
+        true
     }
 
     /// Takes back the request that was accepted last.
@@ -337,20 +407,85 @@ impl Judged {
         self.audit.withdraw();
     }
 
-    /// Goes on after a line that breaks a condition, and that began and brought a request as `begins` and `brought` say.
-    fn go_on(&mut self, begins: bool, brought: bool, line: &LogLine)
+    /// Runs the phase of a line that began and brought a request as `begins` and `brought` say, though it may start too soon; whether it
+    /// ran. Where it didn't the request is taken back.
+    fn run_noted(&mut self, begins: bool, brought: bool, line: &LogLine) -> bool
         requires from { (j : Log) × (self.old ≡ spec.bringing j line.now.phase) × (begins ≡ spec.begins j.audit line.now.phase) × (brought ≡ spec.brings j line.now.phase) }
         requires small { IfSome line.now.request (λ number. number < 2 ^ 63) }
         requires start { line.now.phase.start < 2 ^ 62 }
         requires lun { line.now.phase.lun ≤ 7 }
         ensures { (j : Log) → self.old ≡ spec.bringing j line.now.phase → begins ≡ spec.begins j.audit line.now.phase
-            → brought ≡ spec.brings j line.now.phase → spec.GoesOnBy j line.now self.new }
+            → brought ≡ spec.brings j line.now.phase → spec.RanBy result j line.now self.new }
     {
         if self.run_anyway(&line.phase) {
             self.note(begins, line);
-        } else if brought {
+            return true;
+        }
+        if brought {
             self.withdraw();
         }
+        false
+    }
+
+    /// Runs the phase of the line, with its request where it brings that, though it may start too soon; whether it ran.
+    ///
+    /// # Errors
+    /// Where memory was refused.
+    fn run_brought(&mut self, line: &LogLine) -> Result<bool, AllocError>
+        requires small { IfSome line.now.request (λ number. number < 2 ^ 63) }
+        requires start { line.now.phase.start < 2 ^ 62 }
+        requires lun { line.now.phase.lun ≤ 7 }
+        ensures { IfOk result (λ ran. spec.RanBy ran self.old line.now self.new) }
+    {
+        let begins = self.begins(&line.phase);
+        let brought = self.bring(begins, &line.phase)?;
+        Ok(self.run_noted(begins, brought, line))
+    }
+
+    /// The LUN does this from now on.
+    fn put_stage(&mut self, lun: u8, stage: LunStage)
+        ensures { self.new ≡ spec.staged self.old lun stage }
+    {
+        self.audit.put_stage(lun, stage);
+    }
+
+    /// Runs the phase of a line that may not come even later where it may come once phases are taken as missing before it.
+    ///
+    /// # Errors
+    /// Where memory was refused.
+    fn regain(&mut self, line: &LogLine) -> Result<(), AllocError>
+        requires small { IfSome line.now.request (λ number. number < 2 ^ 63) }
+        requires start { line.now.phase.start < 2 ^ 62 }
+        requires lun { line.now.phase.lun ≤ 7 }
+        ensures { OnOk result (spec.Regains self.old line.now self.new) }
+    {
+        let lun = line.phase.lun;
+        let Some((before, stage)) = self.audit.regain_stage(&line.phase) else {
+            return Ok(());
+        };
+        self.put_stage(lun, stage);
+        if !self.run_brought(line)? {
+            self.put_stage(lun, before);
+        }
+        Ok(())
+    }
+
+    /// Goes on after a line that breaks a condition, and that began and brought a request as `begins` and `brought` say.
+    ///
+    /// # Errors
+    /// Where memory was refused.
+    fn go_on(&mut self, begins: bool, brought: bool, line: &LogLine) -> Result<(), AllocError>
+        requires from { (j : Log) × (self.old ≡ spec.bringing j line.now.phase) × (begins ≡ spec.begins j.audit line.now.phase) × (brought ≡ spec.brings j line.now.phase) }
+        requires small { IfSome line.now.request (λ number. number < 2 ^ 63) }
+        requires start { line.now.phase.start < 2 ^ 62 }
+        requires lun { line.now.phase.lun ≤ 7 }
+        ensures { OnOk result ((j : Log) → self.old ≡ spec.bringing j line.now.phase → begins ≡ spec.begins j.audit line.now.phase
+            → brought ≡ spec.brings j line.now.phase → spec.GoesOnBy j line.now self.new) }
+    {
+        if self.run_noted(begins, brought, line) {
+            return Ok(());
+        }
+        self.regain(line)
     }
 
     /// Judges the phase, which runs if it breaks no condition.
@@ -364,18 +499,42 @@ impl Judged {
         self.audit.judge(line)
     }
 
+    /// Runs the phase where it may come, and comes too soon by no more than the tolerance; whether it ran.
+    fn excuse(&mut self, line: &Line) -> bool
+        requires { line.now.start < 2 ^ 62 }
+        ensures ran { IsTrue result ↔ spec.ComesBy self.old.tolerance self.old.audit line.now }
+        ensures after { result ≡ true → self.new ≡ spec.gone_by self.old line.now }
+        ensures unchanged { result ≡ false → self.new ≡ self.old }
+    {
+        if self.early_by(line) > self.tolerance {
+            return false;
+        }
+        self.run_anyway(line)
+    }
+
     /// The condition that the phase breaks, with which that is amiss; if it breaks none it runs.
     fn find_breach(&mut self, amiss: Option<LineBreach>, line: &Line) -> Option<LineBreach>
         requires { line.now.start < 2 ^ 62 }
-        ensures none { IfNone result ((amiss ≡ None) × MayCome self.old.audit line.now × (self.new ≡ record self.old { audit = after_line self.old.audit line.now })) }
-        ensures breaks { IfSome result (spec.BreaksBy amiss self.old.audit line.now) }
+        ensures none { IfNone result ((amiss ≡ None) × spec.ComesBy self.old.tolerance self.old.audit line.now × (self.new ≡ spec.gone_by self.old line.now)) }
+        ensures breaks { IfSome result (spec.BreaksBy amiss self.old.tolerance self.old.audit line.now) }
         ensures unchanged { IfSome result (λ _. self.new ≡ self.old) }
     {
         if amiss.is_some() {
             return amiss;
         }
+        self.find_broken(line)
+    }
+
+    /// The condition that the phase breaks; if it breaks none it runs.
+    fn find_broken(&mut self, line: &Line) -> Option<LineBreach>
+        requires { line.now.start < 2 ^ 62 }
+        ensures none { IfNone result (spec.ComesBy self.old.tolerance self.old.audit line.now × (self.new ≡ spec.gone_by self.old line.now)) }
+        ensures breaks { IfSome result (λ b. spec.TellsOf self.old.audit line.now b × (spec.ComesBy self.old.tolerance self.old.audit line.now → ⊥)) }
+        ensures unchanged { IfSome result (λ _. self.new ≡ self.old) }
+    {
         match self.judge(line) {
             Ok(()) => None,
+            Err(_) if self.excuse(line) => None,
             Err(breach) => Some(LineBreach::Condition(breach)),
         }
     }
@@ -397,7 +556,7 @@ impl Judged {
         let breach = self.find_breach(amiss, &line.phase);
         match breach {
             Some(_) => {
-                self.go_on(begins, brought, line);
+                self.go_on(begins, brought, line)?;
                 Ok(breach)
             }
             None => {
@@ -407,15 +566,34 @@ impl Judged {
         }
     }
 
-    /// Why the LUN's status can't have reported it ready then.
-    fn find_misreport(&self, lun: u8, moment: u64) -> Option<LineBreach>
-        ensures { result ≡ spec.misreported self.now.audit lun moment }
+    /// Takes a status as that of its whole group, where a log has one for each group.
+    fn face(&mut self, line: &Line)
+        ensures { spec.Faces self.old line.now self.new }
+    {
+        match self.statuses {
+            Statuses::EachPlane => {}
+            Statuses::OneForAll => self.face_alone(line),
+        }
+    }
+
+    /// Takes a status as that of its whole group.
+    fn face_alone(&mut self, line: &Line)
+        ensures { spec.FacesBy OneForAll self.old line.now self.new }
+    {
+        if let Some(stage) = self.audit.find_alone(line) {
+            self.put_stage(line.lun, stage);
+        }
+    }
+
+    /// Why the LUN can't have been reported ready then.
+    fn find_misreport(&self, lun: u8, moment: u64, sign: Sign) -> Option<LineBreach>
+        ensures { result ≡ spec.misreported self.now.audit lun moment sign }
     {
         if usize::from(lun) >= self.audit.luns().len() {
             return Some(LineBreach::Condition(LogBreach::NoLun { lun }));
         }
         let bus_free = self.audit.bus_free();
-        if moment < bus_free {
+        if is_over_bus(sign, moment, bus_free) {
             return Some(LineBreach::Condition(LogBreach::BusNotFree {
                 start: moment,
                 bus_free,
@@ -431,16 +609,30 @@ impl Judged {
         self.audit.ready(lun, moment);
     }
 
-    /// Takes it that the LUN's status reported it ready then: the condition that this breaks, if it breaks one.
-    fn report(&mut self, lun: u8, moment: u64) -> Option<LineBreach>
-        ensures breach { result ≡ spec.misreported self.old.audit lun moment }
+    /// Takes it that the LUN was reported ready then: the condition that this breaks, if it breaks one.
+    fn report(&mut self, lun: u8, moment: u64, sign: Sign) -> Option<LineBreach>
+        ensures breach { result ≡ spec.misreported self.old.audit lun moment sign }
         ensures after { self.new ≡ spec.after_report self.old lun moment result }
     {
-        let breach = self.find_misreport(lun, moment);
+        let breach = self.find_misreport(lun, moment, sign);
         if breach.is_none() {
             self.ready(lun, moment);
         }
         breach
+    }
+
+    /// Judges the next phase: what its line breaks, if it breaks something.
+    ///
+    /// # Errors
+    /// Where memory was refused.
+    fn take_phase(&mut self, line: &LogLine) -> Result<Option<LineBreach>, AllocError>
+        requires small { IfSome line.now.request (λ number. number < 2 ^ 63) }
+        requires start { line.now.phase.start < 2 ^ 62 }
+        requires lun { line.now.phase.lun ≤ 7 }
+        ensures { IfOk result (λ breach. (h : Log) × spec.Faces self.old line.now.phase h × spec.Steps h line.now breach self.new) }
+    {
+        self.face(&line.phase);
+        self.step(line)
     }
 
     /// Judges what the next line says: the condition that it breaks, if it breaks one.
@@ -452,8 +644,9 @@ impl Judged {
         ensures { IfOk result (λ breach. spec.Takes self.old entry.now breach self.new) }
     {
         match entry {
-            LogEntry::Phase(line) => self.step(line),
-            LogEntry::Ready { lun, moment } => Ok(self.report(*lun, *moment)),
+            LogEntry::Phase(line) => self.take_phase(line),
+            LogEntry::Ready { lun, moment, sign } => Ok(self.report(*lun, *moment, *sign)),
+            LogEntry::Comment => Ok(None),
         }
     }
 }

@@ -38,6 +38,16 @@ pub(crate) fn is_word(text: &[u8], word: &str) -> bool
     text == word.as_bytes()
 }
 
+/// Whether a line is a comment: it begins with `#`.
+pub fn is_comment(line: &[u8]) -> bool
+    ensures { result ≡ spec.is_comment line.now }
+{
+    match line.first() {
+        Some(byte) => *byte == b'#',
+        None => false,
+    }
+}
+
 /// The operation of that name.
 fn operation(text: &[u8]) -> Option<Operation>
     ensures { result ≡ spec.operation text.now }

@@ -12,8 +12,6 @@ mod gap;
 #[cfg(test)]
 mod group;
 #[cfg(test)]
-mod next_sample;
-#[cfg(test)]
 mod planners;
 #[cfg(test)]
 mod plans;
@@ -31,5 +29,3 @@ mod sectors;
 mod split;
 #[cfg(test)]
 mod texts;
-#[cfg(test)]
-mod waiting;

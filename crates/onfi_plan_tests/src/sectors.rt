@@ -5,8 +5,8 @@ use crate::sample::free;
 use onfi_addr::Place;
 use onfi_group::{Group, Rules};
 use onfi_known_plan::plan_within;
-use onfi_plan::{Limit, none_ends_before};
-use onfi_planners::{Nodes, Weights, cost_of, make_better};
+use onfi_plan::{Limit, Planner};
+use onfi_planners::{By, Nodes, Weights, cost_of, make_better};
 use onfi_problem::{LunState, Problem};
 use onfi_request::Want;
 use onfi_samples::{sample_timing, want_of};
@@ -48,8 +48,7 @@ fn weighted(page: u16, sector: u16) -> Weights {
 
 // When a plan ends in which what counts more ends sooner, and what it costs.
 fn weighed(alloc: Global, problem: &Problem, weights: &Weights) -> Result<(u64, u128), Fail> {
-    let plan = plan_within(alloc, problem, Limit::of(1000).unwrap())?;
-    none_ends_before(problem);
+    let plan = By::Within.plan(alloc, problem, Limit::of(1000).unwrap())?;
     let plan = make_better(alloc, problem, plan, weights, Nodes::usual())?;
     let cost = cost_of(problem, &plan.schedule, weights);
     Ok((plan.finish, cost))

@@ -1,2 +1,3 @@
+pub mod Choosing
 pub mod Costs
 pub mod Found

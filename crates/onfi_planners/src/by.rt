@@ -21,7 +21,8 @@ pub enum By {
 }
 
 impl Planner for By {
-    ghost use Rattle.std.specs.Prelude.{false};
+    ghost use Rattle.std.specs.Prelude.{◌≡◌, false};
+    ghost use Rattle.onfi_planners.specs.declared.by.By.TheVariants.{Plain};
     ghost use Rattle.onfi_planners.specs.Choice.{IsAny, IsPlannedBy};
 
     ghost exact = { false };
@@ -30,7 +31,7 @@ impl Planner for By {
 
     ghost promises = { IsPlannedBy };
 
-    ghost stops = { λ by. by ≡ By.Plain };
+    ghost stops = { λ by. by ≡ Plain };
 
     /// A plan, found so.
     ///

@@ -26,7 +26,8 @@ pub struct ChosenPlanner {
 }
 
 impl Planner for ChosenPlanner {
-    ghost use Rattle.std.specs.Prelude.{false};
+    ghost use Rattle.std.specs.Prelude.{◌≡◌, false};
+    ghost use Rattle.onfi_planners.specs.declared.by.By.TheVariants.{Plain};
     ghost use Rattle.onfi_planners.specs.Choice.{IsAny, IsChosen};
 
     ghost exact = { false };
@@ -35,7 +36,7 @@ impl Planner for ChosenPlanner {
 
     ghost promises = { IsChosen };
 
-    ghost stops = { λ planner. planner.by ≡ By.Plain };
+    ghost stops = { λ planner. planner.by ≡ Plain };
 
     /// A plan by the planner that was chosen.
     ///

@@ -1,5 +1,8 @@
 -- How a chip comes to stand where it does.
 use Rattle.std.proofs.Common.{◌≡◌, ◌⊎◌, ℕ, Bool, inl, inr, true, false, IsTrue, List, [], ◌∷◌, ◌++◌, Option, Some, None, refl, sym, ap, ◌∙◌, subst}
+use Rattle.std.specs.Prelude.{IfSome}
+use Rattle.std.specs.List.{flat_map}
+use Rattle.onfi_schedule.specs.Trace.{line_text}
 use Rattle.onfi_addr.specs.declared.geometry.Geometry.{Geometry}
 use Rattle.onfi_timing.specs.declared.kind.Kind.{Kind}
 use Rattle.onfi_timing.specs.declared.timing.Timing.{Timing}
@@ -14,7 +17,7 @@ use Rattle.onfi_chip.specs.Calls.{AfterFault, HasDone, IsUnread, IsNextCommand, 
 use Rattle.onfi_chip.specs.Chip.{Chip, found_ready, posted}
 use Rattle.onfi_record.specs.declared.bus_log.BusLog.{BusLog}
 use Rattle.onfi_record.specs.Carried.{IsCommandLine, IsPostLine, IsSameDevice, SaysMore}
-use Rattle.onfi_record.specs.Recording.{GoesBy, IsCommandRun, IsPostRun, IsRecorded, RanAll}
+use Rattle.onfi_record.specs.Recording.{GoesBy, IsCommandRun, IsPostRun, IsRecorded, IsTraceText, RanAll}
 
 -- a call failed
 pub lost_goes : (fault : ChipFault) (old new : Chip) → AfterFault fault old new → GoesBy old new
@@ -72,3 +75,10 @@ pub recorded_post : (log log' : BusLog) (old new : Chip) (start row : ℕ) (post
 recorded_post log log' old new start row post left same recorded next done more whole =
     let m = more whole in
     post_ran log log' old new same recorded m.0 m.2 (record { start = start; row = row; post = post; left = left; next = next; done = done; told = m.1 })
+
+-- the text of a log that isn't cut
+pub trace_told : {V : Type 0} (items : V → List ℕ) (log : BusLog) (chip : Chip) (lines : List TraceLine) (o : Option V) → RanAll log.geometry log.timing log.lines.items chip
+    → lines ≡ log.lines.items → IfSome o (λ v. items v ≡ flat_map (line_text true) lines) → IfSome o (λ v. IsTraceText (items v))
+trace_told items log chip lines None ran same is = tt
+trace_told items log chip lines (Some v) ran same is =
+    record { geometry = log.geometry; timing = log.timing; chip = chip; lines = log.lines.items; ran = ran; is = is ∙ ap (flat_map (line_text true)) same }

@@ -1,10 +1,12 @@
 -- A chip that keeps what its bus carries, and how it came to stand where it does.
 use Rattle.std.specs.Prelude.{◌≡◌, ◌⊎◌, ℕ, true, List, [], ◌∷◌, ◌++◌, Option, Some, None}
+use Rattle.std.specs.List.{flat_map}
 use Rattle.onfi_addr.specs.declared.geometry.Geometry.{Geometry}
 use Rattle.onfi_timing.specs.declared.kind.Kind.{Kind}
 use Rattle.onfi_timing.specs.declared.timing.Timing.{Timing}
 use Rattle.onfi_request.specs.declared.request.Request.{Request}
 use Rattle.onfi_schedule.specs.declared.trace_line.TraceLine.{TraceLine}
+use Rattle.onfi_schedule.specs.Trace.{line_text}
 use Rattle.onfi_chip.specs.declared.closer.Closer.{Closer}
 use Rattle.onfi_chip.specs.declared.fault.PostFault.{PostFault}
 use Rattle.onfi_chip.specs.declared.post.Post.{Post}
@@ -68,3 +70,12 @@ pub record RanAll (geometry : Geometry) (timing : Timing) (lines : List TraceLin
 -- where nothing is left out of a log, it has all phases that the chip ran
 abbrev pub IsRecorded : BusLog → Chip → Type 0
 IsRecorded log chip = log.is_whole ≡ true → RanAll log.geometry log.timing log.lines.items chip
+
+-- the lines of all phases that a chip ran since it opened, in their order, with their requests
+pub record IsTraceText (text : List ℕ) : Type 0 where
+  pub geometry : Geometry
+  pub timing : Timing
+  pub chip : Chip
+  pub lines : List TraceLine
+  pub ran : RanAll geometry timing lines chip
+  pub is : text ≡ flat_map (line_text true) lines

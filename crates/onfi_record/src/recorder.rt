@@ -1,12 +1,16 @@
 //! A chip that keeps what its bus carries.
-ghost use Rattle.std.specs.Prelude.{◌≡◌, IsBitSet, true, false};
+ghost use Rattle.std.specs.Prelude.{◌≡◌, IfSome, IsBitSet, true, false};
+ghost use Rattle.std.specs.List.{flat_map};
+ghost use Rattle.onfi_schedule.specs.Trace.{line_text};
 ghost use Rattle.onfi_chip.specs.Chip.{IsAsOpened};
 ghost use Rattle.onfi_record.specs.Carried.{IsNewLog};
-ghost use Rattle.onfi_record.specs.Recording.{IsRecorded, chip_in};
+ghost use Rattle.onfi_record.specs.Recording.{IsRecorded, IsTraceText, chip_in};
 
 use crate::bus_log::BusLog;
+use onfi_addr::Geometry;
 use onfi_chip::{Chip, ChipFault, Closer, decode_status};
-use onfi_timing::Kind;
+use onfi_schedule::{TraceLine, trace_text};
+use onfi_timing::{Kind, Timing};
 use std::alloc::Global;
 use std::marker::Model;
 
@@ -31,12 +35,19 @@ impl<C: Chip> Model for Recorder<C> {
 }
 
 impl<C: Chip> Recorder<C> {
-    /// A chip as it opens, and a log that keeps nothing yet.
-    pub fn new(chip: C, log: BusLog) -> Recorder<C>
-        requires opened { IsAsOpened log.geometry log.timing (C.state chip) }
-        requires new { IsNewLog log.geometry log.timing log.is_whole log }
-        ensures { result ≡ (log, chip) }
+    /// A chip of this geometry and timing as it opens; what its bus carries is kept where `is_kept`.
+    pub fn new(
+        alloc: Global,
+        chip: C,
+        geometry: Geometry,
+        timing: Timing,
+        is_kept: bool,
+    ) -> Recorder<C>
+        requires { IsAsOpened geometry timing (C.state chip) }
+        ensures chip { result.1 ≡ chip }
+        ensures log { IsNewLog geometry timing is_kept result.0 }
     {
+        let log = BusLog::new(alloc, geometry, timing, is_kept);
         Recorder { log, chip }
     }
 
@@ -53,6 +64,28 @@ impl<C: Chip> Recorder<C> {
         ensures recorded { IsRecorded self.now.0 (chip_in C.state self.now) }
     {
         &self.log
+    }
+
+    /// The trace of all phases that its bus carried since it opened, as `plan --requests` prints one; requests are numbered in the
+    /// order in which they begin. None where nothing is kept, or memory for a line was refused.
+    pub fn trace(&self, alloc: Global) -> Option<Vec<u8>>
+        ensures { IfSome result (λ text. IsTraceText text.items) }
+    {
+        let log = self.log();
+        if !log.is_whole {
+            return None;
+        }
+        text_of(alloc, log.lines.as_slice())
+    }
+}
+
+/// The text of a trace of these lines; none where memory was refused to it.
+fn text_of(alloc: Global, lines: &[TraceLine]) -> Option<Vec<u8>>
+    ensures { IfSome result (λ text. text.items ≡ flat_map (line_text true) lines.now) }
+{
+    match trace_text(alloc, lines, true) {
+        Ok(text) => Some(text),
+        Err(_) => None,
     }
 }
 

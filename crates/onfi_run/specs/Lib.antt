@@ -1,4 +1,3 @@
-pub mod Traces
 pub mod Arriving
 pub mod Requests
 pub mod Setup

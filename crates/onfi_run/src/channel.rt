@@ -2,7 +2,7 @@
 ghost use Rattle.std.specs.Prelude.{◌≡◌, IfSome, IsTrue};
 ghost use Rattle.onfi_run.specs.Ending.{IsOverAt, IsTurnOverAt, is_refusal};
 ghost use Rattle.onfi_run.specs.Keys.{AreEnds, queues_of};
-ghost use Rattle.onfi_run.specs.Traces.{IsTraceText};
+ghost use Rattle.onfi_record.specs.Recording.{IsTraceText};
 
 use crate::channel_end::ChannelEnd;
 use crate::progress::Progress;

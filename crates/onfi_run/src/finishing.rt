@@ -8,7 +8,7 @@ ghost use Rattle.onfi_run.specs.Ending.{IsOverAt};
 ghost use Rattle.onfi_run.specs.Finishing.{Concludes, Empties, IsFinished, IsGathered, are_complete as spec_are_complete, report_of_none, report_with};
 ghost use Rattle.onfi_run.specs.Keys.{AreEndsOf, AreLinked, ports_of, queues_of};
 ghost use Rattle.onfi_run.specs.Pace.{EndsWithin, IsLaneWithin};
-ghost use Rattle.onfi_run.specs.Traces.{IsTraceText};
+ghost use Rattle.onfi_record.specs.Recording.{IsTraceText};
 
 use crate::answers::{Answers, Got};
 use crate::channel::{Channel, Drained};

@@ -11,7 +11,6 @@ use onfi_plan::Planner;
 use onfi_queue::Host;
 use onfi_record::Recorder;
 use onfi_reply::Inbox;
-use onfi_schedule::trace_text;
 use onfi_seq::{Drained as End, Gate, Sequencer, TurnAt};
 use std::alloc::Global;
 use std::sync::Wait;
@@ -100,11 +99,7 @@ impl<P: Planner + Drop, G: Gate + Drop> Channel for Gated<P, G> {
     }
 
     fn trace(&self, alloc: Global) -> Option<Vec<u8>> {
-        let log = self.sequencer.chip().log();
-        if !log.is_whole {
-            return None;
-        }
-        trace_text(alloc, log.lines.as_slice(), true).ok()
+        self.sequencer.chip().trace(alloc)
     }
 
     fn drain<R: Wait>(

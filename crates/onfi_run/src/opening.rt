@@ -23,7 +23,7 @@ use crate::way::Way;
 use onfi_core::Setup;
 use onfi_plan::Planner;
 use onfi_queue::{Host, Intake};
-use onfi_record::{BusLog, Recorder};
+use onfi_record::Recorder;
 use onfi_reply::{Inbox, Poster};
 use onfi_script::Row;
 use onfi_seq::{Ends, Gate, Sequencer};
@@ -70,8 +70,7 @@ fn open_lane<P: Planner + Drop, G: Gate + Drop>(
     ensures posters { IfOk result (λ lane. lane.channel.sequencer.0.posters ≡ posters) }
 {
     let chip = chip_of(alloc, &setup, rows, channel)?;
-    let log = BusLog::new(alloc, setup.geometry, setup.timing, way.is_traced);
-    let chip = Recorder::new(chip, log);
+    let chip = Recorder::new(alloc, chip, setup.geometry, setup.timing, way.is_traced);
     let sequencer = Sequencer::open_with(
         alloc,
         setup,

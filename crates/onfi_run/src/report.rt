@@ -26,9 +26,10 @@ pub struct Report {
 }
 
 impl Model for Report {
+    ghost use Rattle.std.specs.Prelude.{IfSome};
     ghost use Rattle.std.specs.List.{AllByRecursion as Each};
     ghost use Rattle.onfi_run.specs.Report.{ReportView};
-    ghost use Rattle.onfi_run.specs.Traces.{IsTraceText};
+    ghost use Rattle.onfi_record.specs.Recording.{IsTraceText};
 
     ghost Value = { ReportView };
 
@@ -40,7 +41,7 @@ impl Model for Report {
 impl Report {
     ghost use Rattle.onfi_run.specs.declared.clock_report.ClockReport.{ClockReport as AClockReport};
     ghost use Rattle.onfi_run.specs.Told.{IsClockOf};
-    ghost use Rattle.onfi_run.specs.Traces.{IsTraceText};
+    ghost use Rattle.onfi_record.specs.Recording.{IsTraceText};
     ghost use Rattle.std.specs.List.{AllByRecursion as Each};
 
     /// With what a clock showed: how busy the bus of each channel was; how long operations took is taken from the moments of

@@ -1,5 +1,5 @@
 //! From the bytes of an input to the bytes of its answer.
-ghost use Rattle.std.specs.Prelude.{◌≡◌, ◌≤◌, ℕ, Option, Some, length, map, IfOk, false};
+ghost use Rattle.std.specs.Prelude.{◌≡◌, ◌≤◌, ℕ, Option, Some, length, map, IfOk, IfSome, false};
 ghost use Rattle.std.specs.List.{AllByRecursion as Each};
 ghost use Rattle.onfi_run.specs.declared.gated.Gated.{Gated as AGated};
 ghost use Rattle.onfi_run.specs.declared.simulation.Settled.{Settled as ASettled};
@@ -12,6 +12,7 @@ ghost use Rattle.onfi_run.specs.Prepares.{IsPrepared};
 ghost use Rattle.onfi_run.specs.Running.{IsAnswer, Answers, BeginsAnswer, purpose_of as spec_purpose_of};
 ghost use Rattle.onfi_run.specs.Keys.{AreLinked, HaveSamePorts, ports_of};
 ghost use Rattle.onfi_run.specs.Told.{IsReportOf, Tells};
+ghost use Rattle.onfi_record.specs.Recording.{IsTraceText};
 
 use crate::acts::Course;
 use crate::channel::Channel;
@@ -129,16 +130,19 @@ fn answer<R: Threads + Wait + Sync, P: Planner + Copy + Send + Drop, G: Gate + S
 ) -> Result<Traced, AllocError>
     requires gates { length gates.items ≡ 4 }
     ensures answer { IfOk result (λ t. IsAnswer clocked (nodes_by way.choice way.limit) input.now (answer_of t.answer)) }
+    ensures traces { IfOk result (λ t. Each (λ trace. IfSome trace (λ text. IsTraceText text.items)) t.traces.items) }
 {
     match prepare_for(alloc, purpose_of(clocked), input) {
         Ok(prepared) => {
             let report = run(rt, alloc, way, clocked, gates, &prepared)?;
             let answer = report_answer(alloc, &report)?;
-            Ok(Traced::of(answer, report.into_traces()))
+            let traces = report.into_traces();
+            Ok(Traced { answer, traces })
         }
         Err(Stop::Refused(refusal)) => {
             let answer = answer_refusal(alloc, refusal)?;
-            Ok(Traced::of(answer, Vec::new(alloc)))
+            let traces = Vec::new(alloc);
+            Ok(Traced { answer, traces })
         }
         Err(Stop::Memory) => Err(AllocError),
     }
@@ -232,6 +236,7 @@ pub fn run_freely<R: Threads + Wait + Sync, P: Planner + Copy + Send + Drop>(
     input: &[u8],
 ) -> Result<Traced, AllocError>
     ensures answer { IfOk result (λ t. IsAnswer clocked (nodes_by way.choice way.limit) input.now (answer_of t.answer)) }
+    ensures traces { IfOk result (λ t. Each (λ trace. IfSome trace (λ text. IsTraceText text.items)) t.traces.items) }
 {
     let gates = no_gates(alloc)?;
     answer(rt, alloc, way, clocked, gates, input)

@@ -3,7 +3,7 @@ ghost use Rattle.std.specs.Prelude.{◌≡◌, false, true};
 ghost use Rattle.onfi_core.specs.declared.setup.Choice.TheVariants.{InOrder, NextPhase};
 
 use onfi_core::Choice;
-use onfi_plan::{Limit, PlainPlanner};
+use onfi_plan::Limit;
 
 /// How each channel of a run goes: by plans of a copy of its planner, or phase by phase.
 #[derive(Clone, Copy)]
@@ -37,15 +37,14 @@ impl<P> Way<P> {
             ..self
         }
     }
-}
 
-impl Way<PlainPlanner> {
-    /// Phase by phase: of all that may come next on a bus the first, as a dispatcher gives it. Nothing is planned.
-    pub fn by_next_phase() -> Way<PlainPlanner>
+    /// Phase by phase: of all that may come next on a bus the first, as a dispatcher gives it. Nothing is planned: the planner is
+    /// never asked.
+    pub fn by_next_phase(planner: P) -> Way<P>
         ensures { result.choice ≡ NextPhase }
     {
         Way {
-            planner: PlainPlanner,
+            planner,
             limit: Limit::of(1).unwrap(),
             choice: Choice::NextPhase,
             is_traced: false,

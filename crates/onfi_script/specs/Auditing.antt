@@ -7,6 +7,9 @@ use Rattle.onfi_problem.specs.Problem.{Problem}
 use Rattle.onfi_problem.specs.declared.fault.ProblemFault.{ProblemFault}
 use Rattle.onfi_problem.specs.declared.fault.ProblemFault.TheVariants.{TooMany, BadLun, NoLengths, Clock, Memory}
 use Rattle.onfi_audit.specs.Audit.{Audit, IsAccepted, accepting, opening, request_of}
+use Rattle.onfi_log.specs.declared.manner.Manner.{Manner}
+use Rattle.onfi_log.specs.declared.manner.Statuses.{Statuses}
+use Rattle.onfi_log.specs.declared.manner.Statuses.TheVariants.{EachPlane, OneForAll}
 use Rattle.onfi_log.specs.declared.readies.Readies.{Readies}
 use Rattle.onfi_log.specs.declared.readies.Readies.TheVariants.{Stated, Reported}
 use Rattle.onfi_log.specs.declared.requests.Requests.{Requests}
@@ -88,13 +91,21 @@ abbrev pub readies_of : Bool → Readies
 readies_of false = Stated
 readies_of true = Reported
 
+-- which statuses a log has of a group
+abbrev pub statuses_of : Bool → Statuses
+statuses_of false = EachPlane
+statuses_of true = OneForAll
+
+abbrev pub manner_of : AuditOptions → Manner
+manner_of options = record { readies = readies_of options.by_status; tolerance = options.tolerance; statuses = statuses_of options.one_status }
+
 -- the answer to an input with a log: why its script is refused, or what is said of the log
 pub data AnswersAuditBy (options : AuditOptions) (input : List ℕ) (answer : Answer) : Type 0 where
   is_unread : (refusal : Refusal) → TellsLog input (Err refusal) → answer ≡ refused refusal → AnswersAuditBy options input answer
   is_judged : (a : Audit) (requests : Requests) (log : LogAnswer) → TellsLog input (Ok (a, requests))
-      → AnswersLogBy requests (readies_of options.by_status) a options.all (plan_text_of input) log
+      → AnswersLogBy requests (manner_of options) a options.all (plan_text_of input) log
       → answer ≡ (record { text = log.text; status = log.status }) → AnswersAuditBy options input answer
 
 -- .. of phases alone
 abbrev pub AnswersAudit : Bool → List ℕ → Answer → Type 0
-AnswersAudit all input answer = AnswersAuditBy (record { all = all; by_status = false }) input answer
+AnswersAudit all input answer = AnswersAuditBy (record { all = all; by_status = false; tolerance = 0; one_status = false }) input answer

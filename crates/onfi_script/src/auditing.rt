@@ -21,7 +21,7 @@ use arrayvec::ArrayVec;
 use onfi_audit::{AcceptFault, Audit};
 use onfi_flight::Flight;
 use onfi_gap::{find_gaps, write_gaps};
-use onfi_log::{Readies, Requests, judge_log_by};
+use onfi_log::{Manner, Readies, Requests, Statuses, judge_log_by};
 use onfi_plan::Limit;
 use onfi_problem::{Problem, ProblemFault};
 use onfi_request::Want;
@@ -128,13 +128,41 @@ fn readies_of(by_status: bool) -> Readies
     }
 }
 
+/// Which statuses a log has of a group.
+fn statuses_of(one_status: bool) -> Statuses
+    ensures { result ≡ spec.statuses_of one_status }
+{
+    if one_status {
+        Statuses::OneForAll
+    } else {
+        Statuses::EachPlane
+    }
+}
+
 /// How a log is judged.
 #[derive(Clone, Copy, Debug, PartialEq, Eq)]
 pub struct AuditOptions {
     /// Whether each condition that it breaks is given, and not the first alone.
     pub all: bool,
-    /// Whether LUNs are ready too from when lines `START LUN ready` say that their statuses reported them so.
+    /// Whether LUNs are ready too from when lines `START LUN ready` or `START LUN edge` say that they were.
     pub by_status: bool,
+    /// A phase may come so much too soon, in ns.
+    pub tolerance: u64,
+    /// Whether a group of programs or erases has one status, and not one of each plane.
+    pub one_status: bool,
+}
+
+impl AuditOptions {
+    /// How the lines of a log are taken.
+    fn manner(self) -> Manner
+        ensures { result ≡ spec.manner_of self }
+    {
+        Manner {
+            readies: readies_of(self.by_status),
+            tolerance: self.tolerance,
+            statuses: statuses_of(self.one_status),
+        }
+    }
 }
 
 /// The answer to an input whose text after the script is a log: the first condition that it breaks, or each where `all` says so,
@@ -148,6 +176,8 @@ pub fn audit(alloc: Global, all: bool, input: &[u8]) -> Result<Answer, AllocErro
     let options = AuditOptions {
         all,
         by_status: false,
+        tolerance: 0,
+        one_status: false,
     };
     audit_by(alloc, options, input)
 }
@@ -161,9 +191,9 @@ pub fn audit_by(alloc: Global, options: AuditOptions, input: &[u8]) -> Result<An
 {
     match read_begun(alloc, input) {
         Ok((audit, requests)) => {
-            let readies = readies_of(options.by_status);
+            let manner = options.manner();
             let log = plan_text_of(input);
-            let answer = judge_log_by(alloc, audit, requests, readies, options.all, log)?;
+            let answer = judge_log_by(alloc, audit, requests, manner, options.all, log)?;
             Ok(Answer::of(answer.text, answer.status))
         }
         Err(Stop::Refused(refusal)) => answer_refusal(alloc, refusal),

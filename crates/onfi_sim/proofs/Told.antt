@@ -10,12 +10,15 @@ use Rattle.onfi_script.specs.declared.text.Answer.{Answer as Made}
 use Rattle.onfi_script.specs.declared.transfer.EngineFault.{EngineFault}
 use Rattle.onfi_script.specs.declared.transfer.EngineFault.TheVariants.{Write}
 use Rattle.onfi_console.specs.declared.parsed.Named.{Named}
-use Rattle.onfi_console.specs.declared.parsed.Named.TheVariants.{Problem, Run, RunNext, Device, Audit, Gaps}
-use Rattle.onfi_console.specs.Words.{RunPlanner}
+use Rattle.onfi_console.specs.declared.parsed.Named.TheVariants.{Problem, Run, Device, Audit, Gaps}
+use Rattle.onfi_console.specs.declared.parsed.RunBy.TheVariants.{Next, Plans}
+use Rattle.onfi_console.specs.declared.parsed.RunOptions.{RunOptions}
+use Rattle.onfi_planners.specs.declared.by.By.{By}
 use Rattle.onfi_core.specs.declared.setup.Choice.TheVariants.{InOrder, NextPhase}
 use Rattle.onfi_run.specs.declared.way.Way.{Way}
 use Rattle.onfi_run.specs.Ending.{nodes_by}
-use Rattle.onfi_run.specs.Running.{is_memory, Answers as RunAnswers, BeginsAnswer as BeginsRun}
+use Rattle.onfi_run.specs.declared.traced.Traced.{Traced}
+use Rattle.onfi_run.specs.Running.{IsAnswer as IsRunAnswer, is_memory, Answers as RunAnswers, BeginsAnswer as BeginsRun}
 use Rattle.onfi_script.specs.Answer.{Answers, AnswersBy, BeginsAnswer, BeginsAnswerBy, IsAnswerBy, PartsTell}
 use Rattle.onfi_script.specs.Auditing.{AnswersAuditBy}
 use Rattle.onfi_script.specs.Gaps.{AnswersGaps}
@@ -23,13 +26,12 @@ use Rattle.onfi_script.specs.declared.auditing.AuditOptions.{AuditOptions}
 use Rattle.onfi_script.specs.declared.auditing.GapOptions.{GapOptions}
 use Rattle.onfi_script.specs.declared.command.Command.{Command}
 use Rattle.onfi_console.specs.Described.{IsDescription}
-use Rattle.onfi_sim.specs.Carrying.{AnswersNamed, BeginsToCarryOut, CarriesOut, TellsBy}
+use Rattle.onfi_sim.specs.Carrying.{AnswersNamed, BeginsToCarryOut, CarriesOut, TellsBy, choice_of, nodes_of}
 
 -- that memory ran out may be the answer to all that is named
 pub memory_answers : (named : Named) (xs : List ℕ) → AnswersNamed named xs memory
 memory_answers (Problem command workers) xs = inl refl
-memory_answers (Run planner limit clocked) xs = is_memory refl
-memory_answers (RunNext clocked) xs = is_memory refl
+memory_answers (Run options) xs = is_memory refl
 memory_answers Device xs = inl refl
 memory_answers (Audit options) xs = inl refl
 memory_answers (Gaps options) xs = inl refl
@@ -119,36 +121,24 @@ pub measured : (options : GapOptions) (xs : List ℕ) (r : Result Made AllocErro
 measured options xs (Ok a) is = inr is
 measured options xs (Err refused) is = tt
 
--- a run without a clock, and one within a limit of that number
-pub run_plainly : (planner : RunPlanner) (limit : ℕ) (clocked : Bool) (input old new : Option (List ℕ)) (r : Result ℕ EngineFault) → clocked ≡ false
-    → IfOk r (λ s. RunAnswers false (Some limit) input old new s) → IfOk r (λ s. CarriesOut (Run planner limit clocked) input old new s)
-run_plainly planner limit clocked input old new r e is =
-    subst (λ b. IfOk r (λ s. CarriesOut (Run planner limit b) input old new s)) (sym e) is
+-- a run within so many nodes, and a beginning of its answer
+pub run_told : (options : RunOptions) (nodes : Option ℕ) (input old new : Option (List ℕ)) (r : Result ℕ EngineFault) → nodes ≡ nodes_of options
+    → IfOk r (λ s. RunAnswers options.clocked nodes input old new s) → IfOk r (λ s. CarriesOut (Run options) input old new s)
+run_told options nodes input old new r e is = subst (λ n. IfOk r (λ s. RunAnswers options.clocked n input old new s)) e is
 
-pub run_plainly_begun : (planner : RunPlanner) (limit : ℕ) (clocked : Bool) (input old new : Option (List ℕ)) → clocked ≡ false
-    → BeginsRun false (Some limit) input old new → BeginsToCarryOut (Run planner limit clocked) input old new
-run_plainly_begun planner limit clocked input old new e is =
-    subst (λ b. BeginsToCarryOut (Run planner limit b) input old new) (sym e) is
+pub run_begun : (options : RunOptions) (nodes : Option ℕ) (input old new : Option (List ℕ)) → nodes ≡ nodes_of options
+    → BeginsRun options.clocked nodes input old new → BeginsToCarryOut (Run options) input old new
+run_begun options nodes input old new e is = subst (λ n. BeginsRun options.clocked n input old new) e is
 
--- a way by plans within that number
-pub way_plans : (planner : RunPlanner) (limit within : ℕ) (way : Way RunPlanner) → within ≡ limit → way ≡ record { planner = planner; limit = within; choice = InOrder } → nodes_by way.choice way.limit ≡ Some limit
-way_plans planner limit within way same is = ap (λ (w : Way RunPlanner). nodes_by w.choice w.limit) is ∙ ap Some same
+-- how many nodes the ways of a run open
+pub next_nodes : {P : Type 0} (options : RunOptions) (way : Way P) → options.by ≡ Next → way.choice ≡ NextPhase → nodes_by way.choice way.limit ≡ nodes_of options
+next_nodes options way by choice = ap (λ c. nodes_by c way.limit) choice ∙ sym (ap (λ b. nodes_by (choice_of b) options.limit) by)
 
-pub run_within : (planner : RunPlanner) (limit : ℕ) (way : Way RunPlanner) (clocked : Bool) (input old new : Option (List ℕ)) (r : Result ℕ EngineFault) → nodes_by way.choice way.limit ≡ Some limit
-    → IfOk r (λ s. RunAnswers clocked (nodes_by way.choice way.limit) input old new s) → IfOk r (λ s. CarriesOut (Run planner limit clocked) input old new s)
-run_within planner limit way clocked input old new r e is =
-    subst (λ n. IfOk r (λ s. RunAnswers clocked n input old new s)) e is
+pub plan_nodes : {P : Type 0} (options : RunOptions) (by : By) (limit : ℕ) (way : Way P) (planner : P) → options.by ≡ Plans by → limit ≡ options.limit
+    → way ≡ record { planner = planner; limit = limit; choice = InOrder; is_traced = false } → nodes_by way.choice way.limit ≡ nodes_of options
+plan_nodes {P} options by limit way planner is same way_is =
+    ap (λ (w : Way P). nodes_by w.choice w.limit) way_is ∙ ap Some same ∙ sym (ap (λ b. nodes_by (choice_of b) options.limit) is)
 
--- .. one that goes phase by phase
-pub run_next : {P : Type 0} (way : Way P) (clocked : Bool) (input old new : Option (List ℕ)) (r : Result ℕ EngineFault) → way.choice ≡ NextPhase
-    → IfOk r (λ s. RunAnswers clocked (nodes_by way.choice way.limit) input old new s) → IfOk r (λ s. CarriesOut (RunNext clocked) input old new s)
-run_next way clocked input old new r e is = subst (λ c. IfOk r (λ s. RunAnswers clocked (nodes_by c way.limit) input old new s)) e is
-
-pub run_next_begun : {P : Type 0} (way : Way P) (clocked : Bool) (input old new : Option (List ℕ)) → way.choice ≡ NextPhase
-    → BeginsRun clocked (nodes_by way.choice way.limit) input old new → BeginsToCarryOut (RunNext clocked) input old new
-run_next_begun way clocked input old new e is = subst (λ c. BeginsRun clocked (nodes_by c way.limit) input old new) e is
-
-pub run_within_begun : (planner : RunPlanner) (limit : ℕ) (way : Way RunPlanner) (clocked : Bool) (input old new : Option (List ℕ)) → nodes_by way.choice way.limit ≡ Some limit
-    → BeginsRun clocked (nodes_by way.choice way.limit) input old new → BeginsToCarryOut (Run planner limit clocked) input old new
-run_within_begun planner limit way clocked input old new e is =
-    subst (λ n. BeginsRun clocked n input old new) e is
+pub traced_told : (options : RunOptions) (nodes : Option ℕ) (xs : List ℕ) (r : Result Traced AllocError) → nodes ≡ nodes_of options
+    → IfOk r (λ t. IsRunAnswer options.clocked nodes xs (answer_of t.answer)) → IfOk r (λ t. AnswersNamed (Run options) xs (answer_of t.answer))
+traced_told options nodes xs r e is = subst (λ n. IfOk r (λ t. IsRunAnswer options.clocked n xs (answer_of t.answer))) e is

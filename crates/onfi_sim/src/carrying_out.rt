@@ -1,16 +1,17 @@
 //! What a command line names is carried out.
-ghost use Rattle.std.specs.Prelude.{◌≡◌, ◌≤◌, ℕ, IfOk, IfErr, IsTrue, Some, option_map, take};
+ghost use Rattle.std.specs.Prelude.{◌≡◌, ◌≤◌, ℕ, IfOk, IfErr, Some, option_map, take};
 ghost use Rattle.std.specs.Io.KnownBytes.{Appends, Keeps};
 ghost use Rattle.onfi_script.specs.AnswerOf.{answer_of, told_of};
 ghost use Rattle.onfi_script.specs.Limit.{IsLimited};
 ghost use Rattle.onfi_script.specs.Text.{memory};
 ghost use Rattle.onfi_console.specs.declared.parsed.Named.{Named as ANamed};
 ghost use Rattle.onfi_console.specs.Words.{IsInRange};
+ghost use Rattle.onfi_run.specs.Ending.{nodes_by};
 ghost use Rattle.onfi_sim.specs.Carrying as spec;
 ghost use Rattle.onfi_sim.specs.Carrying.{AnswersNamed, BeginsToCarryOut, CarriesOut};
 
-use onfi_console::{By, Command, EngineFault, Named, RunBy, RunOptions, describe};
-use onfi_planners::{ChosenPlanner, Early, PlainPlanner};
+use onfi_console::{Command, EngineFault, Named, RunBy, RunOptions, describe};
+use onfi_planners::{ChosenPlanner, Early};
 use onfi_run::{Limit, Traced, Way, no_gates, run_freely, run_script_by};
 use onfi_script::{
     Answer, AuditOptions, GapOptions, InputFault, audit_by, audit_gaps, engine, engine_split,
@@ -84,27 +85,21 @@ fn carry_out_problem<T: Threads + Sync, I: Read, W: Write>(
     }
 }
 
-/// How many nodes a planning of the run opens at most.
-fn limit_in(options: RunOptions) -> Limit
+/// How the channels of the run go.
+fn way_of(options: RunOptions) -> Way<ChosenPlanner>
     requires { IsInRange (ANamed.Run options) }
-    ensures { result ≡ options.limit }
+    ensures { nodes_by result.choice result.limit ≡ spec.nodes_of options }
 {
-    Limit::of(options.limit).unwrap()
-}
-
-/// The planner of a run by plans that are made so.
-fn planner_of(by: By, early: bool) -> ChosenPlanner
-    ensures { result.by ≡ by }
-{
-    let early = if early { Some(Early::default()) } else { None };
-    ChosenPlanner { by, early }
-}
-
-/// Whether plans are left as the plain planner makes them.
-fn is_plain(options: RunOptions) -> bool
-    ensures { IsTrue result → spec.nodes_of options ≡ Some options.limit }
-{
-    options.by == RunBy::Plans(By::Plain) && !options.early
+    let early = if options.early {
+        Some(Early::default())
+    } else {
+        None
+    };
+    let limit = Limit::of(options.limit).unwrap();
+    match options.by {
+        RunBy::Next => Way::by_next_phase(ChosenPlanner::default()),
+        RunBy::Plans(by) => Way::by_plans(ChosenPlanner { by, early }, limit),
+    }
 }
 
 /// Runs the operations of a script.
@@ -123,22 +118,8 @@ fn carry_out_run<R: Threads + Wait + Sync, I: Read, W: Write>(
     let Ok(gates) = no_gates(alloc) else {
         return write_answer(writer, Err(AllocError));
     };
-    let limit = limit_in(options);
-    let clocked = options.clocked;
-    match options.by {
-        RunBy::Next => {
-            let way = Way::by_next_phase();
-            run_script_by(rt, alloc, way, clocked, gates, reader, writer)
-        }
-        RunBy::Plans(_) if is_plain(options) => {
-            let way = Way::by_plans(PlainPlanner, limit);
-            run_script_by(rt, alloc, way, clocked, gates, reader, writer)
-        }
-        RunBy::Plans(by) => {
-            let way = Way::by_plans(planner_of(by, options.early), limit);
-            run_script_by(rt, alloc, way, clocked, gates, reader, writer)
-        }
-    }
+    let way = way_of(options);
+    run_script_by(rt, alloc, way, options.clocked, gates, reader, writer)
 }
 
 /// What is answered where an input isn't read to its end.
@@ -288,20 +269,6 @@ pub fn run_traced<R: Threads + Wait + Sync>(
     requires { IsInRange (ANamed.Run options) }
     ensures answer { IfOk result (λ t. AnswersNamed (ANamed.Run options) script.now (answer_of t.answer)) }
 {
-    let limit = limit_in(options);
-    let clocked = options.clocked;
-    match options.by {
-        RunBy::Next => run_freely(
-            rt,
-            alloc,
-            Way::by_next_phase().with_traces(),
-            clocked,
-            script,
-        ),
-        RunBy::Plans(by) => {
-            let planner = planner_of(by, options.early);
-            let way = Way::by_plans(planner, limit).with_traces();
-            run_freely(rt, alloc, way, clocked, script)
-        }
-    }
+    let way = way_of(options).with_traces();
+    run_freely(rt, alloc, way, options.clocked, script)
 }

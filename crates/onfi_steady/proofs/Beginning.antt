@@ -1,14 +1,15 @@
 -- A dispatcher of which nothing waits, and the phase that is due as one of its group.
-use Rattle.std.proofs.Common.{◌≡◌, ℕ, zero, suc, ◌-◌, ◌≤◌, ◌∙◌, inl, inr, Bool, true, false, List, [], ◌∷◌, length, nat_lt, take, Option, Some, None, ap, arith, refl, subst, sym}
-use Rattle.std.specs.Prelude.{IfSome, if◌then◌else◌, slice_get}
+use Rattle.std.proofs.Common.{◌≡◌, ℕ, zero, suc, ◌+◌, ◌-◌, ◌<◌, ◌≤◌, ◌∙◌, inl, inr, Bool, true, false, List, [], ◌∷◌, length, nat_lt, take, Option, Some, None, ap, arith, refl, subst, sym}
+use Rattle.std.specs.Prelude.{IfSome, if◌then◌else◌, slice_get, slice_set}
 use Rattle.std.specs.List.{AllByRecursion as All}
-use Rattle.std.proofs.lemmas.Bool.{eq-eqb, ne_eqb}
+use Rattle.std.proofs.lemmas.Bool.{cases_eq, cases_lt, eq-eqb, ne_eqb}
 use Rattle.onfi_timing.specs.declared.timing.Timing.{Timing}
 use Rattle.onfi_request.specs.declared.want.Want.{Want}
 use Rattle.onfi_group.specs.declared.rules.Rules.{Rules}
 use Rattle.onfi_problem.specs.declared.lun_state.LunState.{LunState}
 use Rattle.onfi_problem.specs.declared.lun_state.LunState.TheVariants.{Running}
 use Rattle.onfi_problem.proofs.Lists.{map_get}
+use Rattle.onfi_problem.proofs.Places.{get_set_other, get_set_same, get_within}
 use Rattle.onfi_flight.specs.Flight.{member_of}
 use Rattle.onfi_steady.specs.declared.begin.Begin.{Begin}
 use Rattle.onfi_steady.specs.declared.dispatcher.Dispatcher.{Dispatcher}
@@ -29,11 +30,35 @@ use Rattle.onfi_steady.proofs.Selecting.{none_or_some, state_going}
 use Rattle.onfi_steady.proofs.Slots.{begin_size}
 
 -- what holds of each holds of the first ones
-pub all_taken : {A : Type 0} (P : A → Type 0) (xs : List A) → All P xs → (n at : ℕ) → IfSome (slice_get (take n xs) at) P
-all_taken P xs all zero at = tt
-all_taken P [] all (suc n) at = tt
-all_taken P (x ∷ xs) all (suc n) zero = all.0
-all_taken P (x ∷ xs) all (suc n) (suc at) = all_taken P xs all.1 n at
+pub each_taken : {A : Type 0} (P : A → Type 0) (xs : List A) → ((at : ℕ) → IfSome (slice_get xs at) P) → (n at : ℕ) → IfSome (slice_get (take n xs) at) P
+each_taken P xs each zero at = tt
+each_taken P [] each (suc n) at = tt
+each_taken P (x ∷ xs) each (suc n) zero = each 0
+each_taken P (x ∷ xs) each (suc n) (suc at) = each_taken P xs (λ i. each (suc i)) n at
+
+pub if_weaker : {A : Type 0} (P Q : A → Type 0) (o : Option A) → ((x : A) → P x → Q x) → IfSome o P → IfSome o Q
+if_weaker P Q None h p = tt
+if_weaker P Q (Some x) h p = h x p
+
+-- what holds of one more place
+pub one_set : {A : Type 0} (P : ℕ → A → Type 0) (xs : List A) (i : ℕ) (new : A) → i < length xs → P i new → ((at : ℕ) → at < i → IfSome (slice_get xs at) (P at)) →
+    (at : ℕ) → at < i + 1 → IfSome (slice_get (slice_set xs i new) at) (P at)
+one_set P xs i new within is before at h = elim (cases_eq at i) [
+  | inl e ↦ subst (λ z. IfSome (slice_get (slice_set xs i new) z) (P z)) (sym e) (subst (λ o. IfSome o (P i)) (sym (get_set_same xs i (get_within xs i within).0 new (get_within xs i within).1)) is)
+  | inr d ↦ subst (λ o. IfSome o (P at)) (sym (get_set_other xs i at new d)) (before at (omega arith))
+]
+
+-- .. holds of each where none is left
+pub each_below : {A : Type 0} (P : ℕ → A → Type 0) (xs : List A) (i : ℕ) → length xs ≤ i → ((at : ℕ) → at < i → IfSome (slice_get xs at) (P at)) → (at : ℕ) → IfSome (slice_get xs at) (P at)
+each_below P xs i all below at = elim (cases_lt at i) [
+  | inl h ↦ below at h
+  | inr h ↦ subst (λ o. IfSome o (P at)) (sym (none_past xs at (omega arith))) tt
+]
+  where
+    none_past : {A : Type 0} (xs : List A) (at : ℕ) → length xs ≤ at → slice_get xs at ≡ None
+    none_past [] at h = refl
+    none_past (x ∷ xs) zero h = absurd (omega arith)
+    none_past (x ∷ xs) (suc at) h = none_past xs at (omega arith)
 
 -- what each place keeps is what its LUN does
 pub states_are : (luns : List LunState) (books : List LunBooks) → length luns ≤ length books

@@ -63,12 +63,6 @@ working_on d lun h = by_option (slice_get (luns_of d) lun) refl h
       | inr k ↦ (let r = rw k at q in absurd cc)
     ]
 
-pub some_run : (l : LunBooks) → in_array l.run ≡ true → 1 ≤ l.run.members
-some_run l h = elim (cases_eq l.run.members 0) [
-  | inl e ↦ (let q : false ≡ true = rw (eq-eqb l.run.members 0 e) at h in absurd (false≢true q))
-  | inr d ↦ omega (arith, d)
-]
-
 pub ready_states : (states : List LunState) (lun moment : ℕ) (state : LunState) → slice_get states lun ≡ Some state → luns_ready_by moment lun (slice_get states lun) states ≡ slice_set states lun (ready_by moment state)
 ready_states states lun moment state e = ap (λ o. luns_ready_by moment lun o states) e
 
@@ -109,9 +103,6 @@ none_more luns id i l there none below = λ lun x h e. elim (cases_eq lun i) [
   | inl q ↦ (let s : Some l ≡ Some x = sym there ∙ (ap (slice_get luns) (sym q) ∙ e) in subst (λ (z : LunBooks). has_number (slots_in z.line) id ≡ false) (the_same l x s) none)
   | inr d ↦ below lun x (omega arith) e
 ]
-
-pub none_all : (luns : List LunBooks) (id i : ℕ) → length luns ≤ i → NoneHolds luns id i → NoneHolds luns id (length luns)
-none_all luns id i h none = λ lun x k e. none lun x (omega arith) e
 
 pub none_has : {A : Type 0} (test : A → Bool) (xs : List A) (x : A) → list_any test xs ≡ false → Has xs x → test x ≡ false
 none_has test [] x h has = absurd has

@@ -11,8 +11,6 @@ pub mod NextHeld
 pub mod Extremes
 pub mod NextFound
 pub mod OneToken
-pub mod EachLun
-pub mod Showing
 pub mod Slots
 pub mod Selecting
 pub mod Dispatching

@@ -2,10 +2,13 @@
 use Rattle.std.specs.Prelude.{◌≡◌, ◌⊎◌, ℕ, ◌+◌, ◌-◌, ◌<◌, ◌≤◌, ◌==◌, max, nat_lt, not, if◌then◌else◌, Bool, true, false, List, [], length, Option, Some, None, IfSome, slice_get}
 use Rattle.onfi_timing.specs.declared.timing.Timing.{Timing}
 use Rattle.onfi_request.specs.declared.want.Want.{Want}
+use Rattle.onfi_group.specs.declared.rules.Rules.{Rules}
+use Rattle.onfi_problem.specs.declared.lun_state.LunState.{LunState}
 use Rattle.onfi_problem.specs.Problem.{Problem}
 use Rattle.onfi_problem.specs.Moves.{Move}
 use Rattle.onfi_steady.specs.declared.begin.Begin.{Begin}
 use Rattle.onfi_steady.specs.declared.first.Choice.{Choice}
+use Rattle.onfi_steady.specs.declared.kind_spans.KindSpans.{KindSpans}
 use Rattle.onfi_steady.specs.declared.lun_books.LunBooks.{LunBooks}
 use Rattle.onfi_steady.specs.declared.next.NextPhase.{NextPhase}
 use Rattle.onfi_steady.specs.declared.run.Run.{Run}
@@ -18,13 +21,19 @@ use Rattle.onfi_steady.specs.Waiting.{Books}
 use Rattle.onfi_steady.specs.Offer.{on_lun}
 use Rattle.onfi_steady.specs.Next.{IsNextPhase, given_move, move_by}
 use Rattle.onfi_steady.specs.Kept.{NoneBelow, earlier, is_kept}
-use Rattle.onfi_steady.specs.Slots.{begins, has_number, slots_in, waiters_in, wants_in}
-use Rattle.onfi_steady.specs.LunBooks.{IsLun, begin_of, states_in}
+use Rattle.onfi_steady.specs.Slots.{AreSpansOf, begins, has_number, slots_in, waiters_in, wants_in}
+use Rattle.onfi_steady.specs.LunBooks.{IsLun, begin_of, state_in, states_in}
 
 -- what LUNs keep is that of what waits for them
 pub record AreLuns (timing : Timing) (books : Books) (luns : List LunBooks) : Type 0 where
   pub each : (at : ℕ) → IfSome (slice_get luns at) (IsLun timing books.rules)
   pub waiting : (at : ℕ) → IfSome (slice_get luns at) (λ l. waiters_in (slots_in l.line) ≡ on_lun at books.waiting)
+
+-- a LUN begins with what the one at that place of a list does, if there is one, and nothing waits for it
+pub record IsBegunAt (spans : KindSpans) (luns : List LunState) (at : ℕ) (l : LunBooks) : Type 0 where
+  pub state : IfSome (slice_get luns at) (λ state. state_in l.run ≡ state)
+  pub line : slots_in l.line ≡ []
+  pub lun : (timing : Timing) (rules : Rules) → AreSpansOf timing spans → IsLun timing rules l
 
 -- the next phase of what a LUN runs keeps the bus
 abbrev pub keeps_in : ℕ → Run → Bool

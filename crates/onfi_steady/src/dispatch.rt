@@ -29,7 +29,8 @@ pub fn run_by_rule(alloc: Global, problem: &Problem) -> Result<Best, AllocError>
     ensures small { IfOk result (λ best. best.finish < 2 ^ 62) }
 {
     let mut left = problem.copy(alloc)?;
-    let mut dispatcher = Dispatcher::of_problem(alloc, problem);
+    let mut dispatcher = Dispatcher::new(problem.timing(), problem.rules(), 1);
+    dispatcher.begin_batch(alloc, problem);
     let mut steps = Vec::new(alloc);
     let finish = rule_run(&mut left, &mut dispatcher, &mut steps)?;
     Ok(Best { finish, steps })

@@ -1,9 +1,9 @@
 //! A channel without batches, with its books kept from call to call.
-ghost use Rattle.std.specs.Prelude.{◌≡◌, ◌*◌, ◌<◌, ◌≤◌, ◌^◌, [], None, length, max, slice_get, take, true, IfOk, IfErr, IfNone, IfSome, IsSome, IsTrue, MatchOption, MatchResult};
+ghost use Rattle.std.specs.Prelude.{◌≡◌, ℕ, ◌*◌, ◌<◌, ◌≤◌, ◌^◌, [], None, length, max, slice_get, take, true, IfOk, IfErr, IfNone, IfSome, IsSome, IsTrue, MatchOption, MatchResult};
 ghost use Rattle.std.specs.List.{AllByRecursion as Each};
 ghost use Rattle.onfi_timing.specs.declared.timing.Timing.{Timing as AnyTiming};
-ghost use Rattle.onfi_steady.specs.LunBooks.{HasPhaseLeft, IsLun, state_in, states_in};
-ghost use Rattle.onfi_steady.specs.Slots.{AreSpansOf, slots_in, waiters_in};
+ghost use Rattle.onfi_steady.specs.LunBooks.{HasPhaseLeft};
+ghost use Rattle.onfi_steady.specs.Selecting.{IsBegunAt};
 
 mod batch;
 mod state;
@@ -41,37 +41,26 @@ pub struct Dispatcher {
     lun: [LunBooks; 8],
 }
 
-// What is kept of each of these LUNs, for which nothing waits, and of free ones after them.
-fn books_of(rules: &Rules, spans: &KindSpans, luns: &[LunState]) -> [LunBooks; 8]
-    requires few { length luns.now ≤ 8 }
+// Has each LUN begin with what it does, and those after them be free; nothing waits for any.
+fn begin_luns(books: &mut [LunBooks], spans: &KindSpans, luns: &[LunState])
+    requires few { length luns.now ≤ length books.old }
     requires left { Each HasPhaseLeft luns.now }
-    ensures eight { length result ≡ 8 }
-    ensures states { states_in (take (length luns.now) result) ≡ luns.now }
-    ensures none { Each (λ l. waiters_in (slots_in l.line) ≡ []) result }
-    ensures luns { (timing : AnyTiming) → AreSpansOf timing spans.now → Each (IsLun timing rules.now) result }
+    ensures few { length luns.now ≤ length books.new }
+    ensures begun { (at : ℕ) → IfSome (slice_get books.new at) (IsBegunAt spans.now luns.now at) }
 {
-    [
-        books_at(rules, spans, luns, 0),
-        books_at(rules, spans, luns, 1),
-        books_at(rules, spans, luns, 2),
-        books_at(rules, spans, luns, 3),
-        books_at(rules, spans, luns, 4),
-        books_at(rules, spans, luns, 5),
-        books_at(rules, spans, luns, 6),
-        books_at(rules, spans, luns, 7),
-    ]
+    for at in 0..books.len() {
+        begin_lun(&mut books[at], spans, luns, at);
+    }
 }
 
-// What is kept of the LUN at that place, or of a free one.
-fn books_at(rules: &Rules, spans: &KindSpans, luns: &[LunState], at: usize) -> LunBooks
+// Has a LUN begin with what the one at that place does, or be free.
+fn begin_lun(lun: &mut LunBooks, spans: &KindSpans, luns: &[LunState], at: usize)
     requires { Each HasPhaseLeft luns.now }
-    ensures state { IfSome (slice_get luns.now at) (λ state. state_in result.run ≡ state) }
-    ensures none { waiters_in (slots_in result.line) ≡ [] }
-    ensures lun { (timing : AnyTiming) → AreSpansOf timing spans.now → IsLun timing rules.now result }
+    ensures { IsBegunAt spans.now luns.now at lun.new }
 {
     match luns.get(at) {
-        Some(state) => LunBooks::with_state(rules, spans, state),
-        None => LunBooks::new(rules, spans),
+        Some(state) => lun.begin(spans, state),
+        None => *lun = LunBooks::new(spans),
     }
 }
 
@@ -110,11 +99,12 @@ impl Dispatcher {
                 lun: 0,
                 luns,
             },
-            lun: [LunBooks::new(&rules, &spans); 8],
+            lun: [LunBooks::new(&spans); 8],
         }
     }
 
-    /// Of a channel whose bus is free from then on, in ns, and whose LUNs do that; nothing waits.
+    /// Of a channel whose bus is free from then on, in ns, and whose LUNs do that; nothing waits. [`Dispatcher::begin`] makes it
+    /// where one stands, and takes less stack.
     pub fn with_luns(timing: &Timing, rules: Rules, bus_free: u64, luns: &[LunState]) -> Dispatcher
         requires some { 1 ≤ length luns.now }
         requires few { length luns.now ≤ 8 }
@@ -124,24 +114,36 @@ impl Dispatcher {
         ensures bus_free { result.bus_free ≡ bus_free }
         ensures over { has_due result ≡ false }
     {
-        let spans = KindSpans::of(timing);
-        Dispatcher {
-            rules,
-            spans,
-            bus_free,
-            newest: Newest {
-                number: 0,
-                is_there: false,
-            },
-            due: DuePhase {
-                start: 0,
-                is_there: false,
-                erase: false,
-                lun: 0,
-                luns: luns.len() as u8,
-            },
-            lun: books_of(&rules, &spans, luns),
-        }
+        let mut dispatcher = Dispatcher::new(timing, rules, 1);
+        dispatcher.begin(timing, rules, bus_free, luns);
+        dispatcher
+    }
+
+    /// Begins anew with a channel whose bus is free from then on, in ns, and whose LUNs do that; nothing waits.
+    pub fn begin(&mut self, timing: &Timing, rules: Rules, bus_free: u64, luns: &[LunState])
+        requires some { 1 ≤ length luns.now }
+        requires few { length luns.now ≤ 8 }
+        requires left { Each HasPhaseLeft luns.now }
+        ensures is { IsOf timing.now (record { rules = rules; waiting = []; newest = None }) self.new }
+        ensures states { states_of self.new ≡ luns.now }
+        ensures bus_free { self.new.bus_free ≡ bus_free }
+        ensures over { has_due self.new ≡ false }
+    {
+        self.spans = KindSpans::of(timing);
+        self.rules = rules;
+        self.bus_free = bus_free;
+        self.newest = Newest {
+            number: 0,
+            is_there: false,
+        };
+        self.due = DuePhase {
+            start: 0,
+            is_there: false,
+            erase: false,
+            lun: 0,
+            luns: luns.len() as u8,
+        };
+        begin_luns(&mut self.lun, &self.spans, luns);
     }
 
     /// Whether its counts are in their ranges. They are, unless something else wrote its memory.

@@ -35,6 +35,13 @@ impl Line {
         }
     }
 
+    /// Nothing waits from now on.
+    pub fn clear(&mut self)
+        ensures { slots_in self.new ≡ [] }
+    {
+        self.count = Count { of: 0 };
+    }
+
     /// What waits, oldest first.
     pub fn as_slice(&self) -> &[Slot]
         ensures value { result.now ≡ slots_in self.now }

@@ -49,6 +49,18 @@ pub struct LunOffer {
 }
 
 impl LunOffer {
+    /// That of a LUN for which nothing waits.
+    pub fn none(spans: &KindSpans) -> LunOffer
+        ensures { (timing : AnyTiming) (rules : AnyRules) → AreSpansOf timing spans.now → IsLunOffer timing rules [] result }
+    {
+        LunOffer {
+            group: Begin::none(spans),
+            erase: Begin::none(spans),
+            is_open: false,
+            reads: false,
+        }
+    }
+
     /// That of what waits, oldest first.
     pub fn of(rules: &Rules, spans: &KindSpans, waiting: &[Slot]) -> LunOffer
         requires { length waiting.now ≤ 64 }
@@ -118,30 +130,28 @@ pub struct LunBooks {
 
 impl LunBooks {
     /// It runs nothing from time 0 on, and nothing waits.
-    pub fn new(rules: &Rules, spans: &KindSpans) -> LunBooks
+    pub fn new(spans: &KindSpans) -> LunBooks
         ensures state { state_in result.run ≡ Free 0 }
         ensures line { slots_in result.line ≡ [] }
-        ensures lun { (timing : AnyTiming) → AreSpansOf timing spans.now → IsLun timing rules.now result }
+        ensures lun { (timing : AnyTiming) (rules : AnyRules) → AreSpansOf timing spans.now → IsLun timing rules result }
     {
         LunBooks {
             run: Run::free(0),
             line: Line::new(),
-            offer: LunOffer::of(rules, spans, &[]),
+            offer: LunOffer::none(spans),
         }
     }
 
-    /// It does that, and nothing waits.
-    pub fn with_state(rules: &Rules, spans: &KindSpans, state: &LunState) -> LunBooks
+    /// It does that from now on, and nothing waits.
+    pub fn begin(&mut self, spans: &KindSpans, state: &LunState)
         requires { HasPhaseLeft state.now }
-        ensures state { state_in result.run ≡ state.now }
-        ensures line { slots_in result.line ≡ [] }
-        ensures lun { (timing : AnyTiming) → AreSpansOf timing spans.now → IsLun timing rules.now result }
+        ensures state { state_in self.new.run ≡ state.now }
+        ensures line { slots_in self.new.line ≡ [] }
+        ensures lun { (timing : AnyTiming) (rules : AnyRules) → AreSpansOf timing spans.now → IsLun timing rules self.new }
     {
-        LunBooks {
-            run: Run::with_state(spans, state),
-            line: Line::new(),
-            offer: LunOffer::of(rules, spans, &[]),
-        }
+        self.run = Run::with_state(spans, state);
+        self.line.clear();
+        self.offer = LunOffer::none(spans);
     }
 
     /// Whether its counts are in their ranges. They are, unless something else wrote its memory.

@@ -4,8 +4,8 @@ ghost use Rattle.std.specs.Prelude.{◌≡◌, ◌+◌, ◌<◌, ◌≤◌, [], 
 ghost use Rattle.std.specs.List.{list_any};
 ghost use Rattle.onfi_timing.specs.declared.kind.Kind.TheVariants.{Read};
 ghost use Rattle.onfi_group.specs.Group.{on_block};
-ghost use Rattle.onfi_steady.specs.Offer.{firsts, is_kind, on_lun, ready_on};
-ghost use Rattle.onfi_steady.specs.Kept.{firsts_with, is_read_on, ready_with};
+ghost use Rattle.onfi_steady.specs.Offer.{firsts, is_kind};
+ghost use Rattle.onfi_steady.specs.Kept.{firsts_with};
 ghost use Rattle.onfi_steady.specs.Slots.{waiters_in};
 
 use crate::slot::Slot;

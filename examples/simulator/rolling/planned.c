@@ -55,14 +55,14 @@ static void put_steps(const problem *problem, const onfi_schedule *schedule, pla
     qsort(plan->step, plan->steps, sizeof *plan->step, by_start);
 }
 
-/* Notes how much processor time a plan took since `begun`. */
-static void note_plan(costs *planning, clock_t begun, uint32_t status, const onfi_planned *planned)
+/* Notes how much processor time a plan took since `begun`, and of a way that asks for the best plans whether its search was cut. */
+static void note_plan(costs *planning, clock_t begun, uint32_t status, const onfi_planned *planned, bool is_exact)
 {
     double seconds = (double)(clock() - begun) / CLOCKS_PER_SEC;
     planning->plans++;
     planning->seconds += seconds;
     planning->longest = seconds > planning->longest ? seconds : planning->longest;
-    planning->over += status == ONFI_DONE && planned->below < planned->finish;
+    planning->over += status == ONFI_DONE && is_exact && planned->below < planned->finish;
     planning->nodes += status == ONFI_DONE ? planned->opened : 0;
 }
 
@@ -72,7 +72,7 @@ static bool make_plan(const way *way, mind *mind, const machine *m, const batch 
     onfi_planned planned;
     clock_t begun = clock();
     uint32_t status = way->planner(&problem, m->setup->limit, &planned);
-    note_plan(&mind->planning, begun, status, &planned);
+    note_plan(&mind->planning, begun, status, &planned, way->planner == plan_within);
     mind->told = false;
     mind->plan.wants = problem.wants;
     for (size_t at = 0; at < problem.wants; at++)

@@ -37,7 +37,7 @@ DISPATCHER = ("begin", "accept", "accept_again", "cancel", "next", "ran", "ready
 # What is linked of the library, by calls: what they don't reach is left out.
 LINKED = {
     "linked for `onfi_plan` and `onfi_check` alone": ["plan", "check"],
-    ".. for `onfi_plan_within`, `onfi_due`, `onfi_ran`": ["plan_within", "due", "ran"],
+    ".. for `onfi_plan`, `onfi_due`, `onfi_ran`": ["plan", "due", "ran"],
     ".. for the calls of a dispatcher, `onfi_output_of`": [*(f"dispatcher_{it}" for it in DISPATCHER), "output_of"],
 }
 # Where libraries of other processors stand, by the order of columns.

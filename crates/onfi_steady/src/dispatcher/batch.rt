@@ -12,21 +12,21 @@ use onfi_schedule::Schedule;
 use std::alloc::Global;
 
 impl Dispatcher {
-    /// Of the channel that a problem is: what is to do waits, and no program is the newest, so that none waits for its mates.
-    pub fn of_problem(alloc: Global, problem: &Problem) -> Dispatcher
-        ensures { IsFor problem.now.problem (batch_of problem.now.problem) result }
+    /// Begins anew with the channel that a problem is: what is to do waits, and no program is the newest, so that none waits for its
+    /// mates.
+    pub fn begin_batch(&mut self, alloc: Global, problem: &Problem)
+        ensures { IsFor problem.now.problem (batch_of problem.now.problem) self.new }
     {
         problem.in_limits();
         let none = Schedule::new(ArrayVec::new(), ArrayVec::new_in(alloc));
         let flight = Flight::of(problem, &none);
-        let mut dispatcher = Dispatcher::with_luns(
+        self.begin(
             problem.timing(),
             problem.rules(),
             problem.bus_free(),
             flight.luns(),
         );
-        dispatcher.accept_batch(problem, flight.wants());
-        dispatcher
+        self.accept_batch(problem, flight.wants());
     }
 
     // Takes in the wants of a problem, and forgets which program is the newest.

@@ -20,7 +20,9 @@ returns-clause-named c =
         no_optimum = sym optimum ∙ c.if-optimum.false;
         no_limit = sym limit ∙ c.if-has_value.false;
         no_table = sym csv ∙ c.if-is_given.false;
-        is_all = c.audit_options-options.ensures.all;
-        is_by_status = c.audit_options-options.ensures.by_status;
+        is_all = c.in_ok-options.ensures.all;
+        is_by_status = c.in_ok-options.ensures.by_status;
+        is_tolerance = c.in_ok-options.ensures.tolerance;
+        is_one_status = c.in_ok-options.ensures.one_status;
       },
     )

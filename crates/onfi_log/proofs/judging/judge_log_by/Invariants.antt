@@ -7,8 +7,8 @@ abbrev pub invariant-loop-line : goal.invariant-loop-line
 invariant-loop-line l = record {
   counted : l.phases < l.number;
   few : l.number + length l.left ≤ length l.text + 1;
-  goes : (answer : Answer) → AnswersFrom l.readies l.all l.judged l.number l.phases (string_bytes l.found) (parts 10 l.left) answer
-      → AnswersFrom l.readies l.all l.initial.judged 1 0 [] (parts 10 l.text) answer;
+  goes : (answer : Answer) → AnswersFrom l.manner.readies l.all l.judged l.number l.phases (string_bytes l.found) (parts 10 l.left) answer
+      → AnswersFrom l.manner.readies l.all l.initial.judged 1 0 [] (parts 10 l.text) answer;
 }
 
 abbrev pub decreases-loop-line : goal.decreases-loop-line

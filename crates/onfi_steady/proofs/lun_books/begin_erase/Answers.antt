@@ -1,6 +1,5 @@
-use Rattle.std.proofs.Common.{◌≡◌, ◌∙◌, List, [], true, ap, subst, sym}
+use Rattle.std.proofs.Common.{◌≡◌, ◌∙◌, [], true, ap, subst, sym}
 use Rattle.std.specs.Prelude.{if◌then◌else◌}
-use Rattle.onfi_request.specs.declared.want.Want.{Want}
 use Rattle.onfi_steady.specs.Offer.{erase_group, group_with}
 use Rattle.onfi_steady.specs.Slots.{IsBegin}
 use Rattle.onfi_steady.proofs.lun_books.begin_erase.Goals as goal

@@ -16,7 +16,7 @@ returns-clause-is c = record {
   there = tt;
   distinct = tt;
   luns = record {
-    each = get_each (λ at l. IsLun c.args.timing.now c.args.rules l) c.new.result (λ at. c.new.ensures.lun c.args.timing.now c.of-spans.ensures) _ (refl, (refl, (refl, (refl, (refl, (refl, (refl, (refl, tt)))))))) c.args.luns;
+    each = get_each (λ at l. IsLun c.args.timing.now c.args.rules l) c.new.result (λ at. c.new.ensures.lun c.args.timing.now c.args.rules c.of-spans.ensures) _ (refl, (refl, (refl, (refl, (refl, (refl, (refl, (refl, tt)))))))) c.args.luns;
     waiting = get_each (λ at (l : LunBooks). waiters_in (slots_in l.line) ≡ on_lun at []) c.new.result (λ at. ap waiters_in c.new.ensures.line) _ (refl, (refl, (refl, (refl, (refl, (refl, (refl, (refl, tt)))))))) c.args.luns;
   };
 }

@@ -1,6 +1,5 @@
 use Rattle.std.proofs.Common.{◌≡◌, ◌∙◌, List, [], ap, subst}
 use Rattle.std.specs.Prelude.{if◌then◌else◌}
-use Rattle.onfi_request.specs.declared.want.Want.{Want}
 use Rattle.onfi_steady.specs.declared.waiter.Waiter.{Waiter}
 use Rattle.onfi_steady.specs.Offer.{erase_group, firsts, group_with, is_open, may_grow, own_group, turned_to}
 use Rattle.onfi_steady.specs.Slots.{IsBegin}

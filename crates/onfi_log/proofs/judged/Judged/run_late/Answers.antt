@@ -1,7 +1,7 @@
 use Rattle.std.proofs.Common.{◌↔◌, ◌<◌, ◌^◌, IsTrue, ap, subst}
 use Rattle.onfi_audit.specs.Audit.{MayComeLater}
 use Rattle.onfi_log.specs.Judging.{Judged}
-use Rattle.onfi_log.proofs.judged.Judged.run_anyway.Goals as goal
+use Rattle.onfi_log.proofs.judged.Judged.run_late.Goals as goal
 
 pub returns-clause-ran : goal.returns-clause-ran
 returns-clause-ran c =
