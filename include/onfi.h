@@ -568,7 +568,7 @@ uint32_t onfi_dispatcher_begin(onfi_dispatcher *dispatcher, const onfi_channel *
  * ONFI_BAD_PLACE, where the device has no such LUN, block or page; ONFI_BAD_LUN, where it erases another page than 0; ONFI_NO_LENGTHS,
  * where it puts out so many sectors that no length is stated of them, or is a program or an erase with sectors; ONFI_BAD_LUN, where
  * the channel began with fewer LUNs; ONFI_TOO_MANY, where ONFI_WAITERS wait for its LUN; ONFI_BAD_ORDER, where its id isn't above that
- * of the last of these.
+ * of the last of these, or a request of its id waits among them.
  */
 uint32_t onfi_dispatcher_accept(onfi_dispatcher *dispatcher, const onfi_want *want);
 
