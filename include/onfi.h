@@ -568,7 +568,7 @@ uint32_t onfi_dispatcher_begin(onfi_dispatcher *dispatcher, const onfi_channel *
  * ONFI_BAD_PLACE, where the device has no such LUN, block or page; ONFI_BAD_LUN, where it erases another page than 0; ONFI_NO_LENGTHS,
  * where it puts out so many sectors that no length is stated of them, or is a program or an erase with sectors; ONFI_BAD_LUN, where
  * the channel began with fewer LUNs; ONFI_TOO_MANY, where ONFI_WAITERS wait for its LUN; ONFI_BAD_ORDER, where its id isn't above that
- * of the last of these.
+ * of the last of these, or a request of its id waits among them.
  */
 uint32_t onfi_dispatcher_accept(onfi_dispatcher *dispatcher, const onfi_want *want);
 
@@ -711,11 +711,12 @@ uint32_t onfi_device_of_page(const uint8_t *page, size_t page_bytes, const char 
  *
  *     plan [--by plain|within|rule] [--early] [--limit N] [--trace] [--requests]
  *     check [--by plain|within] [--legal]
- *     audit [--all] [--ready-by-status]
+ *     audit [--all] [--ready-by-status] [--tolerance NS] [--one-status]
  *
- * ONFI_DONE where there is a plan, or where plan or log is accepted, ONFI_NOT_SHOWN_OPTIMAL where a plan is accepted that ends after the
- * time before which nothing does, ONFI_SCRIPT_REFUSED, ONFI_PLAN_REFUSED, ONFI_MEMORY and ONFI_OVER, the program's status, with the answer; ONFI_NO_ROOM where it is longer than the room, which is then as it was; ONFI_BAD_WORDS with no
- * answer, where the words are none of these.
+ * ONFI_DONE where there is a plan, or where plan or log is accepted, ONFI_NOT_SHOWN_OPTIMAL where a plan is accepted that ends after
+ * the time before which nothing does, ONFI_SCRIPT_REFUSED, ONFI_PLAN_REFUSED, ONFI_MEMORY and ONFI_OVER, the program's status, with the
+ * answer; ONFI_NO_ROOM where it is longer than the room, which is then as it was; ONFI_BAD_WORDS with no answer, where the words are none
+ * of these.
  */
 uint32_t onfi_text(const char *words, size_t words_bytes, const char *script, size_t script_bytes, char *answer, size_t answer_room,
                    size_t *answer_bytes);

@@ -1,5 +1,5 @@
 -- From what is judged of a schedule to what a caller is answered.
-use Rattle.std.proofs.Common.{◌≡◌, ◌≤◌, ◌<◌, ℕ, List, false, sym, subst, ap, inl, inr, refl, arith, ◌∙◌}
+use Rattle.std.proofs.Common.{◌≡◌, ◌≤◌, ℕ, List, false, sym, subst, inl, inr, refl, arith, ◌∙◌}
 use Rattle.std.specs.Prelude.{◌==◌, IfOk, IfErr, Result, Ok, Err}
 use Rattle.std.proofs.lemmas.Bool.{cases_Bool, ne_eqb}
 use Rattle.onfi_cert.specs.declared.token.Token.{Token}
@@ -17,7 +17,7 @@ use Rattle.onfi_calls.specs.declared.channel.PlainWant.{PlainWant}
 use Rattle.onfi_calls.specs.declared.refusal.Refusal.{Refusal}
 use Rattle.onfi_calls.specs.declared.schedule.PlainSchedule.{PlainSchedule}
 use Rattle.onfi_calls.specs.declared.schedule.PlainVerdict.{PlainVerdict}
-use Rattle.onfi_calls.specs.Check.{Certifies, GivesVerdict, IsRefusedBy, IsShown, IsUnshown, accepts, asked, refuses as refuses_it}
+use Rattle.onfi_calls.specs.Check.{GivesVerdict, IsRefusedBy, IsShown, IsUnshown, accepts, asked, refuses as refuses_it}
 use Rattle.onfi_calls.specs.Stand.{IsScheduleSaid}
 
 pub verdict_given : {channel : PlainChannel} {wants : List PlainWant} {schedule : PlainSchedule} {certificate : List ℕ} {verdict : PlainVerdict} {result : ℕ}

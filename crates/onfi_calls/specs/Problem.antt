@@ -1,5 +1,5 @@
 -- What plain structs say of a channel.
-use Rattle.std.specs.Prelude.{◌≡◌, ◌==◌, ◌/◌, ◌%◌, ◌-◌, ℕ, nat_lt, if◌then◌else◌, Bool, true, false, List, [], take, map, slice_index_or, ◌||◌}
+use Rattle.std.specs.Prelude.{◌≡◌, ◌==◌, ◌/◌, ◌%◌, ◌-◌, ℕ, nat_lt, if◌then◌else◌, Bool, true, false, List, take, map, slice_index_or, ◌||◌}
 use Rattle.onfi_addr.specs.Rows.{plane_at}
 use Rattle.std.specs.List.{list_any}
 use Rattle.onfi_timing.specs.declared.kind.Kind.{Kind}

@@ -1,5 +1,5 @@
 -- What a caller is given for the bytes of a script.
-use Rattle.std.specs.Prelude.{◌≡◌, ◌⊎◌, ℕ, List, Option, Some, None}
+use Rattle.std.specs.Prelude.{◌≡◌, ◌⊎◌, ℕ, List, Some, None}
 use Rattle.onfi_script.specs.Answer.{IsAnswer}
 use Rattle.onfi_script.specs.Auditing.{AnswersAuditBy}
 use Rattle.onfi_script.specs.Text.{Answer, memory}

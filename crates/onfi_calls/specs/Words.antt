@@ -1,5 +1,5 @@
 -- What the words of a command ask for.
-use Rattle.std.specs.Prelude.{◌==◌, ◌+◌, ◌&&◌, ℕ, not, if◌then◌else◌, Bool, true, false, List, [], ◌∷◌, length, Option, Some, None, Result, Ok, Err, is_some, option_map, codes}
+use Rattle.std.specs.Prelude.{◌==◌, ◌+◌, ℕ, if◌then◌else◌, Bool, true, false, List, [], ◌∷◌, length, Option, Some, None, Result, Ok, Err, is_some, option_map, codes}
 use Rattle.std.specs.Str.{bytes_eq}
 use Rattle.onfi_log.specs.Parts.{parts}
 use Rattle.onfi_planners.specs.declared.by.By.{By}
@@ -108,13 +108,26 @@ check_asked words =
     else and_then (by_named (value (codes "--by") words)) check_by)
     else None
 
--- .. `audit [--all] [--ready-by-status]`
+-- .. `audit [--all] [--ready-by-status] [--tolerance NS] [--one-status]`
 abbrev pub audit_words : List (List ℕ) → ℕ
-audit_words words = 1 + alone (codes "--all") words + alone (codes "--ready-by-status") words
+audit_words words =
+    1 + alone (codes "--all") words + alone (codes "--ready-by-status") words + with_value (codes "--tolerance") words + alone (codes "--one-status") words
+
+-- how much too soon a phase may come, in ns; not at all where nothing is named
+abbrev pub tolerance_named : Option (List ℕ) → Option ℕ
+tolerance_named None = Some 0
+tolerance_named (Some word) = taken (number 1 1000000 word)
+
+abbrev pub audit_by : List (List ℕ) → ℕ → AuditOptions
+audit_by words tolerance = record {
+  all = has (codes "--all") words;
+  by_status = has (codes "--ready-by-status") words;
+  tolerance = tolerance;
+  one_status = has (codes "--one-status") words;
+}
 
 abbrev pub audit_asked : List (List ℕ) → Option AuditOptions
-audit_asked words =
-    if length words == audit_words words then Some (record { all = has (codes "--all") words; by_status = has (codes "--ready-by-status") words }) else None
+audit_asked words = if length words == audit_words words then option_map (audit_by words) (tolerance_named (value (codes "--tolerance") words)) else None
 
 -- what a command of this name asks for
 abbrev pub asked_by : Option (List ℕ) → List (List ℕ) → Option Asked

@@ -38,8 +38,8 @@ fn refusal_of(kept: &PlainDispatcher, want: &PlainWant) -> Option<Status>
 ///
 /// Answers 0; or the first of the numbers of `BadKind`, of `BadPlace` where the device has no such LUN, block or page, of `BadLun`
 /// where it erases another page than 0, of `NoLengths` where it has sectors without a length, of `BadLun` where the channel has no
-/// such LUN, of `TooMany` where 64 requests wait for it, and of `BadOrder` where its number isn't above that of the last of these;
-/// and all is as it was.
+/// such LUN, of `TooMany` where 64 requests wait for it, and of `BadOrder` where its number isn't above that of the last of these,
+/// or one of them has it; and all is as it was.
 pub fn onfi_dispatcher_accept(dispatcher: &mut PlainDispatcher, want: &PlainWant) -> u32
     ensures { spec.GivesTaken (spec.told (spec.want_refusal dispatcher.old want.now) (accept_refusal dispatcher.old.dispatcher (want_of dispatcher.old.device.plane_bits want.now)))
         (λ books. accepted books (want_of dispatcher.old.device.plane_bits want.now)) dispatcher.old dispatcher.new result }

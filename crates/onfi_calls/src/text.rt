@@ -2,7 +2,6 @@
 ghost use Rattle.std.specs.Prelude.{◌≡◌, IfSome};
 ghost use Rattle.onfi_script.specs.Answer.{IsAnswer};
 ghost use Rattle.onfi_script.specs.Auditing.{AnswersAuditBy};
-ghost use Rattle.onfi_script.specs.AnswerOf.{answer_of as answer_in};
 ghost use Rattle.onfi_script.specs.Limit.{IsLimited};
 ghost use Rattle.onfi_calls.specs.Text as spec;
 ghost use Rattle.onfi_calls.specs.Words.{IsAskLimited};

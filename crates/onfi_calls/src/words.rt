@@ -211,16 +211,42 @@ fn check_asked(words: &[u8]) -> Option<Command>
     Some(Command::Legal)
 }
 
+/// How many words `audit` with its options has, each at most once.
+fn audit_words(words: &[u8]) -> usize
+    ensures { result ≡ spec.audit_words (spec.words_of words.now) }
+{
+    1 + alone(words, "--all")
+        + alone(words, "--ready-by-status")
+        + with_value(words, "--tolerance")
+        + alone(words, "--one-status")
+}
+
+/// How much too soon a phase may come, in ns; not at all where nothing is named.
+fn tolerance_named(word: Option<&[u8]>) -> Option<u64>
+    ensures { result ≡ spec.tolerance_named (option_map (λ w. w.now) word.entry) }
+{
+    let Some(word) = word else {
+        return Some(0);
+    };
+    match number(word, 1, 1_000_000) {
+        Ok(tolerance) => Some(tolerance),
+        Err(_) => None,
+    }
+}
+
 /// What `audit` with these words asks for.
 fn audit_asked(words: &[u8]) -> Option<AuditOptions>
     ensures { result ≡ spec.audit_asked (spec.words_of words.now) }
 {
-    if count_words(words) != 1 + alone(words, "--all") + alone(words, "--ready-by-status") {
+    if count_words(words) != audit_words(words) {
         return None;
     }
+    let tolerance = tolerance_named(value(words, "--tolerance"))?;
     Some(AuditOptions {
         all: has(words, "--all"),
         by_status: has(words, "--ready-by-status"),
+        tolerance,
+        one_status: has(words, "--one-status"),
     })
 }
 

@@ -1,4 +1,4 @@
-use Rattle.std.proofs.Common.{◌≡◌, ◌<◌, length, ap, rules, ◌∙◌, arith}
+use Rattle.std.proofs.Common.{◌≡◌, length, ap, rules, ◌∙◌, arith}
 use Rattle.std.proofs.lemmas.List.{take_all}
 use Rattle.onfi_audit.specs.declared.stage.LunStage.TheVariants.{Free}
 use Rattle.onfi_calls.specs.Audit.{stages_of}

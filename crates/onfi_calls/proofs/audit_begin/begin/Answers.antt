@@ -1,7 +1,7 @@
 use Rattle.std.proofs.Common.{[], false, length, take, refl, sym, subst}
 use Rattle.onfi_problem.specs.Kept.{problem_of}
 use Rattle.onfi_problem.specs.Problem.{Problem}
-use Rattle.onfi_calls.specs.AuditBegun.{gives_audit, no_schedule, refuses_audit}
+use Rattle.onfi_calls.specs.AuditBegun.{gives_audit, refuses_audit}
 use Rattle.onfi_calls.specs.Flights.{is_no_problem}
 use Rattle.onfi_calls.specs.Problem.{luns_of}
 use Rattle.onfi_calls.specs.Refused.{IsBadProblem}

@@ -1,4 +1,4 @@
-use Rattle.std.proofs.Common.{◌≡◌, sym, subst, ◌∙◌, arith}
+use Rattle.std.proofs.Common.{sym, subst, ◌∙◌, arith}
 use Rattle.onfi_check.specs.Tree.{AcceptsTokens}
 use Rattle.onfi_calls.specs.Check.{is_plain, is_sooner}
 use Rattle.onfi_calls.proofs.Verdicts.{shown_plain}

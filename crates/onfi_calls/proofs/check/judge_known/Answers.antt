@@ -1,7 +1,6 @@
-use Rattle.std.proofs.Common.{◌≡◌, ◌≤◌, refl, rules, sym, subst, arith, ap, ◌∙◌}
+use Rattle.std.proofs.Common.{◌≡◌, ◌≤◌, sym, subst, arith, ap, ◌∙◌}
 use Rattle.onfi_schedule.specs.Schedule.{finish}
 use Rattle.onfi_known_check.specs.Faults.{IsTextFault}
-use Rattle.onfi_known_check.specs.Proves.{ProvesTokens}
 use Rattle.onfi_calls.specs.Check.{asked, is_known}
 use Rattle.onfi_calls.proofs.Verdicts.{asked_named, shown_known}
 use Rattle.onfi_calls.proofs.check.judge_known.Goals as goal

@@ -1,4 +1,4 @@
-use Rattle.std.proofs.Common.{false, length, refl, rules, sym, ◌∙◌, subst}
+use Rattle.std.proofs.Common.{false, refl, rules, sym, ◌∙◌, subst}
 use Rattle.onfi_problem.specs.Kept.{problem_of}
 use Rattle.onfi_problem.specs.Left.{InLimits}
 use Rattle.onfi_problem.specs.Problem.{Problem}

@@ -1,7 +1,7 @@
-use Rattle.std.proofs.Common.{◌≡◌, ◌≤◌, inl, inr, refl, rules}
+use Rattle.std.proofs.Common.{◌≡◌, ◌≤◌, refl, rules}
 use Rattle.std.specs.Prelude.{Some}
 use Rattle.std.proofs.lemmas.Result.{IfErr-weaker, IfOk-weaker}
-use Rattle.onfi_calls.specs.Plan.{IsBadLimit, IsFound, IsNoPlan, IsPlan, IsPosed, IsUnplanned, by_of, is_by, is_limit, is_refused, is_unplanned}
+use Rattle.onfi_calls.specs.Plan.{IsBadLimit, IsFound, IsNoPlan, IsPlan, IsPosed, IsUnplanned, by_of, is_limit, is_refused, is_unplanned}
 use Rattle.onfi_calls.proofs.plan.find_plan.Goals as goal
 
 pub returns-in-Ok-clause-found : goal.returns-in-Ok-clause-found

@@ -1,4 +1,4 @@
-use Rattle.std.proofs.Common.{refl, subst, sym}
+use Rattle.std.proofs.Common.{refl, subst}
 use Rattle.onfi_calls.specs.Plan.{GivesAsked, gives, gives_none}
 use Rattle.onfi_calls.proofs.plan.onfi_plan.Goals as goal
 

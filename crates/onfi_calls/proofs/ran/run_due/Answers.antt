@@ -1,4 +1,4 @@
-use Rattle.std.proofs.Common.{◌++◌, ◌<◌, ◌≤◌, List, length, drop, take, ap, ◌∙◌, arith}
+use Rattle.std.proofs.Common.{◌++◌, List, length, drop, take, ap, ◌∙◌, arith}
 use Rattle.std.proofs.lemmas.List.{length-take}
 use Rattle.onfi_calls.specs.declared.channel.PlainWant.{PlainWant}
 use Rattle.onfi_calls.proofs.StepTaken.{step_given, step_there}
