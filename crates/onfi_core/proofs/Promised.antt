@@ -1,10 +1,10 @@
 -- The last plan is as its planner promises.
 use Rattle.std.proofs.Common.{◌≡◌, ℕ, ◌≤◌, inl, inr, Bool, Some, None, refl, sym, ap, ◌∙◌, subst}
-use Rattle.std.specs.Prelude.{Option, Result, Ok, Err, IfOk, IfErr, IfNone, IfSome, IsTrue, MatchOption}
+use Rattle.std.specs.Prelude.{Option, Result, true, Ok, Err, IfOk, IfErr, IfNone, IfSome, IsTrue, MatchOption}
 use Rattle.onfi_problem.specs.Position.{Position}
 use Rattle.onfi_schedule.specs.Schedule.{Legal, finish}
 use Rattle.onfi_check.specs.Tree.{AcceptsTokens}
-use Rattle.onfi_plan.specs.Certificate.{ShowsBelow}
+use Rattle.onfi_plan.specs.Certificate.{IsPlain, ShowsBelow}
 use Rattle.onfi_plan.specs.declared.plan.Certificate.{Certificate}
 use Rattle.onfi_plan.specs.declared.plan.Plan.{Plan as APlan}
 use Rattle.onfi_known_check.specs.Laws.{NoneBefore}
@@ -17,8 +17,8 @@ use Rattle.onfi_core.specs.declared.outcome.Outcome.{Outcome}
 use Rattle.onfi_core.specs.declared.outcome.Outcome.TheVariants.{Stopped}
 use Rattle.onfi_core.specs.declared.setup.Setup.{Setup}
 use Rattle.onfi_core.specs.State.{HalfState, ChannelState, Planning}
-use Rattle.onfi_core.specs.Steps.{Does, FinishIsBest, IsAny, IsPlainPlan, IsPlanned, IsPromised, PlainIsPlain, PlansSuch, Step, StepBy, after_refusal, refusal}
-use Rattle.onfi_core.specs.View.{PlanRefused, planning_with}
+use Rattle.onfi_core.specs.Steps.{Does, FinishIsBest, IsAny, IsPlainPlan, IsPlainlyPlanned, IsPlanned, IsPromised, PlainIsPlain, PlansSuch, Step, StepBy, after_refusal, refusal}
+use Rattle.onfi_core.specs.View.{HalfView, PlannedAs, PlanRefused, planning_with}
 
 -- What exact planners plan
 
@@ -59,6 +59,13 @@ plain_is_plain plan planned promised =
       cert = cert;
       accepted = subst (AcceptsTokens tokens.items plan.problem) (promised.exactly refl) shown;
     }
+
+-- what a planning by the plain planner keeps
+pub keeps_plainly : (old new : HalfView) (result : Result ℕ PlanRefusal) → PlannedAs old new result → IfOk result (λ _. IfSome new.state.last (IsPromised true IsPlain)) → IfOk result (λ _. IfSome new.state.last IsPlainlyPlanned)
+keeps_plainly old new (Ok finish) (none, plan, is, plans, after) promised =
+    let last = ap (λ (v : HalfView). v.state.last) after in
+    subst (λ l. IfSome l IsPlainlyPlanned) (sym last) (plain_is_plain plan plans.planned (subst (λ l. IfSome l (IsPromised true IsPlain)) last promised))
+keeps_plainly old new (Err refusal) planned promised = tt
 
 -- what is shown of the last plan, where it is plain
 pub shown_plainly : {A : Type 0} (result : Option A) (shown : A → Planning) (last : Option Planning) → IfSome result (λ r. last ≡ Some (shown r))

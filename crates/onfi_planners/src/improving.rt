@@ -51,14 +51,16 @@ pub fn make_better(
     let cost = cost_of(problem, &plan.schedule, weights);
     let aim = Aim::new(alloc, problem, weights, plan.finish)?;
     let walked = walk(alloc, problem, &aim, cost, nodes.get())?;
-    let mut better = plan;
-    if walked.improved {
-        let schedule = make_schedule(alloc, problem, &walked.best);
-        if cost_of(problem, &schedule, weights) <= cost && walked.best.finish <= better.finish {
-            better.schedule = schedule;
-            better.finish = walked.best.finish;
-        }
+    if !walked.improved {
+        return Ok(plan);
     }
+    let schedule = make_schedule(alloc, problem, &walked.best);
+    if cost_of(problem, &schedule, weights) > cost || walked.best.finish > plan.finish {
+        return Ok(plan);
+    }
+    let mut better = plan;
+    better.schedule = schedule;
+    better.finish = walked.best.finish;
     Ok(better)
 }
 

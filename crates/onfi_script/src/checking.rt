@@ -94,6 +94,7 @@ fn judge_within(
 
 /// The answer to a plan text with a plain certificate, which is to show that its schedule is optimal.
 pub fn check_optimal(alloc: Global, problem: &Problem, text: &[u8]) -> Result<Answer, AllocError>
+    requires begun { problem.now.all ≡ problem.now.problem.wants }
     ensures { IfOk result (λ a. AnswersOptimal problem.now.problem text.now (answer_of a)) }
 {
     match read_plan(alloc, problem.wants(), text) {
