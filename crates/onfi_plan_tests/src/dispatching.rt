@@ -82,7 +82,7 @@ fn what_is_held_where_nothing_runs(rt: HostRuntime) -> Result<(), Fail> {
     Ok(())
 }
 
-// The newest program waits for its mates while another LUN works, and no longer than until a later one comes.
+// The newest program waits for its mates while another LUN works, but only until a later one comes.
 #[test]
 fn the_newest_program(rt: HostRuntime) -> Result<(), Fail> {
     let luns = [free(0), running(rt.alloc(), Kind::Read, 1, 100)];
