@@ -55,7 +55,7 @@ class Statuses(unittest.TestCase):
         said_of: List[Tuple[str, str, str, str]] = [
             (TOOL.SOURCE, ", enum Status", "    /// Times that reach 2^62 ns.\n", "    /// Late times.\n"),
             (TOOL.SOURCE, ", ALL", "    Status::Clock,\n", ""),
-            (TOOL.SOURCE, ", ALL", "[Status; 63]", "[Status; 60]"),
+            (TOOL.SOURCE, ", ALL", "[Status; 65]", "[Status; 60]"),
             (TOOL.SOURCE, ", number", "Status::Clock => 22,", "Status::Clock => 23,"),
             (TOOL.SOURCE, ", text", '"times that reach 2^62 ns"', '"late times"'),
             (TOOL.WORDS, ", its names", " Clock,", ""),

@@ -53,9 +53,9 @@ plan_search = with_rule (with_rule (with_rule (with_rule (command (codes "plan")
 abbrev pub plan : App
 plan = with_rule (with_rule (with_rule (with_rule plan_search (flag (codes "trace"))) (flag (codes "requests"))) quiet) (file (codes "FILE"))
 
--- `check [--by WAY] [--legal]`
+-- `check [--by WAY] [--remember] [--legal]`
 abbrev pub check_judging : App
-check_judging = with_rule (with_rule (command (codes "check")) (value (codes "by"))) (flag (codes "legal"))
+check_judging = with_rule (with_rule (with_rule (command (codes "check")) (value (codes "by"))) (flag (codes "remember"))) (flag (codes "legal"))
 
 -- .. with `[--quiet] [FILE [PLAN]]`
 abbrev pub check : App
@@ -191,9 +191,14 @@ pub record IsPlan (options : PlanOptions) (workers : ℕ) (used : List Used) : T
   pub is_workers : IsWorkersBy options.by (first_of (codes "workers") used) workers
   pub is_output : options.output ≡ printed_by used
 
+-- the way whose plan texts are checked: as it is named, or by its former word
+abbrev pub IsCheckBy : Option (List ℕ) → Bool → By → Type 0
+IsCheckBy named false by = IsBy named by
+IsCheckBy named true by = (named ≡ None) × (by ≡ way.Within)
+
 -- `check` asks for plan texts as those by this way are
 abbrev pub IsCheck : By → List Used → Type 0
-IsCheck by used = (given (codes "legal") used ≡ false) × IsBy (first_of (codes "by") used) by
+IsCheck by used = (given (codes "legal") used ≡ false) × IsCheckBy (first_of (codes "by") used) (given (codes "remember") used) by
 
 -- a command with this name is for this
 abbrev pub IsProblem : Command → ℕ → List ℕ → List Used → Type 0
@@ -201,7 +206,7 @@ IsProblem (Plan limit trace) workers name used = ⊥
 IsProblem (PlanBy options) workers name used = (name ≡ codes "plan") × IsPlan options workers used
 IsProblem Check workers name used = (name ≡ codes "check") × (workers ≡ 1) × IsCheck way.Plain used
 IsProblem CheckWithin workers name used = (name ≡ codes "check") × (workers ≡ 1) × IsCheck way.Within used
-IsProblem Legal workers name used = (name ≡ codes "check") × (workers ≡ 1) × (given (codes "legal") used ≡ true) × (first_of (codes "by") used ≡ None)
+IsProblem Legal workers name used = (name ≡ codes "check") × (workers ≡ 1) × (given (codes "legal") used ≡ true) × (given (codes "remember") used ≡ false) × (first_of (codes "by") used ≡ None)
 
 -- `run` with these arguments asks for this; where nothing is planned, no plan is made better
 pub record IsRun (options : RunOptions) (used : List Used) : Type 0 where

@@ -195,12 +195,18 @@ fn plan_of(used: &ArgMatches<'_>) -> Result<Named, ValueFault>
     Ok(Named::Problem { command, workers })
 }
 
-/// The command to check plan texts as the way that is named makes them.
-fn check_by(used: &ArgMatches<'_>) -> Result<Command, ValueFault>
-    requires { spec.given (codes "legal") (rows_of (found_of used.now)) ≡ false }
+/// The command to check plan texts as the way that is named makes them; `remember`: by the former word for `--by within`.
+fn check_by(used: &ArgMatches<'_>, remember: bool) -> Result<Command, ValueFault>
+    requires judged { spec.given (codes "legal") (rows_of (found_of used.now)) ≡ false }
+    requires former { spec.given (codes "remember") (rows_of (found_of used.now)) ≡ remember }
     ensures command { IfOk result (λ command. spec.IsProblem command 1 (codes "check") (rows_of (found_of used.now))) }
     ensures limited { IfOk result IsLimited }
 {
+    if remember {
+        let fault = ValueFault::Beside("--remember", "--by", "it is a word for '--by within'");
+        leave_out(used, "by", fault)?;
+        return Ok(Command::CheckWithin);
+    }
     let ways = "'plain' or 'within'";
     match by_of(used, ways)? {
         By::Plain => Ok(Command::Check),
@@ -215,10 +221,15 @@ fn check_command(used: &ArgMatches<'_>) -> Result<Command, ValueFault>
     ensures limited { IfOk result IsLimited }
 {
     let legal = is_given(used, "legal");
+    let remember = is_given(used, "remember");
     if !legal {
-        return check_by(used);
+        return check_by(used, remember);
     }
-    let fault = ValueFault::Beside("--by", "--legal", "no certificate is looked at");
+    let reason = "no certificate is looked at";
+    if remember {
+        return Err(ValueFault::Beside("--remember", "--legal", reason));
+    }
+    let fault = ValueFault::Beside("--by", "--legal", reason);
     leave_out(used, "by", fault)?;
     Ok(Command::Legal)
 }

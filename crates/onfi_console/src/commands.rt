@@ -105,13 +105,22 @@ fn plan<'a>(alloc: Global) -> Result<Command<'a>, AllocError>
     with(plan, file(alloc, "FILE", help::FILE))
 }
 
-/// `check [--by WAY] [--legal]`
+/// A flag that help doesn't name.
+fn former_flag<'a>(alloc: Global, name: &'a str) -> Arg<'a>
+    ensures rule { rule_of result ≡ spec.flag name.now }
+    ensures local { result.global ≡ false }
+{
+    flag(alloc, name, "").hide(true)
+}
+
+/// `check [--by WAY] [--remember] [--legal]`
 fn check_judging<'a>(alloc: Global) -> Result<Command<'a>, AllocError>
     ensures app { IfOk result (λ a. app_of a ≡ spec.check_judging) }
     ensures local { IfOk result (λ a. (fields_of a).has_globals ≡ false) }
 {
     let check = command(alloc, "check", help::CHECK, help::CHECK_MORE);
     let check = with(check, value(alloc, "by", "WAY", help::BY_CHECK))?;
+    let check = with(check, former_flag(alloc, "remember"))?;
     with(check, flag(alloc, "legal", help::LEGAL))
 }
 
