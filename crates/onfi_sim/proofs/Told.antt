@@ -1,5 +1,5 @@
 -- From what was written to what is carried out.
-use Rattle.std.proofs.Common.{◌≡◌, ◌≤◌, ℕ, List, Ok, Err, Some, None, true, false, refl, ap, ◌∙◌, sym, inl, inr, take, subst, suc, zero, arith}
+use Rattle.std.proofs.Common.{◌≡◌, ◌≤◌, ℕ, List, Ok, Err, Some, None, true, false, refl, ap, sym, inl, inr, take, subst, suc, zero, arith}
 use Rattle.std.proofs.lemmas.Bool.Decides.{nat_tests}
 use Rattle.std.specs.Prelude.{Bool, Option, Result, IfOk, IfErr, IfSome, nat_le}
 use Rattle.std.specs.Io.KnownBytes.{Appends}
@@ -11,14 +11,8 @@ use Rattle.onfi_script.specs.declared.transfer.EngineFault.{EngineFault}
 use Rattle.onfi_script.specs.declared.transfer.EngineFault.TheVariants.{Write}
 use Rattle.onfi_console.specs.declared.parsed.Named.{Named}
 use Rattle.onfi_console.specs.declared.parsed.Named.TheVariants.{Problem, Run, Device, Audit, Gaps}
-use Rattle.onfi_console.specs.declared.parsed.RunBy.TheVariants.{Next, Plans}
 use Rattle.onfi_console.specs.declared.parsed.RunOptions.{RunOptions}
-use Rattle.onfi_planners.specs.declared.by.By.{By}
-use Rattle.onfi_core.specs.declared.setup.Choice.TheVariants.{InOrder, NextPhase}
-use Rattle.onfi_run.specs.declared.way.Way.{Way}
-use Rattle.onfi_run.specs.Ending.{nodes_by}
-use Rattle.onfi_run.specs.declared.traced.Traced.{Traced}
-use Rattle.onfi_run.specs.Running.{IsAnswer as IsRunAnswer, is_memory, Answers as RunAnswers, BeginsAnswer as BeginsRun}
+use Rattle.onfi_run.specs.Running.{is_memory, Answers as RunAnswers, BeginsAnswer as BeginsRun}
 use Rattle.onfi_script.specs.Answer.{Answers, AnswersBy, BeginsAnswer, BeginsAnswerBy, IsAnswerBy, PartsTell}
 use Rattle.onfi_script.specs.Auditing.{AnswersAuditBy}
 use Rattle.onfi_script.specs.Gaps.{AnswersGaps}
@@ -26,7 +20,7 @@ use Rattle.onfi_script.specs.declared.auditing.AuditOptions.{AuditOptions}
 use Rattle.onfi_script.specs.declared.auditing.GapOptions.{GapOptions}
 use Rattle.onfi_script.specs.declared.command.Command.{Command}
 use Rattle.onfi_console.specs.Described.{IsDescription}
-use Rattle.onfi_sim.specs.Carrying.{AnswersNamed, BeginsToCarryOut, CarriesOut, TellsBy, choice_of, nodes_of}
+use Rattle.onfi_sim.specs.Carrying.{AnswersNamed, BeginsToCarryOut, CarriesOut, TellsBy, nodes_of}
 
 -- that memory ran out may be the answer to all that is named
 pub memory_answers : (named : Named) (xs : List ℕ) → AnswersNamed named xs memory
@@ -129,16 +123,3 @@ run_told options nodes input old new r e is = subst (λ n. IfOk r (λ s. RunAnsw
 pub run_begun : (options : RunOptions) (nodes : Option ℕ) (input old new : Option (List ℕ)) → nodes ≡ nodes_of options
     → BeginsRun options.clocked nodes input old new → BeginsToCarryOut (Run options) input old new
 run_begun options nodes input old new e is = subst (λ n. BeginsRun options.clocked n input old new) e is
-
--- how many nodes the ways of a run open
-pub next_nodes : {P : Type 0} (options : RunOptions) (way : Way P) → options.by ≡ Next → way.choice ≡ NextPhase → nodes_by way.choice way.limit ≡ nodes_of options
-next_nodes options way by choice = ap (λ c. nodes_by c way.limit) choice ∙ sym (ap (λ b. nodes_by (choice_of b) options.limit) by)
-
-pub plan_nodes : {P : Type 0} (options : RunOptions) (by : By) (limit : ℕ) (way : Way P) (planner : P) → options.by ≡ Plans by → limit ≡ options.limit
-    → way ≡ record { planner = planner; limit = limit; choice = InOrder; is_traced = false } → nodes_by way.choice way.limit ≡ nodes_of options
-plan_nodes {P} options by limit way planner is same way_is =
-    ap (λ (w : Way P). nodes_by w.choice w.limit) way_is ∙ ap Some same ∙ sym (ap (λ b. nodes_by (choice_of b) options.limit) is)
-
-pub traced_told : (options : RunOptions) (nodes : Option ℕ) (xs : List ℕ) (r : Result Traced AllocError) → nodes ≡ nodes_of options
-    → IfOk r (λ t. IsRunAnswer options.clocked nodes xs (answer_of t.answer)) → IfOk r (λ t. AnswersNamed (Run options) xs (answer_of t.answer))
-traced_told options nodes xs r e is = subst (λ n. IfOk r (λ t. IsRunAnswer options.clocked n xs (answer_of t.answer))) e is

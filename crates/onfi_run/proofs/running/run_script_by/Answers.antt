@@ -24,8 +24,8 @@ returns-in-Ok-answer-clause-answer g c =
     let input = g.I.Read.remaining c.args.reader.now in
     let old = g.O.Write.contents c.args.writer.now in
     let new = g.O.Write.contents c.write_with_status-in-Ok-answer.new.writer in
-    let a = answer_of c.in-Ok-answer.answer in
-    let is = subst (λ xs. IsAnswer c.args.clocked (nodes_by c.args.way.choice c.args.way.limit) xs a) c.as_slice.ensures.value c.in-Ok-answer.ensures in
+    let a = answer_of c.in-Ok-answer.traced.answer in
+    let is = subst (λ xs. IsAnswer c.args.clocked (nodes_by c.args.way.choice c.args.way.limit) xs a) c.as_slice.ensures.value c.in-Ok-answer.ensures.answer in
     let whole = subst (λ text. IfOk c.write_with_status-in-Ok-answer.result (λ s. (s ≡ a.status) × Appends old new text)) c.as_slice-in-Ok-answer.ensures.value c.write_with_status-in-Ok-answer.ensures.whole in
     told c.args.clocked (nodes_by c.args.way.choice c.args.way.limit) input old new a c.write_with_status-in-Ok-answer.result (answered c.args.clocked (nodes_by c.args.way.choice c.args.way.limit) input c.in-Ok.input.items a c.in-Ok.ensures is) whole
 
@@ -34,8 +34,8 @@ returns-in-Ok-answer-clause-unwritten g c =
     let input = g.I.Read.remaining c.args.reader.now in
     let old = g.O.Write.contents c.args.writer.now in
     let new = g.O.Write.contents c.write_with_status-in-Ok-answer.new.writer in
-    let a = answer_of c.in-Ok-answer.answer in
-    let is = subst (λ xs. IsAnswer c.args.clocked (nodes_by c.args.way.choice c.args.way.limit) xs a) c.as_slice.ensures.value c.in-Ok-answer.ensures in
+    let a = answer_of c.in-Ok-answer.traced.answer in
+    let is = subst (λ xs. IsAnswer c.args.clocked (nodes_by c.args.way.choice c.args.way.limit) xs a) c.as_slice.ensures.value c.in-Ok-answer.ensures.answer in
     let part = subst (λ text. IfErr c.write_with_status-in-Ok-answer.result (λ e. (e ≡ Write) × (n : ℕ) × Appends old new (take n text))) c.as_slice-in-Ok-answer.ensures.value c.write_with_status-in-Ok-answer.ensures.part in
     told_part c.args.clocked (nodes_by c.args.way.choice c.args.way.limit) input old new a c.write_with_status-in-Ok-answer.result (answered c.args.clocked (nodes_by c.args.way.choice c.args.way.limit) input c.in-Ok.input.items a c.in-Ok.ensures is) part
 

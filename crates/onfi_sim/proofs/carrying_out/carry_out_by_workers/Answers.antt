@@ -1,4 +1,4 @@
-use Rattle.onfi_script.specs.declared.command.Command.TheVariants.{Plan, PlanBy, Check, CheckBy, Legal}
+use Rattle.onfi_script.specs.declared.command.Command.TheVariants.{Plan, PlanBy, Check, CheckWithin, Legal}
 use Rattle.onfi_sim.proofs.Told.{by_several, several_begun}
 use Rattle.onfi_sim.proofs.carrying_out.carry_out_by_workers.Goals as goal
 
@@ -27,14 +27,14 @@ returns-in-Check-clause-unwritten g c e =
     let begun = rw c.in-Check.is at c.engine.ensures.unwritten in
     rw c.in-Check.is (several_begun Check c.args.workers (g.I.Read.remaining c.args.reader.now) (g.W.Write.contents c.args.writer.now) (g.W.Write.contents c.engine.new.writer) c.requires.several (begun e))
 
-pub returns-in-CheckBy-clause-answer : goal.returns-in-CheckBy-clause-answer
-returns-in-CheckBy-clause-answer g c =
-    rw c.in-CheckBy.is (by_several (CheckBy c.in-CheckBy.field-0) c.args.workers (g.I.Read.remaining c.args.reader.now) (g.W.Write.contents c.args.writer.now) (g.W.Write.contents c.engine-in-CheckBy.new.writer) c.engine-in-CheckBy.result c.requires.several (rw c.in-CheckBy.is at c.engine-in-CheckBy.ensures.answer))
+pub returns-in-CheckWithin-clause-answer : goal.returns-in-CheckWithin-clause-answer
+returns-in-CheckWithin-clause-answer g c =
+    rw c.in-CheckWithin.is (by_several CheckWithin c.args.workers (g.I.Read.remaining c.args.reader.now) (g.W.Write.contents c.args.writer.now) (g.W.Write.contents c.engine-in-CheckWithin.new.writer) c.engine-in-CheckWithin.result c.requires.several (rw c.in-CheckWithin.is at c.engine-in-CheckWithin.ensures.answer))
 
-pub returns-in-CheckBy-clause-unwritten : goal.returns-in-CheckBy-clause-unwritten
-returns-in-CheckBy-clause-unwritten g c e =
-    let begun = rw c.in-CheckBy.is at c.engine-in-CheckBy.ensures.unwritten in
-    rw c.in-CheckBy.is (several_begun (CheckBy c.in-CheckBy.field-0) c.args.workers (g.I.Read.remaining c.args.reader.now) (g.W.Write.contents c.args.writer.now) (g.W.Write.contents c.engine-in-CheckBy.new.writer) c.requires.several (begun e))
+pub returns-in-CheckWithin-clause-unwritten : goal.returns-in-CheckWithin-clause-unwritten
+returns-in-CheckWithin-clause-unwritten g c e =
+    let begun = rw c.in-CheckWithin.is at c.engine-in-CheckWithin.ensures.unwritten in
+    rw c.in-CheckWithin.is (several_begun CheckWithin c.args.workers (g.I.Read.remaining c.args.reader.now) (g.W.Write.contents c.args.writer.now) (g.W.Write.contents c.engine-in-CheckWithin.new.writer) c.requires.several (begun e))
 
 pub returns-in-Legal-clause-answer : goal.returns-in-Legal-clause-answer
 returns-in-Legal-clause-answer g c =
