@@ -2,7 +2,7 @@
 
 ghost use Rattle.std.specs.Prelude.{◌≤◌};
 
-use crate::rule_sample::{free, running, timing};
+use crate::rule_sample::timing;
 use onfi_group::Rules;
 use onfi_request::Want;
 use onfi_steady::{AcceptFault, Dispatcher, NextPhase, RanFault, ReadyFault};
@@ -46,11 +46,11 @@ fn numbers(members: &[Want]) -> [u64; 4] {
     ids
 }
 
-// It may start once the bus is free, its LUN is ready and it is that late.
+// It may start once the bus is free and it is that late.
 #[test]
 fn when_a_read_starts(rt: HostRuntime) -> Result<(), Fail> {
-    let luns = [free(6)];
-    let mut dispatcher = Dispatcher::with_luns(&timing(5)?, rules(), 5, &luns);
+    let mut dispatcher = Dispatcher::new(&timing(5)?, rules(), 1);
+    dispatcher.wait(6);
     dispatcher.accept(want(1, Kind::Read, 0, 0))?;
     assert_eq!(rt;
         told(&dispatcher.look(4)),
@@ -71,12 +71,11 @@ fn when_a_read_starts(rt: HostRuntime) -> Result<(), Fail> {
 // A read waits for the open group on its block: it is work, and nothing else may begin.
 #[test]
 fn what_is_held_where_nothing_runs(rt: HostRuntime) -> Result<(), Fail> {
-    let luns = [free(0), free(3)];
-    let mut dispatcher = Dispatcher::with_luns(&timing(5)?, rules(), 0, &luns);
+    let mut dispatcher = Dispatcher::new(&timing(5)?, rules(), 2);
     dispatcher.accept(want(1, Kind::Program, 1, 0))?;
     dispatcher.accept(want(2, Kind::Read, 1, 0))?;
     assert_eq!(rt;
-        told(&dispatcher.next(0)),
+        told(&dispatcher.next(3)),
         Some((1, 3, [1, NONE, NONE, NONE]))
     );
     Ok(())
@@ -85,17 +84,22 @@ fn what_is_held_where_nothing_runs(rt: HostRuntime) -> Result<(), Fail> {
 // The newest program waits for its mates while another LUN works, but only until a later one comes.
 #[test]
 fn the_newest_program(rt: HostRuntime) -> Result<(), Fail> {
-    let luns = [free(0), running(rt.alloc(), Kind::Read, 1, 100)];
-    let mut dispatcher = Dispatcher::with_luns(&timing(5)?, rules(), 0, &luns);
-    dispatcher.accept(want(1, Kind::Program, 0, 0))?;
+    let mut dispatcher = Dispatcher::new(&timing(5)?, rules(), 2);
+    dispatcher.accept(want(1, Kind::Read, 1, 0))?;
     assert_eq!(rt;
         told(&dispatcher.next(0)),
-        Some((1, 100, [NONE, NONE, NONE, NONE]))
+        Some((1, 0, [1, NONE, NONE, NONE]))
     );
-    dispatcher.accept(want(2, Kind::Program, 1, 0))?;
+    dispatcher.ran(0)?;
+    dispatcher.accept(want(2, Kind::Program, 0, 0))?;
     assert_eq!(rt;
         told(&dispatcher.next(0)),
-        Some((0, 0, [1, NONE, NONE, NONE]))
+        Some((1, 60, [NONE, NONE, NONE, NONE]))
+    );
+    dispatcher.accept(want(3, Kind::Program, 1, 0))?;
+    assert_eq!(rt;
+        told(&dispatcher.next(0)),
+        Some((0, 10, [2, NONE, NONE, NONE]))
     );
     Ok(())
 }

@@ -17,5 +17,5 @@ returns-in-Err-Refused c =
 
 pub returns-in_ok-answer-in-Ok : goal.returns-in_ok-answer-in-Ok
 returns-in_ok-answer-in-Ok c =
-    let judged = rw (c.plan_text_of-log.ensures, c.manner.ensures) at c.in_ok-answer-in-Ok.ensures in
+    let judged = rw (c.plan_text_of-log.ensures, c.manner-manner.ensures) at c.in_ok-answer-in-Ok.ensures in
     is_judged c.in-Ok.audit c.in-Ok.requests (log_answer_of c.in_ok-answer-in-Ok.answer) c.in-Ok.ensures judged c.of.ensures
