@@ -640,7 +640,7 @@ uint32_t onfi_audit_begin(const onfi_channel *channel, onfi_audit *audit);
  *
  * ONFI_DONE: it is legal, and *broken is all 0. ONFI_ILLEGAL: it breaks a condition, which *broken names. Then it counts as run where it
  * only came too soon (ONFI_LOG_BUS_NOT_FREE, .._LUN_NOT_FREE, .._NOT_READY and nothing else), and holds the bus beside what held it before;
- * and else as not there, so that the next phase can be judged, as by `onfi_sim audit --all`. In both cases *audit goes on. Else *audit and *broken are as they were, and the answer
+ * and else as not there, where `onfi_sim audit --all` goes on as if what is missing had been there. In both cases *audit goes on. Else *audit and *broken are as they were, and the answer
  * is the first of: ONFI_TOO_MANY, where audit->channel.lun_count is above eight; ONFI_ZERO_SPAN or ONFI_LONG_SPAN, ONFI_BAD_PLANE_BITS, ONFI_BAD_MEMBERS, ONFI_BAD_KIND of
  * audit->channel; ONFI_BAD_KIND, where the phase has no kind, or a program or an erase has sectors; ONFI_CLOCK, where it
  * starts at 2^62 ns or later; and where it begins a request: ONFI_BAD_LUN, where it is an erase of another page than 0; ONFI_NO_LENGTHS,

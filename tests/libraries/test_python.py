@@ -798,8 +798,10 @@ class Logs(unittest.TestCase):
         self.assertEqual(list(told), [])
 
     def test_phases_of_chance(self) -> None:
-        """Phase by phase the same is told as of the whole log: of 300 logs whose phases are legal by chance alone."""
+        """Phase by phase the same is told as of the whole log, up to the first phase that came otherwise than too soon: after it a log's
+        text goes on as if what is missing had been there. Of 300 logs whose phases are legal by chance alone."""
         draw, seen = random.Random(11), set()
+        too_soon = {onfi.LogCondition.BUS_NOT_FREE, onfi.LogCondition.LUN_NOT_FREE, onfi.LogCondition.NOT_READY}
         for _ in range(300):
             channel = with_luns([onfi.Lun(draw.choice([0, 40])) for _ in range(2)], self.CHANNEL)
             phases, start = [], 0
@@ -809,8 +811,11 @@ class Logs(unittest.TestCase):
                 phases.append(onfi.Logged(start, draw.choice([0, 0, 0, 1, 1, 1, 2]), kind, is_post, draw.randrange(2), page))
                 start += draw.choice([5, 10, 20, 110, 130, 250, 1100])
             told = list(onfi.audit(channel, phases))
-            self.assertEqual(list(onfi.audit_phases(channel, phases)), told)
-            seen |= {breach.condition for breach in told}
+            alike = next((at + 1 for at, breach in enumerate(told) if breach.condition not in too_soon), len(told))
+            by_phase = list(onfi.audit_phases(channel, phases))
+            self.assertEqual(by_phase[:alike], told[:alike])
+            self.assertGreaterEqual(len(by_phase), alike)
+            seen |= {breach.condition for breach in by_phase}
         of_lines = {onfi.LogCondition.NOT_CLOSED, onfi.LogCondition.OTHER_END, onfi.LogCondition.OTHER_BYTES}
         self.assertEqual(seen, {*onfi.LogCondition} - of_lines - {onfi.LogCondition.UNKNOWN_REQUEST, onfi.LogCondition.BLOCK_ORDER})
 

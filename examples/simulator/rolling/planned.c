@@ -72,7 +72,7 @@ static bool make_plan(const way *way, mind *mind, const machine *m, const batch 
     onfi_planned planned;
     clock_t begun = clock();
     uint32_t status = way->planner(&problem, m->setup->limit, &planned);
-    note_plan(&mind->planning, begun, status, &planned, way->planner == plan_within);
+    note_plan(&mind->planning, begun, status, &planned, !strcmp(way->name, "plan"));
     mind->told = false;
     mind->plan.wants = problem.wants;
     for (size_t at = 0; at < problem.wants; at++)
