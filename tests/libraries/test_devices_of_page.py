@@ -152,7 +152,8 @@ class Sectors(unittest.TestCase):
         ]
         for name, place, words in faults:
             with self.assertRaises(name) as told:
-                onfi.device_of_page(*[*words, b""][:3], 132)
+                page_of, sheet, strobes = [*words, b""][:3]
+                onfi.device_of_page(page_of, sheet, strobes, 132)
             self.assertEqual(told.exception.place, place)
 
 

@@ -43,10 +43,11 @@ class RunTraces(unittest.TestCase):
     def test_audit_takes_each(self) -> None:
         with tempfile.TemporaryDirectory() as folder:
             log = Path(folder) / "log"
-            for way in (["--by", "plain"], ["--by", "within"], ["--by", "rule"], ["--by", "next"]):
-                for clock in ([], ["--clock", "simulated"]):
+            for way in ("plain", "within", "rule", "next"):
+                for clock in ("", "--clock=simulated"):
                     with self.subTest(way=way, clock=clock):
-                        self.assertEqual(ran(["run", *way, *clock, "--trace", str(log)], SCRIPT)[0], 0)
+                        words = ["run", "--by", way, *filter(None, [clock]), "--trace", str(log)]
+                        self.assertEqual(ran(words, SCRIPT)[0], 0)
                         for name in ("log", "log.1"):
                             self.assertEqual(ran(["audit", "-", f"{folder}/{name}"], DEVICE), (0, "legal 6\n", ""))
 

@@ -101,7 +101,11 @@ def single_cases(words: List[str], folder: pathlib.Path = CASES) -> List[Case]:
 
 
 # The options that onfi_text of the library takes of each command, and how many words follow each.
-OF_TEXT = {b"plan": {b"--by": 1, b"--early": 0, b"--limit": 1, b"--trace": 0, b"--requests": 0}, b"check": {b"--by": 1, b"--legal": 0}, b"audit": {b"--all": 0, b"--ready-by-status": 0}}
+OF_TEXT = {
+    b"plan": {b"--by": 1, b"--early": 0, b"--limit": 1, b"--trace": 0, b"--requests": 0},
+    b"check": {b"--by": 1, b"--legal": 0},
+    b"audit": {b"--all": 0, b"--ready-by-status": 0},
+}
 
 
 def words_of_text(words: Sequence[bytes]) -> str:

@@ -27,6 +27,7 @@ from onfi_tools.channel import Channel, Device, Group, Lun, idle
 from onfi_tools.device import KINDS
 from onfi_tools.drawn import MIX, any_lengths, drawn_wants
 
+
 def best(program: str, script: str, *options: str) -> str:
     """The text of a plan that ends first."""
     plan, finish, below = planned(program, script, "--by", "within", "--limit", str(MOST), *options)
@@ -60,7 +61,7 @@ def drawn_lun(rng: random.Random, device: Device) -> Lun:
 def measure_small(program: str, channel: Channel, weights: Dict[int, int]) -> Small:
     script = plans.weight_rows(weights) + channel.script()
     plan, made = best(program, script), best(program, script, "--early")
-    least = plans.least_cost(channel, weights, plans.finish_of(plan))
+    least = plans.least_cost(channel, weights, plans.finish_of(plan) or 0)
     cost, old = (plans.ends_of(channel, text).cost(weights) for text in (made, plan))
     if least is None or cost < least or cost > old:
         raise ValueError(f"costs {cost}, was {old}, and the least is {least}\n{script}{made[:2000]}")
