@@ -22,7 +22,7 @@ def goes_well(words: Sequence[object], folder: Path) -> bool:
     """Runs a command in a folder, and prints its last lines where it fails, but for those that count what a prover loaded."""
     ran = subprocess.run([*map(str, words)], cwd=folder, stdout=subprocess.PIPE, stderr=subprocess.STDOUT, text=True, errors="replace")
     if ran.returncode:
-        print("\n".join([it for it in ran.stdout.splitlines() if not it.startswith("statements ")][-60:]))
+        print("\n".join([it for it in ran.stdout.splitlines() if not it.startswith("statements ")][-200:]))
     return not ran.returncode
 
 
