@@ -23,13 +23,13 @@
  * Stack: below its caller a call takes at most so much, as measured on these two, also of a certificate as deep as it can be; on a
  * 32-bit Arm an eighth more:
  *
- *     468,000 bytes: onfi_text, onfi_check
- *     214,000 bytes: onfi_plan
- *     110,000 bytes: onfi_dispatcher_begin
+ *     451,000 bytes: onfi_text, onfi_check
+ *     203,000 bytes: onfi_plan
+ *     76,000 bytes: onfi_dispatcher_begin
  *     48,000 bytes: onfi_device_of_page
- *     23,000 bytes: onfi_breach, onfi_audit_phase, onfi_audit_ready
- *     11,400 bytes: onfi_ran, onfi_audit_begin
- *     6,900 bytes: onfi_due, onfi_dispatcher_accept, onfi_dispatcher_accept_again, onfi_dispatcher_cancel, onfi_dispatcher_ran
+ *     28,000 bytes: onfi_breach, onfi_audit_phase, onfi_audit_ready
+ *     18,200 bytes: onfi_due, onfi_dispatcher_accept, onfi_dispatcher_accept_again, onfi_dispatcher_cancel, onfi_dispatcher_ran
+ *     13,300 bytes: onfi_ran, onfi_audit_begin
  *     770 bytes: onfi_dispatcher_next, onfi_dispatcher_ready, onfi_output_of, onfi_row, onfi_status_text, onfi_version
  *
  * The shared library is libonfi.so.MAJOR. Until a first release, 1.0, MAJOR is 0, and each version whose second number is another may

@@ -64,7 +64,7 @@ read (Problem (Plan limit trace) workers) name used is = elim is [ ]
 read (Problem (PlanBy options) workers) name used (e, is) = plan_read options workers name used e is
 read (Problem Check workers) name used (e, one, is) = record { command = sym e; limit = refl; trace = refl; workers = one }
 read (Problem CheckWithin workers) name used (e, one, is) = record { command = sym e; limit = refl; trace = refl; workers = one }
-read (Problem Legal workers) name used (e, one, given, by) = record { command = sym e; limit = refl; trace = refl; workers = one }
+read (Problem Legal workers) name used (e, one, legal, former, by) = record { command = sym e; limit = refl; trace = refl; workers = one }
 read Device name used e = record { command = sym e; limit = refl; trace = refl; workers = refl }
 read (Audit options) name used (e, is) = record { command = sym e; limit = not_given (first_of (codes "limit") used) is.no_limit; trace = refl; workers = refl }
 read (Gaps options) name used (e, is) = record { command = sym e; limit = is.is_limit; trace = refl; workers = refl }

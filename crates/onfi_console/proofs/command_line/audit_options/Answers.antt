@@ -8,7 +8,7 @@ pub returns-clause-by_status : goal.returns-clause-by_status
 returns-clause-by_status c = rw first_value-rows at c.is_given-by_status.ensures
 
 pub returns-clause-tolerance : goal.returns-clause-tolerance
-returns-clause-tolerance c = rw first_value-rows at c.in_ok-tolerance.ensures
+returns-clause-tolerance c = rw first_value-rows at c.in_ok-tolerance.ensures.value
 
 pub returns-clause-one_status : goal.returns-clause-one_status
 returns-clause-one_status c = rw first_value-rows at c.is_given-one_status.ensures
