@@ -169,7 +169,7 @@ class Carried(unittest.TestCase):
         calls = calls_of(header)
         self.assertEqual(len(calls), header.count("\nuint32_t onfi_"))
         given = {it.name: types_of(it) for it in calls}
-        self.assertEqual(given["onfi_plan"], ["ptr", "ptr", "i64", "ptr", "i64", "i32", "ptr", "ptr", "i64", "ptr"])
+        self.assertEqual(given["onfi_plan"], ["ptr", "ptr", "i64", "ptr", "ptr", "ptr", "i64", "ptr"])
         text = narrow_calls(calls)
         self.assertIn("uint32_t wide_onfi_version(void);\nuint32_t onfi_version(void)\n{\n    return wide_onfi_version();\n}\n", text)
         self.assertIn("        wide_want_count[at] = want_count[at];\n", text)
