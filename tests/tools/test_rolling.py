@@ -196,7 +196,7 @@ class ByHand(unittest.TestCase):
         """Each word that there is stands in the help, and each figure has its unit."""
         told = subprocess.run([str(GREEDY_ALONE), "--help"], capture_output=True, text=True, check=True).stdout
         named = re.findall(r'strcmp\(name, "(\w+)"\)', (SOURCES / "main.c").read_text())
-        self.assertEqual((set(re.findall(r"^  (\w+)  ", told, re.MULTILINE)), len(named)), (set(named), 14))
+        self.assertEqual((set(re.findall(r"^  (\w+)  ", told, re.MULTILINE)), len(named)), (set(named), 16))
         figures = subprocess.run([str(GREEDY_ALONE), "requests", "50"], capture_output=True, text=True, check=True).stdout.splitlines()
         self.assertEqual({len(line.split()) for line in figures}, {3})
         self.assertIn("reads 45 requests", figures)

@@ -149,7 +149,6 @@ bool phase_by_phase(const way *way, mind *mind, const machine *m, const batch *b
         return false;
     if (!status) {
         *step = (struct step){.start = phase.start, .lun = phase.lun};
-        mind->start = phase.start;
         status = phase.number ? ONFI_DONE : put_members(mind->dispatcher, &phase, step);
     }
     mind->refused = status;

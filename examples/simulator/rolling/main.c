@@ -30,6 +30,10 @@ static const char HELP[] =
     "            arrivals ask for\n"
     "  array     real array times, in shares of the stated     1-1\n"
     "  told      yes: LUNs say when they are ready; no         yes\n"
+    "  decide    ns that a decision takes, 0 to 1e9            0\n"
+    "  ahead     yes: it is made while the phase before has    no: the bus is idle meanwhile\n"
+    "            the bus, and again where its LUN isn't ready\n"
+    "            as the bus comes free\n"
     "  requests  answered before it ends, 1 to 10,000,000      2000; those of a file are all answered\n"
     "  seed      of all that is random                         1\n"
     "  limit     nodes that a search may open                  100000\n"
@@ -59,12 +63,17 @@ static bool put_number(const char *text, double least, double most, double *numb
     return end != text && !*end && *number >= least && *number <= most;
 }
 
-static bool put_count(const char *text, double most, size_t *count)
+static bool put_whole(const char *text, double least, double most, size_t *count)
 {
     double number;
-    bool is_read = put_number(text, 1, most, &number);
+    bool is_read = put_number(text, least, most, &number);
     *count = is_read ? (size_t)number : 0;
     return is_read && number == (double)*count;
+}
+
+static bool put_count(const char *text, double most, size_t *count)
+{
+    return put_whole(text, 1, most, count);
 }
 
 /* Two shares with a dash between them. */
@@ -103,6 +112,8 @@ static bool put_setup(const char *name, const char *value, setup *setup)
         return put_flag(value, &setup->told);
     if (!strcmp(name, "closed"))
         return put_flag(value, &setup->closed);
+    if (!strcmp(name, "ahead"))
+        return put_flag(value, &setup->ahead);
     if (!strcmp(name, "luns") && (is_read = put_count(value, ONFI_LUNS, &count)))
         setup->luns = (unsigned)count;
     else if (!strcmp(name, "depth") && (is_read = put_count(value, MOST_OUTSTANDING, &count)))
@@ -111,6 +122,8 @@ static bool put_setup(const char *name, const char *value, setup *setup)
         setup->requests = count;
     else if (!strcmp(name, "seed") && (is_read = put_count(value, 1e15, &count)))
         setup->seed = count;
+    else if (!strcmp(name, "decide") && (is_read = put_whole(value, 0, 1e9, &count)))
+        setup->deciding = count;
     else if (!strcmp(name, "limit") && (is_read = put_count(value, ONFI_NODES, &count)))
         setup->limit = (uint32_t)count;
     return is_read;

@@ -51,6 +51,8 @@ typedef struct {
     double load; /* the share of the bus that requests by a workload ask for as they arrive; 0: a new one comes with each answer */
     double least_array, most_array; /* how long arrays take in truth, in shares of what is stated */
     bool told; /* LUNs say when they are ready; else they count as ready at the stated time */
+    uint64_t deciding; /* how long a decision takes, in ns; the bus is idle meanwhile, unless it is made ahead */
+    bool ahead; /* it is made while the phase before it has the bus, by what had come as that phase was decided */
     size_t requests; /* how many are answered before it ends; the first tenth isn't measured, but of a file all are */
     uint64_t seed;
     uint32_t limit; /* of nodes in a search */
@@ -243,7 +245,7 @@ typedef struct {
     unsigned turn; /* the LUN after the one that had the bus last */
     bool told; /* a LUN has reported that it is ready since the last plan */
     bool has_begun, has_run; /* of phase by phase: whether it has begun, and whether the step that it gave last has run */
-    uint64_t start; /* of that step */
+    uint64_t start; /* of the last step that ran */
     uint64_t accepted[ONFI_LUNS]; /* 1 more than the id of the last request of a LUN that the dispatcher took; 0: it took none */
     onfi_dispatcher dispatcher;
     plan plan;

@@ -14,6 +14,9 @@ typedef struct {
     figures *figures;
     size_t unmeasured; /* how many of the first answers aren't measured */
     uint64_t answered, busy;
+    uint64_t decided; /* when the last decision was made */
+    bool is_ahead; /* whether it was made while the phase before it had the bus */
+    step ahead; /* what it was then */
     fault *wrong;
 } run;
 
@@ -97,6 +100,7 @@ static void note_step(run *r, const step *step)
 {
     r->mind.turn = (step->lun + 1) % r->machine.setup->luns;
     r->mind.has_run = true;
+    r->mind.start = step->start;
     r->mind.plan.at++;
 }
 
@@ -130,23 +134,49 @@ static void run_next(run *r, const step *step)
         note_wrong(r, "the judge has another end of the phase, or counts other answers");
 }
 
+/* What has the bus next by what is known, `decided` being when that is found out; false where there is nothing to do. */
+static bool decide(run *r, uint64_t begun, step *step)
+{
+    batch batch = {.count = 0};
+    *step = (struct step){.start = NEVER};
+    r->decided = begun + r->machine.setup->deciding;
+    r->way->choose(&r->machine, &batch);
+    return r->way->decide(r->way, &r->mind, &r->machine, &batch, step);
+}
+
+/* What was decided ahead where the bus need not wait for its LUN, else what is decided now. */
+static bool put_next(run *r, step *step)
+{
+    bool is_kept = r->is_ahead && r->ahead.start <= later_of(r->machine.now, r->decided);
+    *step = r->ahead;
+    r->is_ahead = false;
+    return is_kept || decide(r, r->machine.now, step);
+}
+
+/* Runs a step that has come to its time; decides ahead of what is known by then. */
+static void run_decided(run *r, step *step)
+{
+    step->start = later_of(step->start, r->decided);
+    if (!judge_step(&r->judge, step, r->wrong))
+        return;
+    run_next(r, step);
+    r->is_ahead = r->machine.setup->ahead && decide(r, step->start, &r->ahead);
+}
+
 /* Runs what is next, or waits for what comes to be known before it could start. */
 static void turn(run *r)
 {
-    batch batch = {.count = 0};
-    step step = {.start = NEVER};
+    step step;
     accept_all(r);
     r->mind.told = tell_ready(&r->machine) || r->mind.told;
-    r->way->choose(&r->machine, &batch);
-    bool any = r->way->decide(r->way, &r->mind, &r->machine, &batch, &step);
-    uint64_t event = next_event(r);
+    bool any = put_next(r, &step);
+    uint64_t event = next_event(r), known = later_of(event, r->decided);
     if (r->mind.refused)
         note_wrong(r, "the library refuses a problem");
-    else if (any && step.start <= event) {
-        if (judge_step(&r->judge, &step, r->wrong))
-            run_next(r, &step);
-    } else if (event < NEVER)
-        r->machine.now = later_of(event, r->machine.now);
+    else if (any && step.start <= known)
+        run_decided(r, &step);
+    else if (event < NEVER)
+        r->machine.now = later_of(known, r->machine.now);
     else
         note_wrong(r, "requests are left, and nothing is done");
 }
