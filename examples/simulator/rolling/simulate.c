@@ -153,10 +153,11 @@ static bool put_next(run *r, step *step)
     return is_kept || decide(r, r->machine.now, step);
 }
 
-/* Runs a step that has come to its time; decides ahead of what is known by then. */
+/* Runs a step that has come to its time; decides ahead of what is known by then. One before that time is left to the judge. */
 static void run_decided(run *r, step *step)
 {
-    step->start = later_of(step->start, r->decided);
+    if (step->start >= r->machine.now)
+        step->start = later_of(step->start, r->decided);
     if (!judge_step(&r->judge, step, r->wrong))
         return;
     run_next(r, step);
