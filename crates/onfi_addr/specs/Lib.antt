@@ -1,4 +1,5 @@
 pub mod Bits
+pub mod Enables
 pub mod Faults
 pub mod Layout
 pub mod Limits
