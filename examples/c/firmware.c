@@ -33,10 +33,17 @@ bool went_well(driver *d, uint32_t status)
     return status == ONFI_DONE;
 }
 
+/* .. of one that changes what waits or what runs: what was due need not be any more. */
+static bool has_changed(driver *d, uint32_t status)
+{
+    d->is_due = d->is_due && status != ONFI_DONE;
+    return went_well(d, status);
+}
+
 /* Nothing waits; LUNs do what the channel says, and mostly that is nothing. */
 bool driver_begin(driver *d)
 {
-    return went_well(d, onfi_dispatcher_begin(&d->dispatcher, &d->channel, &d->geometry));
+    return has_changed(d, onfi_dispatcher_begin(&d->dispatcher, &d->channel, &d->geometry));
 }
 
 /* What waits. */
@@ -100,8 +107,10 @@ uint32_t driver_accept(driver *d, const onfi_want *want)
     if (is_full(d, want->lun))
         return ONFI_TOO_MANY;
     uint32_t status = onfi_dispatcher_accept(&d->dispatcher, want);
-    if (status == ONFI_DONE)
+    if (status == ONFI_DONE) {
         put_waiting(d, d->queued, want, true);
+        d->is_due = false;
+    }
     return status;
 }
 
@@ -150,7 +159,10 @@ static void note_phase(driver *d, const onfi_phase *phase, uint64_t end)
 void driver_ready(driver *d, unsigned number, uint64_t since)
 {
     onfi_lun *lun = &d->channel.lun[number];
-    if (onfi_dispatcher_ready(&d->dispatcher, (uint8_t)number, since) == ONFI_DONE && since < lun->since)
+    if (onfi_dispatcher_ready(&d->dispatcher, (uint8_t)number, since) != ONFI_DONE)
+        return;
+    d->is_due = false;
+    if (since < lun->since)
         lun->since = since;
 }
 
@@ -159,7 +171,8 @@ bool driver_next(driver *d, uint64_t now, onfi_phase *phase)
 {
     give_rest(d);
     uint32_t status = onfi_dispatcher_next(&d->dispatcher, now, phase);
-    return status != ONFI_NOTHING_DUE && went_well(d, status);
+    d->is_due = status != ONFI_NOTHING_DUE && went_well(d, status);
+    return d->is_due;
 }
 
 /* To begin anew. */
@@ -243,7 +256,7 @@ static void give_back_block(driver *d, unsigned lun, unsigned block)
         bool is_given = d->is_given[at];
         onfi_want want = take_waiting(d, at);
         if (is_given)
-            went_well(d, onfi_dispatcher_cancel(&d->dispatcher, want.id));
+            has_changed(d, onfi_dispatcher_cancel(&d->dispatcher, want.id));
         d->give_back(d->sender, &want);
     }
 }
@@ -274,7 +287,7 @@ static void make_room(driver *d, unsigned lun)
 bool driver_read_again(driver *d, const onfi_want *want)
 {
     make_room(d, want->lun);
-    bool well = went_well(d, onfi_dispatcher_accept_again(&d->dispatcher, want));
+    bool well = has_changed(d, onfi_dispatcher_accept_again(&d->dispatcher, want));
     if (well)
         put_waiting(d, 0, want, true);
     return well;
@@ -363,18 +376,31 @@ bool driver_start(driver *d, const onfi_phase *phase, uint64_t start, const tran
     bool is_asked = d->bus->poll && (phase->kind & 31) == ONFI_READ && phase->number == phase->members;
     d->status = STATUS_READY;
     *end = is_asked ? d->bus->poll(d->bus->board, start, phase->row, &d->status) : start;
+    d->begun = *end;
     d->is_begun = d->status & STATUS_READY;
     return !d->is_begun || drive(d, phase, *end, of, end);
 }
 
-/* It has ended. One that took longer than is stated counts as begun so much later. */
+/* While it is on the bus it counts as run, for as long as is stated, and what is next may be decided. */
+bool driver_ahead(driver *d, const onfi_phase *phase, uint64_t *end)
+{
+    *end = d->begun + (phase->end - phase->start);
+    d->is_ahead = has_changed(d, onfi_dispatcher_ran(&d->dispatcher, d->begun));
+    return d->is_ahead;
+}
+
+/* It has ended. One that took longer than is stated counts as begun so much later; where it counted as run the dispatcher begins anew. */
 bool driver_end(driver *d, const onfi_phase *phase, uint64_t end)
 {
     uint64_t stated = phase->end - phase->start;
+    bool is_ahead = d->is_ahead;
+    d->is_ahead = false;
     if (phase->is_post && !(d->status & STATUS_READY))
         return wait_longer(d, phase->lun, end);
     note_phase(d, phase, end);
-    return went_well(d, onfi_dispatcher_ran(&d->dispatcher, end - stated));
+    if (!is_ahead)
+        return has_changed(d, onfi_dispatcher_ran(&d->dispatcher, end - stated));
+    return end == d->begun + stated || (note_mates(d) && begin_anew(d));
 }
 
 /* Runs the next phase. */

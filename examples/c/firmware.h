@@ -78,7 +78,10 @@ typedef struct {
     uint8_t *bad;               /* a bit for each block of each LUN, the caller's, kept as long as the device is; null: none is kept */
     void *sender;
     void (*give_back)(void *sender, const onfi_want *want); /* a request that won't run, to who sent it; it makes no call of the driver */
+    bool is_due;                /* whether what driver_next gave last is next still: nothing has changed since */
     bool is_begun;              /* whether driver_start began the phase: not where a LUN that is asked isn't ready */
+    uint64_t begun;             /* .. and when */
+    bool is_ahead;              /* whether the dispatcher counts it as run already */
     uint32_t late[ONFI_LUNS];   /* how many statuses of its group each LUN has given that say not ready */
 
     /* of plans, and of the greedy way */
@@ -111,9 +114,14 @@ bool driver_next(driver *d, uint64_t now, onfi_phase *phase);
  * refused. A post answers its request where the status says ready; else it hasn't run, and comes again later.
  */
 bool driver_run(driver *d, const onfi_phase *phase, uint64_t start, const transfer *of);
-/* The same where transfers end by an interrupt: the phase is begun, and has ended. In between no other call of the driver comes. */
+/* The same where transfers end by an interrupt: the phase is begun, and has ended. In between no other call of the driver comes .. */
 bool driver_start(driver *d, const onfi_phase *phase, uint64_t start, const transfer *of, uint64_t *end);
 bool driver_end(driver *d, const onfi_phase *phase, uint64_t end);
+/*
+ * .. but after this one, where driver_start began it: then the phase counts as run, requests may come, and driver_next may be asked what
+ * is next at `*end`, when it ends by what is stated.
+ */
+bool driver_ahead(driver *d, const onfi_phase *phase, uint64_t *end);
 /* Asks LUNs whose arrays work, one after another, for their status; gives from when on the bus is free. */
 uint64_t driver_poll(driver *d, uint64_t now);
 

@@ -1,5 +1,6 @@
 /*
- * The loop of firmware.c on a board whose transfers end by interrupts: while the bus is in use the processor does other things.
+ * The loop of firmware.c on a board whose transfers end by interrupts: while the bus is in use the processor decides what is next, and
+ * decides again where a request has come or a LUN is ready. So the bus doesn't wait for decisions.
  *
  *     interrupts:  note_request, note_ready, note_end
  *     main loop:   if (loop_ended(&loop, &phase) && phase.is_post && driver.status & STATUS_READY)
@@ -9,9 +10,10 @@
  *                  else
  *                      wait_for_interrupt();       (with a timer at loop.wakes)
  *
- * From driver_start to driver_end the phase is the one that is due, and a call that changes what waits or what runs ends that: then
- * driver_end is refused (ONFI_NOTHING_DUE). So no call of the driver comes between the two, and none from an interrupt. What comes
- * meanwhile is noted, and said after driver_end. Calls that take no dispatcher (onfi_row, onfi_output_of) may come at any time.
+ * From driver_start to driver_ahead the phase is the one that is due, and a call that changes what waits or what runs ends that: then
+ * driver_ahead is refused (ONFI_NOTHING_DUE). So no call of the driver comes between the two, and none from an interrupt: what comes is
+ * noted, and said by loop_next. From driver_ahead on the phase counts as run. Calls that take no dispatcher (onfi_row, onfi_output_of)
+ * may come at any time.
  */
 #include "firmware_interrupts.h"
 
@@ -84,17 +86,28 @@ static void say_requests(loop *l)
     }
 }
 
+/* What is next once the bus is free: decided at once, also while a transfer runs, and again where something has changed. */
+static bool decide(loop *l, uint64_t now)
+{
+    say_requests(l);
+    say_ready(l);
+    if (l->of->is_due)
+        return true;
+    l->is_ahead = l->is_on_bus;
+    return driver_next(l->of, l->is_on_bus && l->ends > now ? l->ends : now, &l->next);
+}
+
 /* Whether a phase may start now, and which; never while a transfer runs. Else l->wakes says when one may. */
 bool loop_next(loop *l, uint64_t now, onfi_phase *phase)
 {
     l->wakes = UINT64_MAX;
-    if (l->is_on_bus)
+    if (l->is_on_bus && !l->of->is_ahead)
         return false;
-    say_requests(l);
-    say_ready(l);
-    if (!driver_next(l->of, now, phase))
+    if (!decide(l, now) || l->is_on_bus)
         return false;
-    l->wakes = phase->start;
+    l->wakes = l->next.start;
+    *phase = l->next;
+    l->ahead += l->is_ahead && phase->start <= now;
     return phase->start <= now;
 }
 
@@ -104,8 +117,10 @@ bool loop_start(loop *l, const onfi_phase *phase, uint64_t now, const transfer *
     uint64_t end;
     l->phase = *phase;
     l->is_on_bus = true;
-    bool well = driver_start(l->of, phase, now, of, &end);
-    if (well && !l->of->is_begun)
-        note_end(l, end);
-    return well;
+    if (!driver_start(l->of, phase, now, of, &end))
+        return false;
+    if (l->of->is_begun)
+        return driver_ahead(l->of, phase, &l->ends);
+    note_end(l, end);
+    return true;
 }

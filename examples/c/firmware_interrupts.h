@@ -10,6 +10,10 @@ typedef struct {
     driver *of;
     onfi_phase phase; /* what is on the bus */
     bool is_on_bus;
+    uint64_t ends;  /* when it ends by what is stated */
+    onfi_phase next; /* what is decided to come next */
+    bool is_ahead;  /* whether that was while the bus was in use */
+    uint64_t ahead; /* how many such phases began */
     uint64_t wakes; /* when the next phase may start; UINT64_MAX: none waits for its time */
 
     /* written by interrupts, read by the main loop */

@@ -89,6 +89,7 @@ typedef struct {
     sent owed[MOST_WAITING]; /* in order of acceptance */
     uint8_t data[PAGE_BYTES + 1]; /* of the request whose phase is on the bus, and one more byte that no page has */
     uint64_t answered;
+    uint64_t begun; /* how many phases, by interrupts */
     latencies latency[KINDS];
     uint64_t from, to; /* what is measured */
     uint64_t busy;     /* how long the bus was busy before */
@@ -358,7 +359,7 @@ static void note_all(run *r)
     tell_ready(r);
 }
 
-/* The main loop of firmware_interrupts.c: what ended is answered, and what is next begins. */
+/* The main loop of firmware_interrupts.c, until it waits for an interrupt: what ended is answered, what is next begins, and the next one is decided. */
 static void turn_loop(run *r)
 {
     onfi_phase phase;
@@ -366,11 +367,12 @@ static void turn_loop(run *r)
         take_end(r, &phase);
         note_all(r);
     }
-    if (!loop_next(&r->by_interrupts, r->now, &phase) || r->wrong)
-        return;
-    transfer of = transfer_of(r, &phase);
-    if (!loop_start(&r->by_interrupts, &phase, r->now, &of))
-        r->wrong = "a call refuses what has run";
+    while (loop_next(&r->by_interrupts, r->now, &phase) && !r->wrong) {
+        transfer of = transfer_of(r, &phase);
+        r->begun++;
+        if (!loop_start(&r->by_interrupts, &phase, r->now, &of))
+            r->wrong = "a call refuses what has run";
+    }
 }
 
 /* The time goes to what comes first: the end of a transfer, the start of the next phase, or another interrupt. */
@@ -442,6 +444,13 @@ static size_t not_reached(const latencies *of_kind)
     return us + 1;
 }
 
+/* Of the loop by interrupts: how many phases were decided while the bus was in use. */
+static void print_ahead(const run *r)
+{
+    if (r->has == &WAY_OF[INTERRUPTS])
+        printf("  %" PRIu64 " of %" PRIu64 " phases decided ahead\n", r->by_interrupts.ahead, r->begun);
+}
+
 static void print_run(const run *r)
 {
     static const char *const NAMES[KINDS] = {"reads", "programs", "erases"};
@@ -455,6 +464,7 @@ static void print_run(const run *r)
             printf("  %zu %s: %.3f us in the mean, 99 %% within %zu us\n", of_kind->answered, NAMES[kind],
                    of_kind->sum / (double)of_kind->answered / 1000, not_reached(of_kind));
     }
+    print_ahead(r);
     print_costs(r);
 }
 

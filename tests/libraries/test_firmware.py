@@ -316,7 +316,7 @@ class Errors(unittest.TestCase):
 
 
 class Interrupts(unittest.TestCase):
-    """The loop whose transfers end by interrupts: nothing is said to the driver while one runs."""
+    """The loop whose transfers end by interrupts: while one runs what is next is decided."""
 
     def test_each_request_ends_when_it_does_in_a_loop_that_waits(self) -> None:
         for words in (*SIMULATED, "device slc workload erases", "array 0.3-0.9 workload mixed-4k byte 0.833"):
@@ -324,6 +324,15 @@ class Interrupts(unittest.TestCase):
             self.assertEqual([ran.stderr for ran in both], ["", ""], words)
             self.assertEqual(ends_of(both[0].stdout), ends_of(both[1].stdout), words)
             self.assertEqual(len(ends_of(both[1].stdout)), 800, words)
+
+    def test_what_is_next_is_decided_while_the_bus_is_in_use(self) -> None:
+        """And again where a request came: with each answer one does in a closed loop, so there half are. Transfers that take longer end that."""
+        least = {"": 0.5, "load 0.7 array 0.4-0.7": 0.7, "slow 90 load 0.7 array 0.4-0.7": 0}
+        for words, share in least.items():
+            ran = run(sane(), *f"way interrupts {words}".split())
+            self.assertEqual((ran.returncode, ran.stderr), (0, ""), words)
+            ahead, phases = (int(it) for it in re.findall(r"(\d+) of (\d+) phases decided ahead", ran.stdout)[0])
+            self.assertGreaterEqual(ahead, share * phases, words)
 
     def test_luns_that_only_their_status_shows_ready(self) -> None:
         """Asked for, reads are answered sooner than where each waits for its stated time, and not much later than by an R/B# for each."""
