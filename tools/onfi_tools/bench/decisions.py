@@ -22,7 +22,7 @@ from concurrent.futures import ThreadPoolExecutor
 from pathlib import Path
 from typing import List, NamedTuple
 
-from onfi_tools.bench.rolling import built, ways_named
+from onfi_tools.bench.rolling import add_own, built, ways_named
 from onfi_tools.bench.runs import ROOT, add_numbers, table
 from onfi_tools.rolling_tables import title_with
 from onfi_tools.rolling_use import TWELVE, Asked, Configuration, output_of
@@ -53,7 +53,7 @@ def words(parser: argparse.ArgumentParser) -> None:
     parser.add_argument("--us", type=times_named, default=[0.0, 2.0, 3.0, 6.0, 24.0], metavar="LIST")
     parser.add_argument("--ways", type=ways_named, default=["steady", BASE], metavar="NAMES")
     parser.add_argument("--library", type=Path, default=ROOT / "lib", metavar="FOLDER")
-    parser.add_argument("--own", type=Path, metavar="FILE.c")
+    add_own(parser)
     add_numbers(parser, requests=4000, seeds=3, jobs=os.cpu_count() or 1)
 
 

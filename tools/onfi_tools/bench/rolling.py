@@ -2,7 +2,7 @@
 
     tools/bench rolling [--quick] [--library FOLDER] [--requests N] [--seed N] [--limit N] [--jobs N] [--rows FILE] [--ways NAMES]
                         [--own FILE.c] [--workload NAME]
-    tools/bench rolling --trace TRACE.csv --device SCRIPT [--own FILE.c] [--ways NAMES] [--run PROGRAM] [--closed] [--depth N]
+    tools/bench rolling --trace TRACE.csv --device SCRIPT [--own FILE].. [--ways NAMES] [--run PROGRAM] [--closed] [--depth N]
                         [--into FOLDER] [--unit us] [--page-bytes N] [--from-zero] [--wrap] [--fresh] [--library FOLDER]
 
 It builds the simulator of a channel (examples/simulator/rolling) with the library of FOLDER (lib; greedy ways alone need none), and runs
@@ -20,9 +20,10 @@ configurations of one workload, also of those beside the 216: `random-programs`,
 all figures of all runs in a file, each as it comes; a run that the file has isn't run again.
 
 --trace takes a load of your own, of bytes or of pages, on the device of SCRIPT in place of all that (docs/WORKLOADS.md has both forms,
-and what --unit to --fresh mean), by `fifo`, `rfirst:all`, with the library `steady`, and your own way, or by those of --ways. Requests come at their
-times, or --closed with answers, at most 64 or --depth of them outstanding. --run adds `run --clock simulated --by rule` of onfi_sim, of up
-to 10,000 operations: there one host sends all as they come. It prints operations and bytes a second, beside the bound,
+and what --unit to --fresh mean), by `fifo`, `rfirst:all`, with the library `steady`, or by those of --ways, and by your own: of a file in C, and
+of any in Python, whose first class with `accept`, `next` and `ran`, as a `Scheduler` of the package onfi, is made of channel and geometry, and
+judged by the library's audit. Requests come at their times, or --closed with answers, at most 64 or --depth of them outstanding. --run adds
+`run --clock simulated --by rule` of onfi_sim, of up to 10,000 operations: there one host sends all as they come. It prints operations and bytes a second, beside the bound,
 and latencies of lines, from arrival to the end of all that a line asks for. --into puts into FOLDER `latencies.csv`, with each line by
 each way, `over-time.csv` and its picture `over-time.svg`, with operations and bytes a second, and the simulator `rolling` with its
 `device.onfi` and `load.csv`.
@@ -38,6 +39,7 @@ from pathlib import Path
 from typing import List, Optional
 
 from onfi_tools.bench.runs import ROOT, add_numbers, processor_time
+from onfi_tools.python_way import run_python
 from onfi_tools.rates_svg import Panel, picture
 from onfi_tools.rolling_load import Load, Outcome, latency_rows, run_load, run_sequencer, tables_of, window_rows, windows_of, write_load
 from onfi_tools.rolling_tables import apart, gain_table, quick_tables, sector_table, whole_tables
@@ -45,6 +47,10 @@ from onfi_tools.rolling_use import ALL, OF_SECTORS, TWELVE, WORKLOADS, Asked, Ro
 from onfi_tools.rolling_ways import BASE, GREEDY, PLAIN, WAYS, WAYS_OF_SECTORS, title_of
 from onfi_tools.script import first_form, rows_of
 from onfi_tools.workload import DEVICE_ROWS, Mapping, add_trace_words, operations_of, positive, read_requests, shape_of
+
+
+# The name of a scheduler in Python ends so.
+PYTHON = ".py"
 
 
 def quick(program: Path, ways: List[str], asked: Asked, rows: Rows) -> List[str]:
@@ -68,6 +74,10 @@ def ways_named(names: str) -> List[str]:
     return found
 
 
+def add_own(parser: argparse.ArgumentParser) -> None:
+    parser.add_argument("--own", type=Path, action="append", default=[], metavar="FILE")
+
+
 def words(parser: argparse.ArgumentParser) -> None:
     parser.add_argument("--quick", action="store_true")
     parser.add_argument("--library", type=Path, default=ROOT / "lib")
@@ -75,7 +85,7 @@ def words(parser: argparse.ArgumentParser) -> None:
     add_numbers(parser, seed=1, limit=100_000, jobs=os.cpu_count() or 1)
     parser.add_argument("--rows", type=Path)
     parser.add_argument("--ways", type=ways_named)
-    parser.add_argument("--own", type=Path, metavar="FILE.c")
+    add_own(parser)
     parser.add_argument("--workload", choices=WORKLOADS)
     parser.add_argument("--trace", type=Path, metavar="TRACE.csv")
     parser.add_argument("--device", type=Path, metavar="SCRIPT")
@@ -117,8 +127,11 @@ def own_load(asked: argparse.Namespace, room: Path) -> List[str]:
     folder.mkdir(parents=True, exist_ok=True)
     write_load(load, folder)
     program, own = built(asked, folder, asked.ways or [])
-    ways = [*own, *(asked.ways or [way for way in PLAIN if way in ways_of(program)])]
-    outcomes = [*(run_load(program, folder, load, way) for way in ways), *([run_sequencer(asked.run, load)] if asked.run else [])]
+    named = asked.ways or [way for way in PLAIN if way in ways_of(program)]
+    outcomes = [run_load(program, folder, load, way) for way in own]
+    outcomes += [run_python(it, asked.library, load) for it in asked.own if it.suffix == PYTHON]
+    outcomes += [run_load(program, folder, load, way) for way in named]
+    outcomes += [run_sequencer(asked.run, load)] if asked.run else []
     if asked.into:
         write_outcomes(load, outcomes, folder)
     return apart(*tables_of(load, outcomes))
@@ -128,8 +141,11 @@ def built(asked: argparse.Namespace, folder: Path, ways: List[str]) -> "tuple[Pa
     """The simulator, with the library where one of the ways needs it, or it is there; and one's own way, if any."""
     is_asked = bool(set(ways) - set(GREEDY))
     library: Optional[Path] = asked.library if is_asked or (asked.library / "libonfi.a").is_file() else None
-    program = build(folder / "rolling", library, asked.own)
-    return program, ways_of(program)[:1] if asked.own else []
+    own = [it for it in asked.own if it.suffix != PYTHON]
+    if len(own) > 1 or (len(own) < len(asked.own) and not vars(asked).get("trace")):
+        raise ValueError("--own takes one file in C, and with --trace any in Python")
+    program = build(folder / "rolling", library, *own)
+    return program, ways_of(program)[:1] if own else []
 
 
 def configurations(asked: argparse.Namespace, room: Path) -> List[str]:
