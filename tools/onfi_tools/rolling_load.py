@@ -15,8 +15,9 @@ from onfi_tools.rolling_ways import title_of
 from onfi_tools.script import lengths_of
 from onfi_tools.workload import MOST_OPERATIONS, Operation, Shape, paged_rows
 
-# How the sequencer runs a load.
-RUN = ("run", "--clock", "simulated", "--by", "rule")
+# How the sequencer runs a load: by plans of the rule, and phase by phase.
+RUN = ("run", "--clock", "simulated", "--by")
+RUNS = ("rule", "next")
 # Into how many equal parts the time is cut, from the first arrival to the last end of all ways.
 WINDOWS = 100
 SHARES = {"50 %": 0.5, "95 %": 0.95, "99 %": 0.99, "99.9 %": 0.999}
@@ -123,13 +124,13 @@ def script_of(load: Load) -> str:
     return "\n".join([*load.script, "submitcap,1024", "postcap,1024", *rows, "end", ""])
 
 
-def run_sequencer(program: Path, load: Load) -> Outcome:
-    """What `onfi_sim run` makes of a load. ValueError where it doesn't answer all."""
-    ran = subprocess.run([str(program), *RUN], input=script_of(load), capture_output=True, text=True)
+def run_sequencer(program: Path, load: Load, way: str) -> Outcome:
+    """What `onfi_sim run` makes of a load by one of its ways. ValueError where it doesn't answer all."""
+    ran = subprocess.run([str(program), *RUN, way], input=script_of(load), capture_output=True, text=True)
     ends = re.findall(r"^reply,0,0,\d+,(\d+),", ran.stdout, re.MULTILINE)
     if ran.returncode:
         raise ValueError(f"{program} run: status {ran.returncode}: {ran.stderr.strip() or ran.stdout[-80:]}")
-    return Outcome("run", [Answer(it.line, it.kind, it.time, int(end)) for it, end in zip(load.operations, ends)])
+    return Outcome(f"run --by {way}", [Answer(it.line, it.kind, it.time, int(end)) for it, end in zip(load.operations, ends)])
 
 
 def throughput_table(load: Load, outcomes: Sequence[Outcome]) -> List[str]:

@@ -23,10 +23,10 @@ all figures of all runs in a file, each as it comes; a run that the file has isn
 and what --unit to --fresh mean), by `fifo`, `rfirst:all`, with the library `steady`, or by those of --ways, and by your own: of a file in C, and
 of any in Python, whose first class with `accept`, `next` and `ran`, as a `Scheduler` of the package onfi, is made of channel and geometry, and
 judged by the library's audit. Requests come at their times, or --closed with answers, at most 64 or --depth of them outstanding. --run adds
-`run --clock simulated --by rule` of onfi_sim, of up to 10,000 operations: there one host sends all as they come. It prints operations and bytes a second, beside the bound,
-and latencies of lines, from arrival to the end of all that a line asks for. --into puts into FOLDER `latencies.csv`, with each line by
-each way, `over-time.csv` and its picture `over-time.svg`, with operations and bytes a second, and the simulator `rolling` with its
-`device.onfi` and `load.csv`.
+`run --clock simulated` of onfi_sim by the rule and by the next phase, of up to 10,000 operations: there one host sends all as they come. It
+prints operations and bytes a second, beside the bound, and latencies of lines, from arrival to the end of all that a line asks for. --into
+puts into FOLDER `latencies.csv`, with each line by each way, `over-time.csv` and its picture `over-time.svg`, with operations and bytes a
+second, and the simulator `rolling` with its `device.onfi` and `load.csv`.
 
 All that is random comes from the seed, the same for all ways: which requests come and when, and how long arrays take. Devices, buses,
 requests and ways are in docs/WORTH.md.
@@ -41,7 +41,7 @@ from typing import List, Optional
 from onfi_tools.bench.runs import ROOT, add_numbers, processor_time
 from onfi_tools.python_way import run_python
 from onfi_tools.rates_svg import Panel, picture
-from onfi_tools.rolling_load import Load, Outcome, latency_rows, run_load, run_sequencer, tables_of, window_rows, windows_of, write_load
+from onfi_tools.rolling_load import RUNS, Load, Outcome, latency_rows, run_load, run_sequencer, tables_of, window_rows, windows_of, write_load
 from onfi_tools.rolling_tables import apart, gain_table, quick_tables, sector_table, whole_tables
 from onfi_tools.rolling_use import ALL, OF_SECTORS, TWELVE, WORKLOADS, Asked, Rows, all_of, build, measure, open_loops, readiness, six_of, ways_of
 from onfi_tools.rolling_ways import BASE, GREEDY, PLAIN, WAYS, WAYS_OF_SECTORS, title_of
@@ -131,7 +131,7 @@ def own_load(asked: argparse.Namespace, room: Path) -> List[str]:
     outcomes = [run_load(program, folder, load, way) for way in own]
     outcomes += [run_python(it, asked.library, load) for it in asked.own if it.suffix == PYTHON]
     outcomes += [run_load(program, folder, load, way) for way in named]
-    outcomes += [run_sequencer(asked.run, load)] if asked.run else []
+    outcomes += [run_sequencer(asked.run, load, way) for way in RUNS if asked.run]
     if asked.into:
         write_outcomes(load, outcomes, folder)
     return apart(*tables_of(load, outcomes))
