@@ -167,7 +167,7 @@ class Pages(unittest.TestCase):
         self.assertGreater(len(found), 30)
 
 
-# A program whose plain searches open 37 nodes and those that remember states so many.
+# A program whose plain searches open 37 nodes and those that remember states that many.
 REMEMBERING = """#!{python} -SI
 import sys
 words = sys.argv[1:]
@@ -183,7 +183,7 @@ if limit < nodes and not remembers:
 below = "below 1\\n" if limit < nodes else ""
 print(f"ONFIPLAN 1\\nfinish {{finish}}\\n{{below}}group 0 0 1\\nONFICERT {{'3 remember' if remembers else 1}}\\nB3 U Y1 L")
 """
-# What it opens and answers, the status, and what is said then.
+# What it opens and answers, the status, and the message then.
 REMEMBERED = {
     "nodes are counted by the least limit": (dict(plain_nodes=37, nodes=3, finish=7, accepted=7), 0, [
         "4 finishes of both agree, 4 plans", r"\| all \| `plan` \| 0 \| 37 / 37 / 37 \|.*\| 21 / 21 / 21 \|",

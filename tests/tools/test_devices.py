@@ -157,7 +157,7 @@ Told = Tuple[Dict[str, int], Dict[str, int]]
 
 
 def split(rng: random.Random, names: Tuple[str, ...], total: int) -> Dict[str, int]:
-    """So many ps, dealt out to these parameters."""
+    """That many ps, dealt out to these parameters."""
     cuts = sorted(rng.randint(0, total) for _ in names[1:])
     return {name: end - begin for name, begin, end in zip(names, [0, *cuts], [*cuts, total])}
 

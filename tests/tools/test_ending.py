@@ -20,7 +20,7 @@ MUCH: List[Tuple[List[str], str]] = [
 ]
 
 
-# What tools refuse without an answer, what is said of that, the status, and what they are given.
+# What tools refuse without an answer, the message, the status, and what they are given.
 REFUSED: List[Tuple[str, str, int, str]] = [
     ("bench rolling --library /nowhere --quick", "bench rolling: no libonfi.a in /nowhere: `make library` builds it\n", 1, ""),
     ("bench rolling --ways plan,best", "no way best; there are fifo, ", 2, ""),

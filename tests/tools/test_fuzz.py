@@ -60,7 +60,7 @@ def fuzzed(body: str, inputs: int = 40) -> "tuple[int, str]":
 FAR = NEAR.replace("finish 7", "finish 9").replace("below 6", "below 8")
 MESSAGE = 'sys.stderr.write("onfi_sim: row 1\\n  expected: another\\n")\n'
 OTHER_PLAN = "ONFIPLAN 1\\nfinish 7\\nONFICERT 1\\nL\\n"
-# What a program does that is a miss, what is said of it, and on how many inputs it shows.
+# What a program does that is a miss, the message, and on how many inputs it shows.
 MISSES = {
     "a status of another command": ('say("refused finish\\n", 2)', "status 2", 40),
     "a crash": ("import os\nos.abort()", "status -6", 40),

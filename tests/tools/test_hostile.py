@@ -31,7 +31,7 @@ def good_tokens(text: bytes) -> int:
 
 
 def answer_to_cut(script: bytes, plan: bytes, size: int) -> Answer:
-    """What `check` answers to so many bytes of a script and its plan, but not all of them."""
+    """What `check` answers to that many bytes of a script and its plan, but not all of them."""
     if size < len(script) - 1:
         return NO_END
     text = plan[: max(0, size - len(script))]
@@ -68,7 +68,7 @@ class Cuts(unittest.TestCase):
 
 
 def every_move(nodes: int) -> Tuple[List[str], int]:
-    """The tokens of all moves of four reads on each of two LUNs, up to the end of so many open nodes, and the last one's place."""
+    """The tokens of all moves of four reads on each of two LUNs, up to the end of that many open nodes, and the last one's place."""
     tokens: List[str] = []
     todo: List[Union[int, Tuple[int, int]]] = [(8, 8)]
     place = ended = 0

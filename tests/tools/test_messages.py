@@ -19,7 +19,7 @@ RUN = EXAMPLES / "two-hosts.onfi"
 COMMANDS = ("plan", "check", "audit", "run", "device")
 REFUSED_WORDS, FAILED_STREAM = 5, 7
 SECONDS = 20
-# The program reads at most so many bytes at a time.
+# The program reads at most that many bytes at a time.
 BLOCK = 65_536
 # A control character or a byte above ASCII; lines end with LF.
 UNSAFE = re.compile(r"[^\n -~]")

@@ -51,9 +51,9 @@ PASS = {
     "a program that reports each refusal": (REFUSES, PLANS, CASE),
     "a message beside a refusal": (r'write(2, "onfi_sim: memory was refused\n", 29); ' + REFUSES, PLANS, CASE),
     "a report that ends in memory": (r'say("reply,0,0,0,failed\nmemory\n", 26); _exit(4);', RUNS, ONE_ERASE),
-    "a refused command line with memory, or what is said of it": (REFUSES, WRONG_WORDS, TOO_GREAT),
+    "a refused command line with memory, or its message": (REFUSES, WRONG_WORDS, TOO_GREAT),
 }
-# What is done where a growth is refused, what is said of that, the answer else, and the case.
+# What is done where a growth is refused, the message, the answer else, and the case.
 MISSED = {
     "another answer in place of the refusal": (r'say("ONFIPLAN 1\nfinish 0\nONFICERT 1\nU\n", 33); _exit(0);', "growth 1 refused, alone: status 0", PLANS, CASE),
     "lines before the refusal": (r'say("ONFIPLAN 1\nmemory\n", 18); _exit(4);', "growth 2 refused, and all behind it: status 4", PLANS, CASE),

@@ -26,7 +26,7 @@ WAYS = ((["plan", *LIMIT], ["check"]), (["plan", "--by", "within", *LIMIT], ["ch
 
 
 def rows_of_reads(lines: List[str], count: int) -> List[str]:
-    """Each read of a script, also of what runs, puts out so many sectors."""
+    """Each read of a script, also of what runs, puts out that many sectors."""
     rows = [line.split(",") for line in lines]
     kinds = [row[1] for row in rows if row[0] == "want"]
     asked = [f"sectors,{number},{count}" for number, kind in enumerate(kinds) if kind == "read"]
@@ -66,7 +66,7 @@ class Texts(unittest.TestCase):
 
 
 def with_reads(script: Any, count: int) -> str:
-    """The script whose reads all put out so many sectors from the first on; of none, the page."""
+    """The script whose reads all put out that many sectors from the first on; of none, the page."""
     asked = [one._replace(operation=Operation("read", one.operation.page, sectors=count)) if one.operation.kind == "read" else one for one in script.asked]
     rows = iter(map(SOAK.row_of, asked))
     return "\n".join([next(rows) if row.startswith("op") else row for row in script.rows] + ["end", ""])
@@ -95,7 +95,7 @@ def one_by_one(rng: random.Random) -> Tuple[str, Device, List[Operation]]:
 
 
 def replies_of(script: str, device: Device, asked: List[Operation]) -> List[str]:
-    """The lines of the replies: each command, array and post lies behind all before it."""
+    """The lines of the replies: each command, array and post lies after all before it."""
     spans, outputs, block = lengths_of(script), outputs_of(script), Block(device)
     found: List[str] = []
     moment = 0

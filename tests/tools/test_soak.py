@@ -34,7 +34,7 @@ if {where}:
 
 
 def over(where: str, count: str = "{limit}") -> str:
-    """Each channel with an operation is over there, with so many nodes, before it answers anything."""
+    """Each channel with an operation is over there, with that many nodes, before it answers anything."""
     return OVER.format(where=where, count=count)
 
 
@@ -91,7 +91,7 @@ replies = [line.split(",", 4) for line in lines if line.startswith("reply")]
 answers = [reply.pop() for reply in replies]
 lines[: len(replies)] = [",".join([*reply, answer]) for reply, answer in zip(replies, answers[1:] + answers[:1])]
 """
-# What a program does to its lines that is a difference, what is said of it, and further words.
+# What a program does to its lines that is a difference, the message, and further words.
 DIFFERENCES = {
     "a lost reply": ("lines = lines[1:]", "or none to [(", ""),
     "a lost reply within a limit": ("lines = lines[1:] if limit else lines", "or none to [(", ""),

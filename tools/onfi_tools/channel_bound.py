@@ -18,7 +18,7 @@ The greatest stands at a weight where the best size of a kind changes, or at an 
 
 The closed loop. A request comes with each answer, and for each scheduler the same ones come in the same order, each for its LUN. Give
 each LUN a bus of its own; let it stop a request for another and go on with it later; let each take its least part of a LUN's time alone,
-and be answered as soon as so many are served and so many have stayed as long as one that runs alone. Whatever a scheduler does, these
+and be answered as soon as that many are served and that many have stayed as long as one that runs alone. Whatever a scheduler does, these
 LUNs have answered as many by then. For when the j-th member of a group is answered, the group has had its LUN for at least j of those
 parts; of all orders the one that goes on with what has the least left has served the most at any time; and what comes sooner is answered
 no later. So, answer by answer, that loop is never later.
@@ -57,7 +57,7 @@ class Request(NamedTuple):
 
 
 class Channel(NamedTuple):
-    """What serves the requests. `depth` may be outstanding; reads are of so many pages of a block, evenly; of a load of one's own 0."""
+    """What serves the requests. `depth` may be outstanding; reads are of that many pages of a block, evenly; of a load of one's own 0."""
 
     spans: Dict[str, Spans]
     planes: int
@@ -199,13 +199,13 @@ class Loop:
 
 
 def loop_bound(channel: Channel, requests: Sequence[Request], measured: range) -> float:
-    """That of the closed loop, from so many answers to so many; requests come beyond the last of them."""
+    """That of the closed loop, from one number of answers to another; requests come beyond the last of them."""
     ends = [0.0, *itertools.islice(Loop(channel, requests).answers(), measured.stop)]
     return len(measured) * 1e9 / (ends[measured.stop] - ends[measured.start])
 
 
 def bounds_of(channel: Channel, requests: Sequence[Request], answers: int) -> Dict[str, float]:
-    """The three by their names, of a run that answers so many of the requests and measures all but the first tenth."""
+    """The three by their names, of a run that answers that many of the requests and measures all but the first tenth."""
     measured = range(max(1, answers // 10), answers)
     own = requests[measured.start : measured.stop]
     return {"bus": bus_bound(channel, own), "dies": dies_bound(channel, own), "loop": loop_bound(channel, requests, measured)}
@@ -249,7 +249,7 @@ def bounds_to_the_end(channel: Channel, requests: Sequence[Request]) -> Dict[str
 
 
 def requests_for(answers: int, channel_depth: int) -> int:
-    """How many requests come until so many are answered, at most: mates of all other planes may come with the last one."""
+    """How many requests come until that many are answered, at most: mates of all other planes may come with the last one."""
     return answers + channel_depth + MOST_PLANES - 1
 
 

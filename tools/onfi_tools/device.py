@@ -59,7 +59,7 @@ class Spans(NamedTuple):
     post: int
 
     def length(self, size: int, phase: int) -> int:
-        """How long a phase of a group of so many members takes; phases count from 0."""
+        """How long a phase of a group of that many members takes; phases count from 0."""
         return self.cmd if phase < size else self.post
 
     def wait_after(self, size: int, phase: int) -> int:
@@ -154,7 +154,7 @@ def spans_of(page: Mapping[str, int], sheet: Mapping[str, int]) -> Dict[str, Spa
 
 
 def by_strobes(plain: int, before: int, cycle: int, behind: int, size: int) -> int:
-    """A phase of so many ns, and so many bytes by strobes, all in ps: two in a cycle, and whole ns after the end."""
+    """A phase of that many ns, and that many bytes by strobes, all in ps: two in a cycle, and whole ns after the end."""
     picoseconds = 1000 * plain + before + -(-size // 2) * cycle + behind
     return -(-picoseconds // 1000)
 

@@ -19,7 +19,7 @@ class Device(NamedTuple):
 class Operation(NamedTuple):
     """A request at a page; an erase names page 0, a program brings a page of bytes.
 
-    A read gives so many sectors from that one on; of none, the page.
+    A read gives that many sectors from that one on; of none, the page.
     """
 
     kind: str

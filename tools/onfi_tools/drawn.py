@@ -48,7 +48,7 @@ def drawn_wants(rng: random.Random, luns: int, weights: Sequence[int], count: in
 
 
 def running_row(rng: random.Random, device: Device, lun: int, most: int) -> str:
-    """A LUN that runs a group of at most so many members."""
+    """A LUN that runs a group of at most that many members."""
     kind = rng.choices(KINDS, MIX)[0]
     planes = 1 << device.plane_bits
     size = rng.randint(1, min(most, planes)) if device.may_group(kind) else 1

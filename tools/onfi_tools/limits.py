@@ -12,7 +12,7 @@ WAITS = 30
 def run_within(seconds: int, words: Sequence[Union[str, bytes]], given: Optional[bytes] = None, **how: Any) -> "subprocess.CompletedProcess[bytes]":
     """Runs a program on an input, and takes what it writes.
 
-    subprocess.TimeoutExpired: it takes more than so many seconds of processor time, or nothing goes on for long."""
+    subprocess.TimeoutExpired: it takes more than that many seconds of processor time, or nothing goes on for long."""
     streams: Dict[str, Any] = {"stdin": None if given is None else subprocess.PIPE, "stdout": subprocess.PIPE, "stderr": subprocess.PIPE, **how}
     with subprocess.Popen(words, **streams) as child:
         resource.prlimit(child.pid, resource.RLIMIT_CPU, (seconds, seconds + 1))

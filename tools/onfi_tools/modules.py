@@ -78,7 +78,7 @@ INTRINSIC = re.compile(r"@llvm\.(?:mem(?:set\.p0|cpy\.p0\.p0|move\.p0\.p0)\.i64|
 HEAP = {"@rattle_alloc", "@rattle_realloc", "@rattle_dealloc"}
 PROBES = ("probe-stack", "stack-probe-size")
 OF_PROCESSOR = ("target-cpu", "target-features", "tune-cpu")
-# What is said of a line that has no form of these, by the first that it holds.
+# The message about a line that has no form of these, by the first that it holds.
 TELLING = [
     (r"\binttoptr\b", "a pointer made of a number"),
     (r"\basm\b", "assembler"),
@@ -231,7 +231,7 @@ class Module:
         yield f"  {found['to']} = alloca {'[8 x i8]' if found['type'] == 'ptr' else found['type']}, align {found['align']}"
 
     def at(self, place: str, behind: int) -> Tuple[str, List[str]]:
-        """A place so many bytes after another, and the line that makes it."""
+        """A place that many bytes after another, and the line that makes it."""
         if not behind:
             return place, []
         name = self.name_anew()

@@ -116,7 +116,7 @@ class Script:
                      bool(page["multi_plane_writes"]), strict)
 
     def spans(self, page: Dict[str, int], size: int) -> Dict[str, Spans]:
-        """The lengths where so many bytes are put out or taken in."""
+        """The lengths where that many bytes are put out or taken in."""
         sized = {**page, "data_bytes": size, "spare_bytes": 0}
         sheet, strobes = ({row[1]: int(row[2]) for row in self.rows if row[0] == name} for name in ("sheet", "strobe"))
         return strobed_spans_of(sized, sheet, strobes) if strobes else spans_of(sized, sheet)

@@ -34,7 +34,7 @@ def played(channel: Channel, plan: str) -> Iterator[Tuple[Move, Channel]]:
 
 
 def left(channel: Channel, plan: str, count: int) -> Channel:
-    """The channel once so many phases of the plan are done, the requests that wait numbered anew; groups that run then ran before."""
+    """The channel once that many phases of the plan are done, the requests that wait numbered anew; groups that run then ran before."""
     for _, channel in itertools.islice(played(channel, plan), count):
         pass
     luns = (lun._replace(group=lun.group._replace(numbers=())) if lun.group else lun for lun in channel.luns)
@@ -42,7 +42,7 @@ def left(channel: Channel, plan: str, count: int) -> Channel:
 
 
 def filled(channel: Channel, more: Sequence[Want], most: int) -> Channel:
-    """The channel with further requests, up to so many in all."""
+    """The channel with further requests, up to that many in all."""
     return channel._replace(wants=numbered([*channel.wants, *more][:most]))
 
 

@@ -8,7 +8,7 @@ DIVIDED = ["-mllvm", "-expand-div-rem-bits=64"]
 
 
 class Processor(NamedTuple):
-    """How a processor is named, how its memory is laid out, and what its compiler is given; pointers have so many bits."""
+    """How a processor is named, how its memory is laid out, and what its compiler is given; pointers have that many bits."""
 
     triple: str
     layout: str

@@ -83,7 +83,7 @@ def calls_of(header: str) -> List[str]:
 
 
 def enough_for(most: int) -> int:
-    """What the header says where calls take so much: with a margin, rounded up."""
+    """What the header says where calls take that much: with a margin, rounded up."""
     unit = 1000 if most > 20_000 else 100 if most > 1000 else 10
     return -(-int(most * MARGIN) // unit) * unit
 

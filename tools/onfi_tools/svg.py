@@ -194,7 +194,7 @@ def add_text(group: ET.Element, x: float, y: int, text: str, anchor: str, fill: 
 
 
 def step_of(span: int, most: int) -> int:
-    """The least of 1, 2, 5, 10, 20, .. ns that divides a span of time into at most so many steps."""
+    """The least of 1, 2, 5, 10, 20, .. ns that divides a span of time into at most that many steps."""
     steps: Iterator[int] = (factor * 10**power for power in itertools.count() for factor in (1, 2, 5))
     return next(step for step in steps if span <= step * most)
 

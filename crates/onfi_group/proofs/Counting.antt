@@ -1,4 +1,4 @@
--- How many groups so many wants form: on each plane one of them or none, so eight wants give at most 80.
+-- How many groups that many wants form: on each plane one of them or none, so eight wants give at most 80.
 use Rattle.std.proofs.Common.{◌≡◌, ◌≢◌, ℕ, ◌+◌, ◌-◌, ◌*◌, ◌≤◌, ◌<◌, ◌⊎◌, inl, inr, List, [], ◌∷◌, ◌++◌, length, map, refl, ap, subst, arith, mul-le-mul}
 use Rattle.std.specs.Prelude.{◌==◌}
 use Rattle.std.specs.List.{AllByRecursion as All, filter}

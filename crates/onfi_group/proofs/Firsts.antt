@@ -52,7 +52,7 @@ total_joined : (f : Want → ℕ) (w : Want) (g : List Want) → total f (joined
 total_joined f w [] = omega arith
 total_joined f w (m ∷ ms) = let e = total_joined f w ms in elim (cases_Bool (nat_lt m.plane w.plane)) [ inl k ↦ rw k (omega arith) | inr k ↦ rw k (omega arith) ]
 
--- the groups that may be started of the first so many wants
+-- the groups that may be started of that many first wants
 abbrev pub Opened : Rules → List Want → ℕ → ℕ → List (List Want) → Type 0
 Opened rules wants lun i groups = AreSeen rules (IsFirst wants) (first_mask wants) wants lun i groups
 

@@ -162,7 +162,7 @@ listed_none rules Sort place limit empty lt = record { only = tt; each = no_grou
 pub power : (n : ℕ) → 2 ^ (n + 1) ≡ 2 ^ n + 2 ^ n
 power n = rw (add-one, pow-suc) (omega arith)
 
--- among the first so many wants, of some sort and of that LUN
+-- among that many first wants, of some sort and of that LUN
 abbrev pub Seen : (Want → Type 0) → List Want → ℕ → ℕ → Want → Type 0
 Seen Sort wants lun i x = Has (take i wants) x × Sort x × (x.lun ≡ lun)
 

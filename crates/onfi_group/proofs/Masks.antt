@@ -64,7 +64,7 @@ other_id (x ∷ xs) zero d m h rise k e = k
 other_id (x ∷ xs) (suc i) d m h rise (inl k) e = let lt = All-has (λ y. x.id < y.id) xs (get_or xs i d) rise.0 (Has-get xs i d (omega arith)) in let same = ap (λ z. z.id) k in omega arith
 other_id (x ∷ xs) (suc i) d m h rise (inr k) e = other_id xs i d m (omega arith) rise.1 k e
 
--- the candidates of the first so many wants
+-- the candidates of that many first wants
 abbrev pub Found : Rules → List Want → ℕ → ℕ → List (List Want) → Type 0
 Found rules wants lun i groups = AreSeen rules (λ m. Unit {0}) (mask_of wants) wants lun i groups
 

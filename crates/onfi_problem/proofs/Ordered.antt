@@ -43,7 +43,7 @@ module _ (own : ℕ → List (List Want)) (can : List Want → Bool) where
   moves_from l [] = []
   moves_from l (x ∷ luns) = lun_moves l x ++ moves_from (l + 1) luns
 
-  -- the groups of so many LUNs
+  -- the groups of that many LUNs
   abbrev pub owned : ℕ → List (List Want)
   owned zero = []
   owned (suc n) = owned n ++ own n

@@ -53,7 +53,7 @@ abbrev pub IsLunStated : Timing → LunState → Type 0
 IsLunStated timing (Free since) = Unit {0}
 IsLunStated timing (Running group next ready) = AreStated timing group
 
--- the timing states lengths for all that waits or runs: posts of so many sectors
+-- the timing states lengths for all that waits or runs: a post for each count of sectors
 pub record HasLengths (p : Problem) : Type 0 where
   pub wants : AreStated p.timing p.wants
   pub luns : Each (IsLunStated p.timing) p.luns

@@ -69,7 +69,7 @@ fn is_lun_stated(timing: &Timing, state: &LunState) -> bool
     }
 }
 
-// Wants of so many LUNs, with rising numbers.
+// Wants of that many LUNs, with rising numbers.
 fn is_list(wants: &[Want], luns: usize) -> bool
     ensures { IsTrue result ↔
         (Each IsWant wants.now × Each (λ w. w.lun < luns) wants.now × Pairs (λ a b. a.id < b.id) wants.now) }

@@ -17,7 +17,7 @@ pub enum ProblemFault {
     /// Memory for the table of groups was refused.
     #[error("memory was refused")]
     Memory,
-    /// The timing states no lengths for a want or a member of what runs: no post of so many sectors (from
+    /// The timing states no lengths for a want or a member of what runs: no post for its sectors (from
     /// [`Timing::with_sectors`](onfi_timing::Timing::with_sectors)). It is reported before `Clock`, whose sum needs the lengths.
     #[error("sectors without lengths")]
     NoLengths,

@@ -58,7 +58,7 @@ impl Problem {
     /// `TooMany` where there are more than eight wants, no LUN or more than eight; else `BadLun` where a want is of a
     /// LUN that is not there, on a plane above 3, or an erase with a page, numbers of the list do not rise, or what
     /// runs on a LUN is not a group of it of which at least one phase is over and one is left; else `NoLengths`
-    /// where the timing states no post for so many sectors as a want or a member of what runs puts out; else `Clock`
+    /// where the timing states no post for as many sectors as a want or a member of what runs puts out; else `Clock`
     /// where the greatest time, the rest of all running groups and all wants together reach 2^62 ns; `Memory` where
     /// memory for the table of groups was refused.
     pub fn new(

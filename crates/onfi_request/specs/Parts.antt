@@ -5,7 +5,7 @@ use Rattle.onfi_addr.specs.Rows.{page_bytes_of}
 use Rattle.onfi_timing.specs.declared.kind.Kind.{Kind}
 use Rattle.onfi_timing.specs.declared.kind.Kind.TheVariants.{Read, Program, Erase, ReadSectors}
 
--- one to seven sectors, so many from that one on, lie on a page
+-- one to seven sectors, that many from that one on, lie on a page
 abbrev pub has_sectors : Geometry → ℕ → ℕ → Bool
 has_sectors geometry first count =
     nat_le 1 count && (nat_le count 7 && (nat_le 1 geometry.sector_bytes && nat_le ((first + count) * geometry.sector_bytes) (page_bytes_of geometry)))

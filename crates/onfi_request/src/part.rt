@@ -15,7 +15,7 @@ pub fn has_part(geometry: &Geometry, kind: Kind) -> bool
     }
 }
 
-// Whether so many sectors from that one on lie on a page.
+// Whether that many sectors from that one on lie on a page.
 fn has_sectors(geometry: &Geometry, first: u8, count: u8) -> bool
     ensures { result ≡ spec.has_sectors geometry.now first count }
 {

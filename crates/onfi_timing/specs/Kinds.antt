@@ -34,12 +34,12 @@ operation_spans timing Reads = timing.read
 operation_spans timing Programs = timing.program
 operation_spans timing Erases = timing.erase
 
--- what is stated of reads of so many sectors, one or more
+-- what is stated of reads of that many sectors, one or more
 abbrev pub stated : Timing → ℕ → Option Spans
 stated timing zero = None
 stated timing (suc before) = slice_index_or timing.sectors before None
 
--- the lengths of a read of so many sectors: a page's, where nothing else is stated
+-- the lengths of a read of that many sectors: a page's, where nothing else is stated
 abbrev pub sector_spans : Timing → ℕ → Spans
 sector_spans timing count = unwrap_or (stated timing count) timing.read
 
@@ -49,7 +49,7 @@ spans_of timing (ReadSectors first count) = sector_spans timing count
 spans_of timing Program = timing.program
 spans_of timing Erase = timing.erase
 
--- whether the timing states lengths for a read of so many sectors; for a page it does
+-- whether the timing states lengths for a read of that many sectors; for a page it does
 abbrev pub states_count : Timing → ℕ → Bool
 states_count timing zero = true
 states_count timing (suc before) = is_some (stated timing (suc before))
@@ -71,7 +71,7 @@ least_rest timing Erases = timing.erase.array + timing.erase.post
 abbrev pub StatesNone : Timing → Type 0
 StatesNone timing = (count : ℕ) → stated timing count ≡ None
 
--- `after` states a post for reads of so many sectors, and all else that `before` states
+-- `after` states a post for reads of that many sectors, and all else that `before` states
 pub record StatesToo (before after : Timing) (count post : ℕ) : Type 0 where
   pub read : after.read ≡ before.read
   pub program : after.program ≡ before.program

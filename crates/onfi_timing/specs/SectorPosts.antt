@@ -32,12 +32,12 @@ pub record HasPages (before after : Timing) : Type 0 where
 abbrev pub counts : List ℕ
 counts = 1 ∷ 2 ∷ 3 ∷ 4 ∷ 5 ∷ 6 ∷ 7 ∷ []
 
--- the bytes of so many sectors, where a page has as many; none where sectors have none
+-- the bytes of that many sectors, where a page has as many; none where sectors have none
 abbrev pub bytes_of : ℕ → ℕ → ℕ → Option ℕ
 bytes_of page_bytes sector_bytes count =
     if nat_le 1 sector_bytes && nat_le (count * sector_bytes) page_bytes then Some (count * sector_bytes) else None
 
--- the post of so many sectors, by the time that bytes take; 0 where a page has fewer bytes
+-- the post of that many sectors, by the time that bytes take; 0 where a page has fewer bytes
 abbrev pub sector_post : (ℕ → ℕ) → ℕ → ℕ → ℕ → ℕ
 sector_post time page_bytes sector_bytes count = unwrap_or (option_map time (bytes_of page_bytes sector_bytes count)) 0
 
@@ -45,7 +45,7 @@ sector_post time page_bytes sector_bytes count = unwrap_or (option_map time (byt
 abbrev pub sector_posts : (ℕ → ℕ) → ℕ → ℕ → List ℕ
 sector_posts time page_bytes sector_bytes = map (sector_post time page_bytes sector_bytes) counts
 
--- how long an output of so many bytes of a page holds the bus, in ns: of all its bytes the post of a read
+-- how long an output of that many bytes of a page holds the bus, in ns: of all its bytes the post of a read
 abbrev pub output_time : List ℕ → Geometry → Values → ℕ → ℕ
 output_time page g v bytes = command_cycles g * v.t_wc + t_ccs page + bytes * v.t_rc + v.t_rhw
 
@@ -53,7 +53,7 @@ output_time page g v bytes = command_cycles g * v.t_wc + t_ccs page + bytes * v.
 abbrev pub strobed_output : List ℕ → Geometry → Values → StrobeValues → ℕ → ℕ
 strobed_output page g v s bytes = ns_up (1000 * (command_cycles g * v.t_wc + t_ccs page + v.t_rhw) + bytes_out s bytes)
 
--- the phase lengths by page, geometry and sheet, with those of reads of sectors of so many bytes
+-- the phase lengths by page, geometry and sheet, with those of reads of sectors of that many bytes
 pub record IsSectorTiming (page : List ℕ) (g : Geometry) (sheet : Sheet) (sector_bytes : ℕ) (timing : Timing) : Type 0 where
   pub pages : IsTiming page g sheet timing
   pub values : Values

@@ -38,15 +38,15 @@ pub record Give (strobes : Strobes) (values : StrobeValues) : Type 0 where
 abbrev pub first_missing_strobe : Strobes → Option Strobe
 first_missing_strobe strobes = find (λ strobe. is_none (strobe_given strobes strobe)) strobes_in_order
 
--- the cycles of so many bytes: two go in one, and an odd last byte takes a whole one
+-- the cycles of that many bytes: two go in one, and an odd last byte takes a whole one
 abbrev pub cycles : ℕ → ℕ
 cycles bytes = (bytes + 1) / 2
 
--- how long so many bytes take out of the device, in ps
+-- how long that many bytes take out of the device, in ps
 abbrev pub bytes_out : StrobeValues → ℕ → ℕ
 bytes_out s bytes = s.t_rpre + cycles bytes * s.t_rc + s.t_rpst + s.t_rpsth
 
--- how long so many bytes take into the device, in ps
+-- how long that many bytes take into the device, in ps
 abbrev pub bytes_in : StrobeValues → ℕ → ℕ
 bytes_in s bytes = s.t_wpre + cycles bytes * s.t_dsc + s.t_wpst + s.t_wpsth
 

@@ -19,7 +19,7 @@ use crate::values::Values;
 use onfi_addr::Geometry;
 use onfi_param::ParamPage;
 
-// How long an output of so many bytes of a page holds the bus.
+// How long an output of that many bytes of a page holds the bus.
 fn output_time(page: &ParamPage, geometry: &Geometry, values: &Values, bytes: u16) -> u64
     ensures value { result ≡ output_time page.now geometry.now values.now bytes }
     ensures short { result < 2 ^ 50 }
@@ -45,7 +45,7 @@ fn strobed_output(
     rounded_up(plain, time_out(strobes, bytes))
 }
 
-// The bytes of so many sectors, where a page has as many; none where sectors have none.
+// The bytes of that many sectors, where a page has as many; none where sectors have none.
 fn bytes_of(geometry: &Geometry, sector_bytes: u16, count: u8) -> Option<u16>
     requires few { count ≤ 7 }
     ensures { result ≡ bytes_of (page_bytes_of geometry.now) sector_bytes count }
@@ -58,7 +58,7 @@ fn bytes_of(geometry: &Geometry, sector_bytes: u16, count: u8) -> Option<u16>
     }
 }
 
-// The post of so many sectors; 0 where a page has fewer.
+// The post of that many sectors; 0 where a page has fewer.
 fn post_of(
     page: &ParamPage,
     geometry: &Geometry,
@@ -147,7 +147,7 @@ impl Timing {
         timing
     }
 
-    // This timing with a post of one sector more than so many, where that is not 0.
+    // This timing with a post of one sector more than that, where that is not 0.
     fn with_post(self, before: u8, post: u64) -> Timing
         requires few { before < 7 }
         requires none { stated self (suc before) ≡ None }
@@ -162,7 +162,7 @@ impl Timing {
         self.with_sectors(before + 1, post).unwrap()
     }
 
-    /// The timing of a device as [`Timing::of`] has it, with reads of sectors of so many bytes: of one to seven, where a page
+    /// The timing of a device as [`Timing::of`] has it, with reads of sectors of that many bytes: of one to seven, where a page
     /// has their bytes, the post is that of a page with their bytes for its own. Of 0 bytes there are none.
     ///
     /// # Errors

@@ -29,7 +29,7 @@ pub fn values_beside(sheet: &Sheet) -> Result<Values, SheetFault>
     }
 }
 
-// How long the cycles of so many bytes take, in ps.
+// How long the cycles of that many bytes take, in ps.
 fn cycles_time(bytes: u16, cycle: u32) -> u64
     ensures value { result ≡ cycles bytes * cycle }
     ensures small { result ≤ 2 ^ 47 }
@@ -37,7 +37,7 @@ fn cycles_time(bytes: u16, cycle: u32) -> u64
     (u64::from(bytes) + 1) / 2 * u64::from(cycle)
 }
 
-/// How long so many bytes take out of the device, in ps.
+/// How long that many bytes take out of the device, in ps.
 pub fn time_out(strobes: &StrobeValues, bytes: u16) -> u64
     ensures value { result ≡ bytes_out strobes.now bytes }
     ensures small { result ≤ 2 ^ 48 }
@@ -48,7 +48,7 @@ pub fn time_out(strobes: &StrobeValues, bytes: u16) -> u64
         + u64::from(strobes.t_rpsth)
 }
 
-// How long so many bytes take into the device, in ps.
+// How long that many bytes take into the device, in ps.
 fn time_in(strobes: &StrobeValues, bytes: u16) -> u64
     ensures value { result ≡ bytes_in strobes.now bytes }
     ensures small { result ≤ 2 ^ 48 }
@@ -59,7 +59,7 @@ fn time_in(strobes: &StrobeValues, bytes: u16) -> u64
         + u64::from(strobes.t_wpsth)
 }
 
-/// A phase of so many ns, and of so many ps by strobes, in whole ns: rounded up once.
+/// A phase of some ns, and of some ps by strobes, in whole ns: rounded up once.
 pub fn rounded_up(plain: u64, strobed: u64) -> u64
     requires plain { plain ≤ 2 ^ 38 }
     requires strobed { strobed ≤ 2 ^ 48 }

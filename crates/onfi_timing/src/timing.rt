@@ -170,7 +170,7 @@ impl Timing {
         }
     }
 
-    // What is stated of reads of so many sectors.
+    // What is stated of reads of that many sectors.
     fn spans_of_sectors(&self, count: u8) -> Option<Spans>
         requires { 1 ≤ count }
         ensures { result ≡ stated self.now count }

@@ -144,13 +144,13 @@ class Program:
         return (many - none) / OPERATIONS
 
     def reads(self, operations: int) -> float:
-        """Instructions of a run of so many reads, the median of a few: threads that wait make them vary."""
+        """Instructions of a run of that many reads, the median of a few: threads that wait make them vary."""
         begins = "reply" if operations else "closed"
         return statistics.median(self.run(["run"], script_of_reads(1, operations), begins).instructions for _ in range(RUNS))
 
 
 def program_table(programs: Sequence[Program], functions: int) -> None:
-    """Prints the rows of programs, and so many functions of each search."""
+    """Prints the rows of programs, and that many functions of each search."""
     print("\n".join(table(["instructions of", *(Path(program.path).name for program in programs)], [])))
     most = []
     for script in HARD:

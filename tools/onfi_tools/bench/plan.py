@@ -152,7 +152,7 @@ def bench_prototypes(asked: argparse.Namespace, rng: random.Random, folder: str)
 
 
 class Chain(NamedTuple):
-    """The plan of a script by so many workers: status and text, the run's longest chain of work and all its work, in ns."""
+    """The plan of a script by that many workers: status and text, the run's longest chain of work and all its work, in ns."""
 
     workers: int
     status: int

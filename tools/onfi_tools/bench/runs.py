@@ -1,4 +1,4 @@
-"""Runs of a built program, with what they took, also under callgrind; trials for so many seconds; and tables of what was measured."""
+"""Runs of a built program, with what they took, also under callgrind; trials for some seconds; and tables of what was measured."""
 
 import argparse
 import bisect
@@ -84,7 +84,7 @@ def counted(counts: Path, words: Sequence[Union[str, Path]], given: Optional[str
 
 
 def tried(seconds: float, most: int, jobs: int, one: Callable[[int], Found]) -> Iterator[Found]:
-    """What comes of trials 0, 1, 2, .. that begin within so many seconds, so many of them at most, and so many at a time."""
+    """What comes of trials 0, 1, 2, .. that begin within that many seconds, with the most of them, and how many at a time."""
     ended = time.monotonic() + seconds
     left = itertools.takewhile(lambda _: time.monotonic() < ended, range(most))
     with ThreadPoolExecutor(jobs) as pool:
@@ -150,7 +150,7 @@ def row(cells: Iterable[object]) -> str:
 
 
 def table(columns: Sequence[str], rows: Iterable[Iterable[object]], left: int = 1) -> List[str]:
-    """Rows below their columns, of which the first so many are texts."""
+    """Rows below their columns, of which that many first are texts."""
     return [row(columns), "|" + "---|" * left + "---:|" * (len(columns) - left), *map(row, rows)]
 
 

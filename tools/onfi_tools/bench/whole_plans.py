@@ -47,18 +47,18 @@ def answers_of(output: str) -> List[Answer]:
 
 
 def chosen(scripts: Sequence[Path], answers: Sequence[Answer], count: int, low: int, high: int) -> List[Path]:
-    """The first scripts whose searches opened so many nodes."""
+    """The first scripts whose searches opened that many nodes."""
     return [script for script, answer in zip(scripts, answers) if answer.status == 0 and low <= answer.opened <= high][:count]
 
 
 def drawn_batches(count: int, requests: int) -> List[str]:
-    """Scripts of `tools/bench worth` with so many requests."""
+    """Scripts of `tools/bench worth` with that many requests."""
     rng = random.Random(SEED)
     return [drawn_batch(rng, requests).script() for _ in range(count)]
 
 
 def drawn_sets(count: int) -> Dict[str, List[str]]:
-    """So many scripts of each set of `tools/bench remember`."""
+    """That many scripts of each set of `tools/bench remember`."""
     rng = random.Random(SEED)
     return {name: [draw(rng) for _ in range(count)] for name, draw in SETS.items()}
 
@@ -98,7 +98,7 @@ class Library:
         return [None if cost.answer.status else cost.plan for cost in costs]
 
     def long(self, way: str, sets: Iterable[List[str]], count: int, high: int) -> List[Cost]:
-        """Of so many scripts of each set whose searches open many nodes, and not more than the limit."""
+        """Of that many scripts of each set whose searches open many nodes, and not more than the limit."""
         files: List[Path] = []
         for scripts in sets:
             some = self.files_of(scripts)
