@@ -3,6 +3,9 @@
 import locale
 import os
 import re
+import tempfile
+import unittest
+from typing import Any, Dict
 
 # ONFI_.. name the built program, the libraries, the trials, and how many loops are tried.
 KEPT = re.compile(r"PATH|LD_LIBRARY_PATH|HOME|TMPDIR|PYENV_\w+|ONFI_(SIM|LIBRARIES|TRIALS|LOOPS)")
@@ -17,3 +20,26 @@ def be_plain() -> None:
     os.environ.update(SET)
     locale.setlocale(locale.LC_CTYPE, SET["LC_ALL"])
     os.umask(0o022)
+
+
+class Apart(unittest.TextTestResult):
+    """Gives each test an environment and a folder for its files, which are there for no other; what is set up for several stays as it was."""
+
+    def __init__(self, *given: Any, **named: Any) -> None:
+        super().__init__(*given, **named)
+        self.before: Dict[str, str] = {}
+        self.folder = os.getcwd()
+
+    def startTest(self, test: unittest.TestCase) -> None:
+        self.before, self.folder = dict(os.environ), os.getcwd()
+        self.room = tempfile.TemporaryDirectory(prefix="onfi-test-")
+        os.environ["TMPDIR"] = tempfile.tempdir = self.room.name
+        super().startTest(test)
+
+    def stopTest(self, test: unittest.TestCase) -> None:
+        super().stopTest(test)
+        os.chdir(self.folder)
+        os.environ.clear()
+        os.environ.update(self.before)
+        tempfile.tempdir = None
+        self.room.cleanup()

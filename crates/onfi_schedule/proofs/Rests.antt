@@ -20,7 +20,7 @@ RunningFirst timing luns rest g = (group : List Want) (next ready : ℕ) (starts
 abbrev pub FromFree : List LunState → Placed → Type 0
 FromFree luns g = (since : ℕ) → slice_get luns (lun_of g.members) ≡ Some (Free since) → StartsFrom since g.starts
 
--- what is said of a LUN's state and starts holds at this place
+-- what the list holds of a LUN's state and starts is so at this place
 abbrev pub At : (LunState → List ℕ → Type 0) → List LunState → List (List ℕ) → ℕ → Type 0
 At P luns rest j = (z : LunState) (vs : List ℕ) → slice_get luns j ≡ Some z → slice_get rest j ≡ Some vs → P z vs
 

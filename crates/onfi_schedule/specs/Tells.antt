@@ -50,7 +50,7 @@ pub record HasRest (p : Problem) (s : Schedule) (lun : ℕ) : Type 0 where
   pub given : rest_of s lun ≡ Some starts
   pub some : 1 ≤ length starts
 
--- a LUN has so many starts in place of those that its running group has phases left
+-- a LUN has that many starts in place of those that its running group has phases left
 pub record HasOtherRest (p : Problem) (s : Schedule) (lun starts left : ℕ) : Type 0 where
   pub group : List Want
   pub next : ℕ
@@ -62,7 +62,7 @@ pub record HasOtherRest (p : Problem) (s : Schedule) (lun starts left : ℕ) : T
   pub phases_left : next + left ≡ 2 * length group
   pub other : starts ≢ left
 
--- a group named by its first request, with so many starts in place of two for each member
+-- a group named by its first request, with that many starts in place of two for each member
 pub record HasCounts (request starts phases : ℕ) (g : Placed) : Type 0 where
   pub told : first_id g.members ≡ request
   pub count : length g.starts ≡ starts

@@ -91,7 +91,7 @@ impl Schedule {
     }
 }
 
-/// No start for each of so many LUNs.
+/// No start for each of that many LUNs.
 pub fn no_starts(luns: usize) -> ArrayVec<Starts, 9>
     requires { luns ≤ 9 }
     ensures { result.items ≡ replicate luns [] }
