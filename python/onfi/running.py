@@ -2,9 +2,11 @@
 
 from __future__ import annotations
 
+import heapq
 import math
+from collections import deque
 from dataclasses import dataclass
-from typing import Dict, Iterable, Iterator, List, Optional, Protocol, Sequence, Set, Tuple, Union
+from typing import Deque, Dict, Iterable, Iterator, List, Optional, Protocol, Sequence, Tuple, Union
 
 from onfi import pictures
 from onfi.calls import row
@@ -48,15 +50,15 @@ class Source:
 
     def __init__(self, trace: Iterable[Arrival]) -> None:
         self._left = iter(trace)
-        self._outside: List[Want] = []
+        self._outside: Dict[int, Deque[Tuple[int, Want]]] = {}
         self.following = next(self._left, None)
         self.arrived: Dict[int, int] = {}
 
     def _take(self) -> None:
         assert self.following is not None
         time, want = self.following
+        self._outside.setdefault(want.lun, deque()).append((len(self.arrived), want))
         self.arrived[want.id] = time
-        self._outside.append(want)
         self.following = next(self._left, None)
         if self.following is not None and self.following[0] < time:
             raise ValueError(f"a trace whose times fall: {self.following[0]} after {time}")
@@ -65,18 +67,18 @@ class Source:
         """Gives the scheduler what has come by now; what a LUN has no room for waits, and what comes after it for that LUN. Those that it took."""
         while self.following is not None and self.following[0] <= now:
             self._take()
-        full: Set[int] = set()
+        heads = [(own[0][0], lun) for lun, own in self._outside.items() if own]
+        heapq.heapify(heads)
         taken: List[Want] = []
-        for want in self._outside:
-            if want.lun not in full:
-                try:
-                    scheduler.accept(want)
-                    taken.append(want)
-                except TooMany:
-                    full.add(want.lun)
-        if taken:
-            ids = {want.id for want in taken}
-            self._outside = [want for want in self._outside if want.id not in ids]
+        while heads:
+            own = self._outside[heapq.heappop(heads)[1]]
+            try:
+                scheduler.accept(own[0][1])
+            except TooMany:
+                continue
+            taken.append(own.popleft()[1])
+            if own:
+                heapq.heappush(heads, (own[0][0], taken[-1].lun))
         return taken
 
 

@@ -94,7 +94,7 @@ start_takes p g t operation ip (since, at, st) =
 pub start_counts : (p : Problem) (g : List Want) (operation : Operation) → IsProblem p → IsMove p (Start g) → commands_of (after p (Start g)) operation + (if same_operation operation (group_operation g) then 1 else 0) ≡ commands_of p operation
 start_counts p g operation ip im = start_takes p g (earliest p (Start g)) operation ip im
 
--- so many commands of an operation beside others
+-- this number of commands of an operation beside others
 longer : (timing : Timing) (k : Operation) (m t r p e : ℕ) → t ≡ r * timing.read.cmd + p * timing.program.cmd + e * timing.erase.cmd → m * (operation_spans timing k).cmd + t ≡ ((if same_operation Read k then m else 0) + r) * timing.read.cmd + ((if same_operation Program k then m else 0) + p) * timing.program.cmd + ((if same_operation Erase k then m else 0) + e) * timing.erase.cmd
 longer timing Read m t r p e h = let a = add-mul m r timing.read.cmd in let b = add-mul 0 p timing.program.cmd in let c = add-mul 0 e timing.erase.cmd in omega arith
 longer timing Program m t r p e h = let a = add-mul 0 r timing.read.cmd in let b = add-mul m p timing.program.cmd in let c = add-mul 0 e timing.erase.cmd in omega arith

@@ -115,7 +115,7 @@ impl Chain {
         }
     }
 
-    /// When the LUN is done at the earliest with this and so much more work, in ns.
+    /// When the LUN is done at the earliest with this and that much more work, in ns.
     #[inline(always)]
     pub fn done_by(&self, bus_free: u64, work: u64) -> u64
         requires { max bus_free self.now.from + self.now.commands + self.now.posts + self.now.waits + work < 2 ^ 62 }

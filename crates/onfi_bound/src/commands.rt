@@ -77,7 +77,7 @@ impl Commands {
         self.with(group.operation(), left as u8)
     }
 
-    // These and so many more of an operation.
+    // These and that many more of an operation.
     fn with(self, more: Operation, number: u8) -> Commands
         requires { (operation : AnyOperation) → count_of self operation + number < 2 ^ 8 }
         ensures { (operation : AnyOperation) → count_of result operation ≡ count_of self operation + (if same_operation operation more then number else 0) }

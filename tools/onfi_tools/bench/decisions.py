@@ -28,6 +28,8 @@ from onfi_tools.rolling_tables import title_with
 from onfi_tools.rolling_use import TWELVE, Asked, Configuration, output_of
 from onfi_tools.rolling_ways import BASE, title_of
 
+# Of nodes, where a way searches.
+LIMIT = 2000
 HOW = {"idle": "no", "ahead": "yes"}
 
 
@@ -59,7 +61,7 @@ def words(parser: argparse.ArgumentParser) -> None:
 
 def rate(program: Path, of: Configuration, by: Decisions, requests: int, seeds: int) -> float:
     """Requests a second, the mean of some seeds."""
-    asked = [Asked(requests, seed, limit=1, jobs=1) for seed in range(1, seeds + 1)]
+    asked = [Asked(requests, seed, LIMIT, jobs=1) for seed in range(1, seeds + 1)]
     runs = [output_of(program, of, it.requests_of(of), it, "way", by.way, *by.words()) for it in asked]
     return statistics.mean(float(line.split()[1]) for run in runs for line in run.splitlines() if line.startswith("rate "))
 
@@ -71,7 +73,7 @@ def shares(program: Path, of: Configuration, columns: List[List[Decisions]], ask
 
 
 def cell(numbers: List[float]) -> str:
-    return " / ".join(f"{number:.0f}" for number in numbers)
+    return ", ".join(f"{number:.0f}" for number in numbers)
 
 
 def main(asked: argparse.Namespace) -> int:
@@ -83,7 +85,7 @@ def main(asked: argparse.Namespace) -> int:
     means = [[statistics.mean(at) for at in zip(*column)] for column in zip(*found)]
     titles = [f"{title_of(column[0].way)}, {column[0].how}" for column in columns]
     rows = [[title_with(of), *map(cell, its)] for of, its in zip(TWELVE, found)]
-    first = f"% of throughput at 0 us; {' / '.join(f'{us:g}' for us in asked.us)} us a decision"
+    first = f"% of throughput at 0 us; {', '.join(f'{us:g}' for us in asked.us)} us a decision"
     print("\n".join([*table([first, *titles], [*rows, ["mean", *map(cell, means)]]), "",
                      f"seeds 1 to {asked.seeds}, {asked.requests:,} requests a run"]))
     return 0

@@ -19,10 +19,11 @@ from pathlib import Path
 from typing import Callable, Dict, Iterator, List, NamedTuple, Optional, Sequence, Tuple
 
 from onfi_tools import stacks
-from onfi_tools.bench import driver_costs, whole_plans
+from onfi_tools.bench import decisions, driver_costs, whole_plans
 from onfi_tools.bench.instructions import Program
 from onfi_tools.bench.runs import HARD, MOST, OVER, PROGRAM, ROOT, built, greatest_over, is_short, run
 from onfi_tools.kit import KIT
+from onfi_tools.rolling_use import TWELVE, build
 
 EXAMPLES = ROOT / "examples/c"
 NUMBER = re.compile(r"\d[\d,]*(?:\.\d+)?")
@@ -47,7 +48,8 @@ LIMITS = (200, 2000)
 LOADS = ("", " workload erases")
 HERE = "x86-64"
 CELL = r"([\d,]+(?:\.\d+)?)"
-WAYS = ("greedy", "phase by phase", "plans by the rule", "plans within", "plans early")
+# The driver's ways, each with that of the simulator of channels.
+WAYS = {"greedy": "rfirst:all", "phase by phase": "steady", "plans by the rule": "rule", "plans within": "plan", "plans early": "plan-early"}
 CALLS = {"plan": "plain", "plan --by within": "within", "plan --by within --early": "early"}
 
 
@@ -152,6 +154,18 @@ class Measured:
         calls = [sum(count for call, count in turns.calls.items() if call[5:].startswith(column)) for column in columns]
         own = turns.whole - sum(turns.calls.values())
         return [*map(thousands, (turns.whole, own, *filter(None, calls))), *([f"{turns.plans:.2f}"] if turns.plans else [])]
+
+    @functools.lru_cache(maxsize=None)
+    def simulator(self) -> Path:
+        return build(self.room / "rolling", self.libraries)
+
+    def rate(self, way: str, us: float, how: str) -> float:
+        return decisions.rate(self.simulator(), TWELVE[1], decisions.Decisions(WAYS[way], us, how), 4000, 1)
+
+    def decided(self, way: str) -> List[str]:
+        """What is left of the throughput phase by phase where a request's instructions take a ns each, half of them before each of its two phases."""
+        us, whole = self.turns(way).whole / 2000, self.rate("phase by phase", 0, "idle")
+        return [thousands(100 * self.rate(way, us, how) / whole) for how in decisions.HOW]
 
     def phase_by_phase(self) -> List[str]:
         """Instructions of a request, of its acceptance, and of two calls of a phase, of which a request has two."""
@@ -274,6 +288,7 @@ def speed_figures(of: Measured) -> Iterator[Figure]:
     yield Figure(page, nodes.format(CELL), of.nodes)
     for way in WAYS:
         yield Figure(page, rf"\| {re.escape(way)} " + 7 * rf"\| *(?:{CELL})? *" + r"\|", functools.partial(of.turn, way))
+        yield Figure(page, rf"\| {re.escape(way)} " + 7 * r"\|[^|\n]*" + rf"\| {CELL}; {CELL} \|", functools.partial(of.decided, way), 0.25)
     yield Figure("docs/REMEMBER.md", rf"`plan` opens {CELL} nodes or more, `plan --by within` at most {CELL}\.", of.opened, 0)
     for (name, way), requests in itertools.product(CALLS.items(), (1, 8)):
         yield Figure(page, rf"\| `{name}` of {requests} " + 3 * rf"\| {CELL} " + r"\|", functools.partial(of.whole_call, way, requests))
