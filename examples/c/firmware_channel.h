@@ -36,7 +36,7 @@ typedef struct {
 
 /* The device of that name: tlc, slc or qlc; null where there is none. */
 const device *device_of(const char *name);
-/* What is stated of it at so many ns a byte, also of reads of 1 to PAGE_SECTORS sectors; of so many LUNs, on which nothing runs. */
+/* What is stated of it at this number of ns a byte, also of reads of 1 to PAGE_SECTORS sectors; of this number of LUNs, on which nothing runs. */
 onfi_channel channel_of(const device *of, double byte, unsigned luns);
 /* The same of reads that all put out what those of a workload do: for what knows no lengths of sectors. */
 onfi_channel channel_for(const device *of, double byte, unsigned luns, unsigned workload);
@@ -103,7 +103,7 @@ typedef struct {
 /* What has the bus next by a rule, of LUNs from the one that has its turn on; false where there is nothing to do. */
 bool find_next(const onfi_channel *channel, const onfi_want *want, size_t count, const rule *by, unsigned turn, candidate *best);
 
-/* Puts the bytes that begin and end a phase (ONFI 4.2) of that kind and number, of so many members. */
+/* Puts the bytes that begin and end a phase (ONFI 4.2) of that kind and number, of that many members. */
 void put_bytes(onfi_phase *phase);
 
 #endif

@@ -39,7 +39,7 @@ static uint64_t cycle_at(double byte)
     return byte >= 20 ? 20 : 25;
 }
 
-/* How long so many bytes have the bus. */
+/* How long that many bytes have the bus. */
 static uint64_t time_of(double bytes, double byte)
 {
     return (uint64_t)(bytes * byte + 0.5);

@@ -182,7 +182,7 @@ void note_begin(driver *d, unsigned lun)
         d->member_arrived[lun][at] = leave_queue(d, d->channel.lun[lun].member[at].id);
 }
 
-/* A phase ended then: where that is later than is stated, bus and LUN are ready so much later too. */
+/* A phase ended then: where that is later than is stated, bus and LUN are ready that much later too. */
 static void note_end(driver *d, unsigned lun, uint64_t end)
 {
     if (end <= d->channel.bus_free)

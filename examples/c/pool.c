@@ -38,7 +38,7 @@ void *realloc(void *block, size_t bytes);
 void free(void *block);
 size_t pool_peak(void);
 
-/* How many units hold so many bytes; at least one. */
+/* How many units hold that many bytes; at least one. */
 static size_t units_of(size_t bytes)
 {
     return bytes ? (bytes - 1) / sizeof(unit) + 1 : 1;
@@ -56,7 +56,7 @@ static void join(size_t at)
         pool[at].block.units += 1 + pool[behind(at)].block.units;
 }
 
-/* Takes so many units of a block that has them, and leaves the rest as a free one. */
+/* Takes that many units of a block that has them, and leaves the rest as a free one. */
 static void *take(size_t at, size_t units)
 {
     if (pool[at].block.units > units) {

@@ -48,7 +48,7 @@ def cycle_of(byte: float) -> int:
 
 
 def time_of(data: int, byte: float) -> int:
-    """How long so many bytes have the bus, in ns."""
+    """How long that many bytes have the bus, in ns."""
     return int(data * byte + 0.5)
 
 

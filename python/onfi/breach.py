@@ -76,7 +76,7 @@ class Difference(enum.IntEnum):
 
 
 DIFFERENCES = {Difference.KIND: "kinds", Difference.LUN: "LUNs", Difference.PAGE: "pages", Difference.BLOCK: "block numbers above the plane bits"}
-# What a breach of each condition says; the names in it are those that it tells.
+# What a breach of each condition says; the names in it are those that it gives.
 SENTENCES: Dict[Condition, str] = {
     Condition.FOREIGN_LUN: "the schedule has starts for a LUN that isn't there; the last one is LUN {lun}",
     Condition.MISSING_LUN: "the schedule leaves out LUN {lun}",
@@ -103,7 +103,7 @@ SENTENCES: Dict[Condition, str] = {
 
 
 def told_by(condition: Condition) -> FrozenSet[str]:
-    """The names of what a breach of the condition tells."""
+    """The names of what a breach of the condition gives."""
     return frozenset(name for _, name, _, _ in string.Formatter().parse(SENTENCES[condition]) if name)
 
 
@@ -127,7 +127,7 @@ class NamedPhase:
 
 @dataclass(frozen=True)
 class Breach:
-    """The first condition that a schedule breaks; as a str it is one sentence. What it doesn't tell is None. Times are ns."""
+    """The first condition that a schedule breaks; as a str it is one sentence. What it doesn't say is None. Times are ns."""
 
     condition: Condition
     phase: Optional[NamedPhase] = None

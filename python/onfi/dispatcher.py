@@ -85,7 +85,7 @@ class Dispatcher:
         return self._phase.told()
 
     def ran(self, started: int) -> None:
-        """The phase that `next` gave runs from then on, in ns. One that takes longer than is stated may count as begun so much later.
+        """The phase that `next` gave runs from then on, in ns. One that takes longer than is stated may count as begun that much later.
 
         Raises `NothingDue` where something has changed since, or none was given; `TooSoon` before its start; `Clock` from 2^62 ns on.
         """

@@ -1,4 +1,4 @@
-/* Each condition of a legal schedule, broken by one change of a schedule that is legal, with all that is told of it; and refusals. */
+/* Each condition of a legal schedule, broken by one change of a schedule that is legal, with all that is reported of it; and refusals. */
 #include <onfi.h>
 
 #include <stdio.h>
@@ -35,7 +35,7 @@ static problem usual(void)
     };
 }
 
-/* LUN 1 runs an erase, whose status is out at 2,000 ns; its read begins behind it. */
+/* LUN 1 runs an erase, whose status is out at 2,000 ns; its read begins after it. */
 static problem running(void)
 {
     problem p = usual();
@@ -158,7 +158,7 @@ static void sectors(void)
     expect_broken("within a sector's", &broken, &BROKEN(OVERLAP, .phase = OUTPUT_OF(0), .start = 28319, .other = OUTPUT_OF(2), .held = 25240, .earliest = 28320));
 }
 
-/* What is no problem or no schedule is refused, and nothing is told. */
+/* What is no problem or no schedule is refused, and nothing is reported. */
 static void refuses(const char *what, const problem *p, uint32_t wanted)
 {
     onfi_broken broken, before;

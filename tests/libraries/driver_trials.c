@@ -28,7 +28,7 @@ typedef struct {
 typedef struct trial {
     const char *name;
     simulation of;
-    uint64_t resets; /* after so many phases LUN 0 is reset; 0: never */
+    uint64_t resets; /* after that many phases LUN 0 is reset; 0: never */
     bool each;       /* .. and again after as many */
     bool bad;        /* request 7 is of a block that is bad before */
 } trial;

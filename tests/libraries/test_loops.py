@@ -94,7 +94,7 @@ class Loop:
         self.test.assertEqual([(list(it.wants), list(it.starts)) for it in found.schedule.groups], [(list(it.wants), list(it.starts)) for it in wanted.schedule.groups])
 
     def run(self, most: int) -> None:
-        """Runs so many phases, or up to the end, where nothing is due."""
+        """Runs that many phases, or up to the end, where nothing is due."""
         for _ in range(most):
             parts = parts_of(self.channel, self.batch, self.schedule)
             if not parts:

@@ -37,7 +37,7 @@ def told(sent: Sequence[Cycle]) -> List[Item]:
 
 
 def sent_of(opener: int, address: int, *more: Cycle) -> List[Cycle]:
-    """An opener at 0 ns, so many address cycles, and others after them."""
+    """An opener at 0 ns, that many address cycles, and others after them."""
     return [cycle(0, "command", opener), *(cycle(1 + at, "address", at) for at in range(address)), *more]
 
 
@@ -147,7 +147,7 @@ class Cycles(unittest.TestCase):
         self.assertEqual((ran.returncode, ran.stdout, ran.stderr), (1, "", "decode: at 0 ns: it takes 141 ns, by the script 140\n"))
 
     def test_changed_captures_end_in_a_word(self) -> None:
-        """Cycles that are left out, swapped or changed: each phase that is told was shown, or what isn't one is named."""
+        """Cycles that are left out, swapped or changed: each phase that is reported was shown, or what isn't one is named."""
         phases = support.trace("batch")
         sent = shown(phases, GEOMETRY, DATA)
         for seed in range(200):

@@ -24,7 +24,7 @@ SHARES = {"50 %": 0.5, "95 %": 0.95, "99 %": 0.99, "99.9 %": 0.999}
 
 
 class Load(NamedTuple):
-    """The rows of the device in its own form and in the first, how its drive looks, and the operations as they arrive; so many may be outstanding."""
+    """The rows of the device in its own form and in the first, how its drive looks, and the operations as they arrive; that many may be outstanding."""
 
     script: List[str]
     device: List[str]

@@ -7,7 +7,7 @@ from onfi_tools.bench.runs import quantile, table
 from onfi_tools.rolling_use import TWELVE, WORKLOADS, Configuration, Measured
 from onfi_tools.rolling_ways import BASE, PLANS, title_of
 
-# Where its throughput is at most so much of the bound, in %, there may be something to gain.
+# Where its throughput is at most that much of the bound, in %, there may be something to gain.
 ROOM = 95
 # What a configuration is a part of, in the order in which tables have them.
 PART_TITLES: List[Callable[[Configuration], str]] = [

@@ -19,7 +19,7 @@ SHARED = ("firmware_host.c", "firmware_rule.c")
 OF_THE_LIBRARY = ("library.c",)
 STRICT = ("-std=c99", "-O2", "-Wall", "-Wextra", "-Werror", "-pedantic")
 
-# So many requests at least are answered where erases come: before, a way gains by leaving them undone.
+# That many requests at least are answered where erases come: before, a way gains by leaving them undone.
 WITH_ERASES = 10_000
 
 # The workloads of the 216 configurations; those of others are asked for by their names.
@@ -205,7 +205,7 @@ def bounds_there(program: Path, of: Configuration, asked: Asked) -> Dict[str, fl
 
 
 def measure(program: Path, configurations: Sequence[Configuration], ways: Sequence[str], asked: Asked, rows: Rows) -> List[Measured]:
-    """Runs each configuration by each way, so many at a time; beside the figures stands the bound that no way passes."""
+    """Runs each configuration by each way, that many at a time; beside the figures stands the bound that no way passes."""
     measured = [Measured(of, {}) for of in configurations]
     runs = [(one, way) for one in measured for way in ways]
 

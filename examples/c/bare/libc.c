@@ -96,7 +96,7 @@ double log(double number)
     return 2 * part * sum - halvings * 0.69314718055994531;
 }
 
-/* At least so many digits. */
+/* At least that many digits. */
 static void put_number(uint64_t number, unsigned least)
 {
     char digit[20];
@@ -110,7 +110,7 @@ static void put_number(uint64_t number, unsigned least)
         board_put(digit[--count]);
 }
 
-/* With so many digits after the point: the nearest such number, of two the even one. */
+/* With that many digits after the point: the nearest such number, of two the even one. */
 static void put_fixed(double number, unsigned digits)
 {
     uint64_t bits, ten = 1;

@@ -27,7 +27,7 @@ static int by_size(const void *one, const void *other)
     return (a > b) - (a < b);
 }
 
-/* The least latency that so many in a thousand don't pass, in us. */
+/* The least latency that this many in a thousand don't pass, in us. */
 static double not_passed(const uint64_t *sorted, size_t count, size_t in_a_thousand)
 {
     return count ? (double)sorted[(count * in_a_thousand + 999) / 1000 - 1] / 1000 : 0;

@@ -180,7 +180,7 @@ static const char *put_request(const row *row, const setup *setup, uint64_t line
     if (!sectors[1])
         return NULL;
     if (made->want.kind != ONFI_READ || sectors[1] > ONFI_SECTORS || !setup->channel.lengths.sectors[sectors[1] - 1])
-        return "sectors of what is no read, or so many that the device states no length of them";
+        return "sectors of what is no read, or a number of sectors of which the device states no length";
     made->want.kind = ONFI_KIND(ONFI_READ, sectors[1]);
     return NULL;
 }

@@ -72,7 +72,7 @@ static const char *breach_of_place(const judge *j, const step *step, size_t at)
     return breach;
 }
 
-/* Whether the LUN may go on, or begin so many, then: bus and LUN are free of others. */
+/* Whether the LUN may go on, or begin that many, then: bus and LUN are free of others. */
 static const char *breach_of_turn(const judge *j, const step *step, fault *wrong)
 {
     const running *lun = &j->lun[step->lun];

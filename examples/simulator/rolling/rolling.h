@@ -62,7 +62,7 @@ typedef struct {
 extern const char *const KIND_NAMES[KINDS];
 /* The workload of that name; false where there is none. */
 bool put_workload(const char *name, unsigned *workload);
-/* Puts timing and rules of a device by name, at so many ns a byte, for the workload; false where there is no such device. */
+/* Puts timing and rules of a device by name, at that many ns a byte, for the workload; false where there is no such device. */
 bool put_device(const char *name, double byte, setup *setup);
 /* Puts those of a device of a file, and its LUNs; null, or what is wrong, of which line (0: of the whole). */
 const char *read_device(FILE *file, setup *setup, uint64_t *line);
@@ -132,7 +132,7 @@ typedef struct {
     unsigned lun;
     bool is_post;
     onfi_want want; /* whose command or post it is */
-    unsigned number, members; /* its number in a group of so many */
+    unsigned number, members; /* its number in a group of that many */
     size_t opens; /* of how many members the group is that it begins; 0: it begins none */
     uint64_t array; /* where it is a group's last command: how long the array takes in truth */
 } phase;
@@ -151,7 +151,7 @@ void accept_request(machine *m, onfi_want want, uint64_t arrived);
 bool tell_ready(machine *m);
 /* When the next LUN becomes so; NEVER where none does. */
 uint64_t next_told(const machine *m);
-/* How long the array of a group with that first member takes in truth, where so much is stated. */
+/* How long the array of a group with that first member takes in truth, where that much is stated. */
 uint64_t real_array(const setup *setup, const onfi_want *first, uint64_t stated);
 /* The channel now, and requests that wait on it, as the library takes them. */
 typedef struct {
@@ -159,7 +159,7 @@ typedef struct {
     onfi_want want[MOST_WAITING];
 } said;
 
-/* Those at so many places; all where there are no places. */
+/* Those at that many places; all where there are no places. */
 void say(const machine *m, const size_t *place, size_t count, said *said);
 /* Runs a legal step: what is on the bus, and of which request it was where it is a post. */
 phase run_step(machine *m, const step *step, request *answered);
@@ -295,7 +295,7 @@ typedef struct {
     FILE *answers; /* each answer: its request, the line that is reported of it, its kind and LUN, when it arrived and ended; null: none */
 } printed;
 
-/* Runs the channel by a way until so many requests are answered; false where something is wrong. */
+/* Runs the channel by a way until that many requests are answered; false where something is wrong. */
 bool simulate(const setup *setup, const way *way, const printed *to, figures *figures, fault *wrong);
 
 #endif
