@@ -4,13 +4,13 @@ use Rattle.onfi_addr.specs.declared.geometry.Geometry.{Geometry}
 use Rattle.onfi_addr.specs.declared.place.Place.{Place}
 use Rattle.onfi_addr.specs.Rows.{row_of}
 
--- a device of one chip enable may be there so many times on a channel
+-- a device of one chip enable may be there that many times on a channel
 pub record MayHaveEnables (geometry : Geometry) (count : ℕ) : Type 0 where
   pub some : 1 ≤ count
   pub few : geometry.lun_count * count ≤ 8
   pub single : geometry.luns_per_enable ≡ geometry.lun_count
 
--- the channel of so many such devices, which in all else is as one of them
+-- the channel of that many such devices, which in all else is as one of them
 pub record IsChannelOf (device : Geometry) (count : ℕ) (channel : Geometry) : Type 0 where
   pub lun_count : channel.lun_count ≡ device.lun_count * count
   pub luns_per_enable : channel.luns_per_enable ≡ device.luns_per_enable

@@ -119,7 +119,7 @@ impl Geometry {
         }
     }
 
-    /// The same device, whose reads may put out sectors of so many bytes; `None` where a page has fewer, or a sector none.
+    /// The same device, whose reads may put out sectors of that many bytes; `None` where a page has fewer, or a sector none.
     pub fn with_sector_bytes(self, bytes: u16) -> Option<Geometry>
         ensures some { IfSome result (λ geometry. IsSectorSize self bytes × (geometry ≡ record self { sector_bytes = bytes })) }
         ensures none { IfNone result (¬ IsSectorSize self bytes) }
@@ -132,7 +132,7 @@ impl Geometry {
         Some(geometry)
     }
 
-    /// The channel of so many such devices, each on a chip enable of its own: the LUNs of the first chip enable come
+    /// The channel of that many such devices, each on a chip enable of its own: the LUNs of the first chip enable come
     /// first. `None` where the count is 0, the LUNs would be more than 8, or there are several chip enables already.
     pub fn with_chip_enables(self, count: u8) -> Option<Geometry>
         ensures some { IfSome result (λ geometry. MayHaveEnables self count × IsChannelOf self count geometry) }

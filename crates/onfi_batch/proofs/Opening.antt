@@ -81,7 +81,7 @@ from_0 : (since : ℕ) (starts : List ℕ) → 0 ≡ since → StartsFrom since 
 from_0 since [] e = tt
 from_0 since (t ∷ ts) e = omega (arith, e)
 
--- where nothing runs a schedule is legal for so many free LUNs too
+-- where nothing runs a schedule is legal for that many free LUNs too
 module _ (p : Problem) (s : Schedule) (n : ℕ) (problem : IsProblem p) (legal : Legal p s) (nothing : NothingRuns p.luns)
     (below : All (λ (w : Want). w.lun < n) p.wants) where
   abbrev now : Problem

@@ -46,7 +46,7 @@ half_of accepted now left replies = record {
 abbrev pub state_of : Course → HalfState
 state_of c = half_of c.items.items c.flight.now c.flight.left c.replies.items
 
--- nothing of the schedule is done, and so many LUNs are free
+-- nothing of the schedule is done, and that many LUNs are free
 abbrev pub opening : ℕ → Problem → Schedule → List Item → HalfState
 opening luns p s items = half_of items (record p { luns = replicate luns (Free 0) }) (record { rest = replicate luns []; groups = s.groups }) []
 

@@ -11,7 +11,7 @@ use onfi_samples::{sample_geometry, sample_timing};
 use std::alloc::{AllocError, Global};
 use std::process::Abort;
 
-/// Channels of four hosts, whose queues have so much room.
+/// Channels of four hosts, whose queues have that much room.
 pub(crate) fn setup_of(rt: &impl Abort, channels: u8, room: u16) -> Setup
     ensures { (result.channels ≡ channels) × (result.hosts ≡ 4) }
 {

@@ -2,11 +2,11 @@
 use Rattle.std.specs.Prelude.{ℕ, ◌+◌, ◌-◌, ◌^◌, min, ◌==◌, nat_lt, Bool, if◌then◌else◌, List, [], ◌∷◌}
 use Rattle.std.specs.List.{list_any}
 
--- whether the next call fails, after so many
+-- whether the next call fails, after that many
 abbrev pub fails_at : List ℕ → ℕ → Bool
 fails_at failing made = list_any (λ n. n == made) failing
 
--- how many of so many calls failed
+-- how many of that many calls failed
 abbrev pub failed : List ℕ → ℕ → ℕ
 failed [] made = 0
 failed (n ∷ ns) made = (if nat_lt n made then 1 else 0) + failed ns made

@@ -108,7 +108,7 @@ impl Lane {
     }
 }
 
-/// So many idle LUNs.
+/// That many idle LUNs.
 pub(crate) fn idle_lanes(alloc: Global, count: u8) -> Result<Vec<Lane>, AllocError>
     ensures { IfOk result (λ lanes. lanes.items ≡ replicate count Idle) }
 {

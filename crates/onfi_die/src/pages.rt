@@ -6,7 +6,7 @@ ghost use Rattle.onfi_die.specs.declared.page.Page.TheVariants.{Erased, Torn};
 use crate::page::Page;
 use std::alloc::{AllocError, Global};
 
-/// So many erased pages.
+/// That many erased pages.
 pub(crate) fn erased_pages(alloc: Global, count: u16) -> Result<Vec<Page>, AllocError>
     ensures { IfOk result (λ pages. pages.items ≡ replicate count Erased) }
 {

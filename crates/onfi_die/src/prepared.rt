@@ -95,7 +95,7 @@ impl Prepared {
     }
 }
 
-// So many bytes of a page, from that one on, in room that has as many or more.
+// That many bytes of a page, from that one on, in room that has as many or more.
 fn read_part(page: &Page, from: usize, count: usize, room: Vec<u8>) -> Answer
     requires there { (bytes : ℕ) × IsWide bytes page.now × (from + count ≤ bytes) }
     requires room { count ≤ length room.items }

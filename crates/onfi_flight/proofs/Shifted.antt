@@ -28,7 +28,7 @@ abbrev pub later_state : ℕ → LunState → LunState
 later_state by (Free since) = Free (since + by)
 later_state by (Running group next ready) = Running group next (ready + by)
 
--- the problem with the bus free from then on, and all that its LUNs do later by so much
+-- the problem with the bus free from then on, and all that its LUNs do later by that much
 abbrev pub later_problem : ℕ → ℕ → Problem → Problem
 later_problem by moment p = record p { bus_free = moment; luns = map (later_state by) p.luns }
 
@@ -223,7 +223,7 @@ later_legal p s by moment legal from =
     sooner_legal p.timing p.rules p.wants moment moment p.luns (map (later_state by) p.luns) (later by s) none (luns_later by p.luns)
     (later_is_legal p s by legal moment from)
 
--- all of it later by so much
+-- all of it later by that much
 pub shifted_legal : (p : Problem) (s : Schedule) (by : ℕ) → Legal p s → Legal (later_problem by (p.bus_free + by) p) (later by s)
 shifted_legal p s by legal =
     later_is_legal p s by legal (p.bus_free + by) (All-weaker (λ x. p.bus_free ≤ x.start) (λ x. p.bus_free + by ≤ x.start + by) (λ x h. omega arith)

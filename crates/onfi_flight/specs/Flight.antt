@@ -29,7 +29,7 @@ pub record IsFlight (f : Flight) : Type 0 where
   pub few : length f.now.wants ≤ 8
   pub legal : Legal f.now f.left
 
--- the bus is free from then on and so many LUNs from 0 on, nothing waits and nothing is planned
+-- the bus is free from then on and that many LUNs from 0 on, nothing waits and nothing is planned
 abbrev pub idle : Timing → Rules → ℕ → ℕ → Flight
 idle timing rules bus_free luns = record {
   now = record { timing = timing; rules = rules; bus_free = bus_free; luns = replicate luns (Free 0); wants = [] };

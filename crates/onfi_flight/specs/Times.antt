@@ -12,7 +12,7 @@ later_starts by starts = map (λ t. t + by) starts
 abbrev pub later_group : ℕ → Placed → Placed
 later_group by g = record { members = g.members; starts = later_starts by g.starts }
 
--- the schedule with all its starts later by so much
+-- the schedule with all its starts later by that much
 abbrev pub later : ℕ → Schedule → Schedule
 later by s = record { rest = map (later_starts by) s.rest; groups = map (later_group by) s.groups }
 
@@ -34,7 +34,7 @@ latest_start (t ∷ ts) = max t (latest_start ts)
 abbrev pub free_at : Problem → ℕ → Problem
 free_at p moment = record p { bus_free = moment }
 
--- a legal schedule with all starts later by so much is legal where the bus is free before each of them
+-- a legal schedule with all starts later by that much is legal where the bus is free before each of them
 abbrev pub LaterLaw : Type 0
 LaterLaw = (p : Problem) (s : Schedule) (by moment : ℕ) → Legal p s → Each (λ x. moment ≤ x.start + by) (phases p s) → Legal (free_at p moment) (later by s)
 

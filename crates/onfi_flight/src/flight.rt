@@ -58,7 +58,7 @@ pub enum Next {
 }
 
 impl Flight {
-    /// Nothing runs, nothing waits and nothing is planned: the bus is free from then on, and so many LUNs from 0 on.
+    /// Nothing runs, nothing waits and nothing is planned: the bus is free from then on, and that many LUNs from 0 on.
     pub fn idle(alloc: Global, timing: Timing, rules: Rules, bus_free: u64, lun_count: u8) -> Flight
         requires { lun_count ≤ 8 }
         ensures { result ≡ idle timing rules bus_free lun_count }

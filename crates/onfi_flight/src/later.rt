@@ -8,7 +8,7 @@ use arrayvec::ArrayVec;
 use onfi_schedule::{Placed, Schedule, Starts};
 use std::alloc::Global;
 
-// The schedule with all starts later by so many ns; this takes no memory.
+// The schedule with all starts later by that many ns; this takes no memory.
 pub(crate) fn delay_schedule(alloc: Global, by: u64, schedule: &Schedule) -> Schedule
     requires rest { Each (λ starts. Each (λ t. t + by < 2 ^ 63) starts) schedule.now.rest }
     requires groups { Each (λ g. Each (λ t. t + by < 2 ^ 63) g.starts) schedule.now.groups }
@@ -20,7 +20,7 @@ pub(crate) fn delay_schedule(alloc: Global, by: u64, schedule: &Schedule) -> Sch
     )
 }
 
-// What is left of running groups, later by so much.
+// What is left of running groups, later by that much.
 fn later_rest(by: u64, rest: &[Starts]) -> ArrayVec<Starts, 9>
     requires few { length rest.now ≤ 9 }
     requires early { Each (λ starts. Each (λ t. t + by < 2 ^ 63) starts) rest.now }
@@ -33,7 +33,7 @@ fn later_rest(by: u64, rest: &[Starts]) -> ArrayVec<Starts, 9>
     later
 }
 
-// New groups, later by so much.
+// New groups, later by that much.
 fn delay_groups(alloc: Global, by: u64, groups: &[Placed]) -> ArrayVec<Placed, 8, Global>
     requires few { length groups.now ≤ 8 }
     requires early { Each (λ g. Each (λ t. t + by < 2 ^ 63) g.starts) groups.now }
@@ -46,7 +46,7 @@ fn delay_groups(alloc: Global, by: u64, groups: &[Placed]) -> ArrayVec<Placed, 8
     later
 }
 
-// A group, later by so much.
+// A group, later by that much.
 fn delay_group(by: u64, placed: &Placed) -> Placed
     requires { Each (λ t. t + by < 2 ^ 63) placed.now.starts }
     ensures { result ≡ later_group by placed.now }
@@ -54,7 +54,7 @@ fn delay_group(by: u64, placed: &Placed) -> Placed
     Placed::new(placed.members().copy(), later_starts(by, placed.starts()))
 }
 
-// Starts that are later by so much.
+// Starts that are later by that much.
 fn later_starts(by: u64, starts: &Starts) -> Starts
     requires { Each (λ t. t + by < 2 ^ 63) starts.now }
     ensures { result ≡ later_starts by starts.now }

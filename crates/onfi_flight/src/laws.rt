@@ -28,13 +28,13 @@ pub fn ready_stays_legal()
     ensures { ReadyStays }
 {}
 
-/// All starts of a legal schedule later by so much are legal where the bus is free before each of them.
+/// All starts of a legal schedule later by that much are legal where the bus is free before each of them.
 #[tactic(auto, using(crate::proofs::Shifted::later_legal))]
 pub fn later_is_legal()
     ensures { LaterLaw }
 {}
 
-/// All starts of a legal schedule later by so much are legal where the bus is free later by at most as much, and the
+/// All starts of a legal schedule later by that much are legal where the bus is free later by at most as much, and the
 /// schedule ends at most as much later.
 pub fn shifted_is_legal()
     ensures { ShiftLaw }

@@ -34,7 +34,7 @@ impl Luns {
         }
     }
 
-    /// So many LUNs that are free from 0 on.
+    /// That many LUNs that are free from 0 on.
     pub(crate) fn free(count: u8) -> Luns
         requires { count ≤ 8 }
         ensures { result ≡ replicate count (Free 0) }

@@ -75,7 +75,7 @@ cut_at notes f groups line = record {
 
 -- All pieces
 
--- how many groups from the first on have at most eight requests, after so many
+-- how many groups from the first on have at most eight requests, after that many
 abbrev pub few_groups : ℕ → List Noted → ℕ
 few_groups count [] = 0
 few_groups count (n ∷ groups) = if nat_le (count + length n.members) 8 then 1 + few_groups (count + length n.members) groups else 0

@@ -48,7 +48,7 @@ pub record Noted : Type 0 where
 abbrev pub fresh : Noted
 fresh = record { members = []; is_over = false; end = 0 }
 
--- so many of which nothing is noted
+-- that many of which nothing is noted
 abbrev pub all_fresh : ℕ → List Noted
 all_fresh zero = []
 all_fresh (suc n) = all_fresh n ++ fresh ∷ []

@@ -43,7 +43,7 @@ IsShortClass rules w = (page_class w < 2 ^ 16) × (above_class rules w < 2 ^ 16)
 abbrev pub no_count : Count
 no_count = record { class = 0; planes = 0 ∷ 0 ∷ 0 ∷ 0 ∷ [] }
 
--- of these requests, which are a LUN's, so many of that class came on each plane, and none of a class of a higher number
+-- of these requests, which are a LUN's, that many of that class came on each plane, and none of a class of a higher number
 pub record IsCountedOf (rules : Rules) (wants : List Want) (count : Count) : Type 0 where
   pub below : Each (λ v. IsShortClass rules v × (class_number rules v ≤ count.class)) wants
   pub planes : (w : Want) → IsShortClass rules w → class_number rules w ≡ count.class → count.planes ≡ plane_counts rules w wants
@@ -68,7 +68,7 @@ IsAdded timing rules wants i time =
     let spans = spans_of timing w.kind in
     time ≡ spans.cmd + spans.post + added_wait spans rules (on_lun w.lun (take i wants)) w
 
--- when a LUN is done at the earliest that does this and has so much more to do
+-- when a LUN is done at the earliest that does this and has that much more to do
 abbrev pub die_by : Timing → ℕ → LunState → ℕ → ℕ
 die_by timing bus_free (Free since) work = if work == 0 then bus_free else max bus_free since + work
 die_by timing bus_free (Running group next ready) work = max bus_free ready + chain_time timing (Running group next ready) + work

@@ -29,7 +29,7 @@ fn gaps_of(alloc: Global, pieces: &[Piece]) -> Result<Vec<u64>, AllocError>
     Ok(gaps)
 }
 
-/// The sum of so many numbers.
+/// The sum of that many numbers.
 fn total(numbers: &[u64]) -> u128
     ensures sum { result ≡ sum numbers.now }
     ensures most { result ≤ length numbers.now * 18446744073709551615 }

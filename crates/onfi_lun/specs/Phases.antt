@@ -71,14 +71,14 @@ pub record IsDue (geometry : Geometry) (chip : Chip) (lun : Lun Posting) (now : 
 abbrev pub OthersStay : ℕ → Chip → Chip → Type 0
 OthersStay number old new = (other : ℕ) → other ≢ number → slice_get new.luns other ≡ slice_get old.luns other
 
--- a LUN that took so many commands, the last with that closer, and is held until that moment
+-- a LUN that took that many commands, the last with that closer, and is held until that moment
 abbrev pub IsMade : Closer → ℕ → ℕ → ℕ → Commanded → Type 0
 IsMade closer.More number commands ready (commanded.More lun) = (lun.number ≡ number) × (lun.state.commands ≡ commands) × (lun.state.ready ≡ ready)
 IsMade closer.More number commands ready (commanded.Last lun) = ⊥
 IsMade closer.Last number commands ready (commanded.More lun) = ⊥
 IsMade closer.Last number commands ready (commanded.Last lun) = (lun.number ≡ number) × (lun.state.members ≡ commands) × (lun.state.ready ≡ ready)
 
--- a LUN after a post, of which so many were left before it
+-- a LUN after a post, of which that many were left before it
 abbrev pub IsBehind : ℕ → ℕ → ℕ → Posted → Type 0
 IsBehind number left ready (posted.More lun) = (lun.number ≡ number) × (lun.state.left + 1 ≡ left) × (lun.state.ready ≡ ready)
 IsBehind number left ready (posted.Last lun) = (lun.number ≡ number) × (left ≡ 1)

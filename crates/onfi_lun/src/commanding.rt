@@ -85,7 +85,7 @@ impl Lun<Queuing> {
     }
 }
 
-// The LUN that took so many commands, the last with that closer.
+// The LUN that took that many commands, the last with that closer.
 fn make_commanded(number: u8, commands: u8, ready: u64, closer: Closer) -> Commanded
     requires some { 1 ≤ commands }
     requires few { commands ≤ 4 }

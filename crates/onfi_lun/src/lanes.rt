@@ -44,7 +44,7 @@ impl Model for Lanes {
 }
 
 impl Lanes {
-    /// The LUNs of a chip as it opened, so many: nothing runs on any.
+    /// The LUNs of a chip as it opened, that many: nothing runs on any.
     ///
     /// # Errors
     /// Where memory was refused.
@@ -209,7 +209,7 @@ fn closer_of(due: &Due) -> Closer
     }
 }
 
-// So many LUNs on which nothing runs, by number.
+// That many LUNs on which nothing runs, by number.
 fn idle_luns(alloc: Global, count: u8) -> Result<Vec<AnyLun>, AllocError>
     ensures { IfOk result (λ luns. AreIdle count luns.items) }
 {

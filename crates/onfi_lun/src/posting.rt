@@ -54,7 +54,7 @@ impl Lun<Posting> {
     }
 }
 
-// The LUN after a post, of which so many were left before it.
+// The LUN after a post, of which that many were left before it.
 fn after_post(number: u8, left: u8, ready: u64) -> Posted
     requires some { 1 ≤ left }
     requires few { left ≤ 4 }

@@ -11,7 +11,7 @@ AreNumbered geometry host serial [] = Unit {0}
 AreNumbered geometry host serial (x ∷ xs) =
     (x.host ≡ host) × (x.serial ≡ serial) × Fits geometry x.request × AreNumbered geometry host (serial + 1) xs
 
--- the item may come next after these: it is of one of so many hosts, has that host's next serial, and the device takes it
+-- the item may come next after these: it is of one of that many hosts, has that host's next serial, and the device takes it
 pub record IsNext (geometry : Geometry) (hosts : ℕ) (accepted : List Item) (x : Item) : Type 0 where
   pub host : x.host < hosts
   pub serial : x.serial ≡ length (items_from x.host accepted)

@@ -41,7 +41,7 @@ impl Poster {
     ///
     /// # Errors
     /// The reply comes back, and nothing is posted, where the queue was full. Of that the contract says only that a full
-    /// queue goes with what was posted, as it may once so many were: that a reply goes out where there is room is tested.
+    /// queue goes with what was posted, as it may once that many were: that a reply goes out where there is room is tested.
     pub fn post<R: Wait>(&mut self, rt: &R, reply: Reply) -> Result<(), Reply>
         requires { IsNext self.old.opened self.old.posted reply }
         ensures posted { OnOk result (self.new ≡ after_posting self.old reply) }

@@ -100,7 +100,7 @@ impl<'a> Page<'a> {
         }
     }
 
-    // A line of input: itself, a named text, or the line before it so many times more.
+    // A line of input: itself, a named text, or the line before it that many times more.
     fn put_input(&mut self, line: &'a str) -> Result<(), AllocError> {
         if let Some(times) = line.strip_prefix("&again ") {
             return self.put_again(times.parse::<u32>().unwrap_or(0));

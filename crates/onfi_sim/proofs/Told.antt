@@ -36,7 +36,7 @@ read_answers : (named : Named) (input : Option (List ℕ)) (xs : List ℕ) (answ
 read_answers named None xs answer e is = tt
 read_answers named (Some ys) xs answer e is = subst (λ zs. AnswersNamed named zs answer) e is
 
--- .. and what is said in place of none
+-- .. and what stands in place of none
 pub all_answers : (named : Named) (input : Option (List ℕ)) (xs : List ℕ) (r : Result Made AllocError)
     → IfSome input (λ ys. xs ≡ ys) → IfOk r (λ a. AnswersNamed named xs (answer_of a)) → IfSome input (λ ys. AnswersNamed named ys (told_of r))
 all_answers named input xs (Ok a) e is = read_answers named input xs (answer_of a) e is
@@ -115,7 +115,7 @@ pub measured : (options : GapOptions) (xs : List ℕ) (r : Result Made AllocErro
 measured options xs (Ok a) is = inr is
 measured options xs (Err refused) is = tt
 
--- a run within so many nodes, and a beginning of its answer
+-- a run within that many nodes, and a beginning of its answer
 pub run_told : (options : RunOptions) (nodes : Option ℕ) (input old new : Option (List ℕ)) (r : Result ℕ EngineFault) → nodes ≡ nodes_of options
     → IfOk r (λ s. RunAnswers options.clocked nodes input old new s) → IfOk r (λ s. CarriesOut (Run options) input old new s)
 run_told options nodes input old new r e is = subst (λ n. IfOk r (λ s. RunAnswers options.clocked n input old new s)) e is

@@ -32,7 +32,7 @@ abbrev pub joined : List ℕ → Option (List ℕ) → List ℕ
 joined script None = script
 joined script (Some text) = script ++ (line_end script ++ text)
 
--- what is said of a search that is over: by one worker, or by several
+-- what is reported of a search that is over: by one worker, or by several
 abbrev pub TellsBy : Bool → ℕ → Posed → ℕ → Type 0
 TellsBy true = OneTells
 TellsBy false = PartsTell

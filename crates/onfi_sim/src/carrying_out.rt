@@ -36,7 +36,7 @@ fn write_answer<W: Write>(
     }
 }
 
-/// Plans the problem of a script by so many workers, more than one; no other command has several.
+/// Plans the problem of a script by that many workers, more than one; no other command has several.
 fn carry_out_by_workers<T: Threads + Sync, I: Read, W: Write>(
     rt: &T,
     alloc: Global,

@@ -90,7 +90,7 @@ impl Played {
         Ok(Played { alloc, core })
     }
 
-    /// What a row says to do, so many times.
+    /// What a row says to do, that many times.
     fn play(&mut self, rt: &impl Print, row: &Row, times: u64) -> Result<(), Ended> {
         for _time in 0..times {
             match row.word {

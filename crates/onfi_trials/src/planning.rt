@@ -29,7 +29,7 @@ fn say_plan(rt: &impl Print, planned: &Planned) -> Result<(), Ended> {
     say_groups(rt, &planned.schedule)
 }
 
-/// Plans with a search of at most so many nodes; once more where memory was refused.
+/// Plans with a search of at most that many nodes; once more where memory was refused.
 fn plan_within(rt: &impl Print, alloc: Global, problem: &Problem, limit: u32) -> Result<(), Ended>
     requires some { 1 ≤ limit }
     requires few { limit ≤ 1048576 }

@@ -46,7 +46,7 @@ pub(crate) enum Word {
     Collect,
     /// How many wants a plan has.
     Batch,
-    /// What is said of the last plan.
+    /// What is reported of the last plan.
     Last,
     Turn,
     /// A moment.

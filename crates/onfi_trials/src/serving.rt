@@ -88,7 +88,7 @@ impl Served {
         })
     }
 
-    /// What a row says to do, so many times.
+    /// What a row says to do, that many times.
     fn play<R: Print + Wait>(&mut self, rt: &R, row: &Row, times: u64) -> Result<(), Ended> {
         let [first, second, ..] = row.numbers;
         for _time in 0..times {
