@@ -53,9 +53,13 @@ def first_form(text: str) -> List[str]:
         numbers = page_numbers(text)
         shapes = [",".join(map(str, ("shape", *(numbers[name] for name in ("luns", "plane_bits", "multi_plane_reads", "multi_plane_writes")))))]
     spans = [",".join(map(str, ("spans", kind, *lengths[kind]))) for kind in KINDS]
-    posts = {int(row[1]): int(row[2]) for row in rows if row[:1] == ["sectorpost"]} or dict(enumerate(outputs_of(text), 1))
     strict = [",".join(row) for row in rows if row[:1] == ["strict"]]
-    return [*shapes, *spans, *(f"sectorpost,{count},{post}" for count, post in sorted(posts.items())), *strict]
+    return [*shapes, *spans, *(f"sectorpost,{count},{post}" for count, post in sorted(posts_of(text).items())), *strict]
+
+
+def posts_of(text: str) -> Dict[int, int]:
+    """How long an output of so many sectors holds the bus in ns, by their count."""
+    return {int(row[1]): int(row[2]) for row in rows_of(text) if row[:1] == ["sectorpost"]} or dict(enumerate(outputs_of(text), 1))
 
 
 def outputs_of(text: str) -> List[int]:

@@ -38,6 +38,8 @@ class Phase(NamedTuple):
     # The request of `--requests`, and which line it is.
     request: Optional[str] = None
     line: int = 0
+    # How many sectors of its page the read puts out; 0 where the line doesn't say it.
+    sectors: int = 0
 
 
 class Overlap(NamedTuple):
@@ -78,14 +80,21 @@ class Window(NamedTuple):
         return [it._replace(start=max(it.start, self.begin), end=min(it.end, self.end)) for it in within]
 
 
-def read_trace(lines: Iterable[str], lengths: Optional[Mapping[str, Spans]] = None) -> List[Phase]:
-    """The phases of a trace, in its order, or where the lengths are known those of a log that doesn't say when they end; ValueError
-    names the first line that is none. Comments, which begin with #, are passed over."""
+def read_trace(lines: Iterable[str], lengths: Optional[Mapping[str, Spans]] = None, posts: Optional[Mapping[int, int]] = None) -> List[Phase]:
+    """The phases of a trace, in its order, or where the lengths are known, with those of outputs by their count of sectors, those of a
+    log that doesn't say when they end; ValueError names the first line that is none. Comments, which begin with #, and lines that say
+    when a LUN was ready are passed over."""
     phases: List[Phase] = []
     for number, line in enumerate(lines, 1):
-        if line.strip() and not line.startswith("#"):
-            phases.append(phase_of(number, line if lengths is None else with_end(line, lengths)))
+        if line.strip() and not line.startswith("#") and not is_report(line):
+            phases.append(phase_of(number, line if lengths is None else with_end(line, lengths, posts or {})))
     return phases
+
+
+def is_report(line: str) -> bool:
+    """Whether a line of a log says when a LUN was ready."""
+    fields = line.split()
+    return len(fields) == 3 and is_number(fields[0]) and is_number(fields[1]) and fields[2] in ("ready", "edge")
 
 
 def overlaps(phases: List[Phase]) -> List[Overlap]:
@@ -104,27 +113,39 @@ def is_number(field: str) -> bool:
     return field.isascii() and field.isdigit()
 
 
-def with_end(line: str, lengths: Mapping[str, Spans]) -> str:
+def sectors_in(page: str) -> Optional[int]:
+    """How many sectors PAGE:COUNT counts, 0 where no COUNT stands there; None where it is no number from 1 to 7."""
+    colon, count = page.partition(":")[1:]
+    if not colon:
+        return 0
+    return int(count) if is_number(count) and 1 <= int(count) <= 7 else None
+
+
+def with_end(line: str, lengths: Mapping[str, Spans], posts: Mapping[int, int]) -> str:
     """A line of a log, START LUN KIND PART BLOCK PAGE [REQUEST], as a trace has it, without command bytes; any other as it is."""
     fields = line.split()
     if len(fields) not in (6, 7) or not is_number(fields[0]) or fields[2] not in lengths:
         return line
     spans = lengths[fields[2]]
-    end = int(fields[0]) + (spans.post if fields[3] == "post" else spans.cmd)
+    post = posts.get(sectors_in(fields[5]) or 0, spans.post)
+    end = int(fields[0]) + (post if fields[3] == "post" else spans.cmd)
     return " ".join([fields[0], str(end), *fields[1:6], "-", "-", *fields[6:]])
 
 
 def phase_of(number: int, line: str) -> Phase:
     fields = line.split()
     request = fields.pop() if len(fields) == 10 and (is_number(fields[9]) or fields[9] == "-") else None
-    numbers = fields[:3] + fields[5:7]
-    if len(fields) != 9 or not all(map(is_number, numbers)):
-        raise ValueError(f"line {number}: not a line of a trace: {line.strip()}")
+    fault = ValueError(f"line {number}: not a line of a trace: {line.strip()}")
+    if len(fields) != 9:
+        raise fault
+    numbers, sectors = [*fields[:3], fields[5], fields[6].partition(":")[0]], sectors_in(fields[6])
+    if sectors is None or not all(map(is_number, numbers)):
+        raise fault
     start, end, lun, block, page = map(int, numbers)
     kind, part = fields[3:5]
-    if start >= end or lun >= LUNS or kind not in KINDS or part not in PART_WORDS:
-        raise ValueError(f"line {number}: not a line of a trace: {line.strip()}")
-    return Phase(start, end, lun, kind, part == "post", block, page, fields[7], fields[8], request, number)
+    if start >= end or lun >= LUNS or kind not in KINDS or part not in PART_WORDS or (sectors and kind != "read"):
+        raise fault
+    return Phase(start, end, lun, kind, part == "post", block, page, fields[7], fields[8], request, number, sectors)
 
 
 def whole(phases: List[Phase]) -> Window:
