@@ -44,7 +44,7 @@ apart (n ∷ ns) once = (
   apart ns (λ i. (let one = once i in omega (arith, one))),
 )
 
--- so many distinct places of what was accepted
+-- that many distinct places of what was accepted
 few_places : (s : Setup) (accepted : List Item) (ns : List ℕ) → ((i : ℕ) → times_in i ns ≤ number (has_id i) (wants_from s.geometry 0 accepted)) → length ns ≤ length accepted
 few_places s accepted ns once =
     let ws = wants_from s.geometry 0 accepted in

@@ -47,7 +47,7 @@ IsFresh s chip = IsAsOpened s.geometry s.timing chip
 abbrev pub opened_with : Setup → Chip → ChannelState
 opened_with s chip = first s chip.faults chip.failures
 
--- nothing was sent, and nothing posted; there is room for so many replies
+-- nothing was sent, and nothing posted; there is room for that many replies
 pub record IsEmptyQueue (room : ℕ) (queue : HostQueue) : Type 0 where
   pub sent : queue.sent ≡ 0
   pub empty : queue.completions.items ≡ []

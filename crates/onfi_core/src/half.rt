@@ -386,7 +386,7 @@ impl Half {
     }
 }
 
-// So many items are taken once one more is accepted: by the next phase that one too.
+// That many items are taken once one more is accepted: by the next phase that one too.
 fn planned_with(way: &Way, planned: u64) -> u64
     requires { planned ≤ 2 ^ 34 }
     ensures { result ≡ planned_with way.now.books planned }

@@ -30,7 +30,7 @@ impl HostQueue {
     }
 }
 
-/// So many hosts that sent nothing, with room for so many replies each.
+/// A number of hosts that sent nothing, with room for a number of replies each.
 ///
 /// # Errors
 /// Where memory was refused.

@@ -109,8 +109,8 @@ fn is_byte(byte: u8)
 }
 
 impl Setup {
-    /// The setup of so many channels with chips of this geometry and timing, so many hosts, a batch of so many wants,
-    /// submission and completion queues of so many places, and so many nodes for one planning. Items are planned in order;
+    /// The setup of this number of channels with chips of this geometry and timing, of hosts, of wants in a batch,
+    /// of places in submission and completion queues, and of nodes for one planning. Items are planned in order;
     /// [`Setup::with_choice`] changes that.
     ///
     /// # Errors

@@ -129,7 +129,7 @@ refusals_more xs ys at i j n there same counted = let set = refusals_set ys at i
 same_channel_none : (q : Seen) → IsSameChannel q q
 same_channel_none q = record { setup = refl; faults = refl; intake = refl; posters = refl }
 
--- so many turns were made, on the same channel, and the inboxes took in
+-- that many turns were made, on the same channel, and the inboxes took in
 pub record Draining (Such : Planning → Type 0) (now : ℕ) (q : Seen) (inboxes : List InboxView) (made : ℕ) (q' : Seen) (inboxes' : List InboxView) : Type 0 where
   pub answers : List TurnAt
   pub ran : MakesBy Such (Turned now) q answers q'
@@ -183,7 +183,7 @@ module _ (Such : Planning → Type 0) (now : ℕ) (q : Seen) (inboxes : List Inb
         taken = so_far.taken;
       }
 
-  -- so many takings in were refused after it
+  -- that many takings in were refused after it
   counted : (inboxes'' : List InboxView) (n : ℕ) → refusals_of inboxes'' ≡ refusals_of inboxes' + n → refusals_of inboxes'' ≡ refusals_of inboxes + n
   counted inboxes'' n more = let taken = so_far.taken in omega (arith, taken, more)
 

@@ -56,7 +56,7 @@ driven_opened Such s h chip lanes is fresh agree =
     } in
     subst (λ (v : HalfView). IsDriven Such v.setup v.lent v.state chip lanes) (sym is) opened
 
--- What is said of a driver, of its fields and back
+-- What holds of a driver, of its fields and back
 module _ {C : Type 0} where
   pub within : (P : DriverFields → Type 0) (inside now : DriverView C) → inside ≡ now → P now.0 → P inside.0
   within P inside now is h = subst (λ (x : DriverView C). P x.0) (sym is) h

@@ -27,7 +27,7 @@ use Rattle.onfi_seq.specs.declared.offer.Offer.TheVariants as offer
 use Rattle.onfi_seq.specs.Driver.{Offered}
 use Rattle.onfi_seq.specs.Sequencer.{AreCounts, AreFreshPosters, IsFreshIntake, IsFreshPoster, IsKept, IsPosterFor, IsRight, Seen, SequencerFields, SequencerView, channel_of, opened_as, opened_for, seen_in}
 
--- What is said of a sequencer, of its fields and back
+-- What holds of a sequencer, of its fields and back
 module _ {C : Type 0} where
   pub seen_within : (state : C → Chip) (P : Seen → Type 0) (inside now : SequencerView C) → inside ≡ now → P (seen_in state now) → P (seen_in state inside)
   seen_within state P inside now is h = subst (λ (x : SequencerView C). P (seen_in state x)) (sym is) h

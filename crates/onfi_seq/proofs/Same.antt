@@ -38,7 +38,7 @@ map_set f (z ∷ xs) (suc i) x y there same = ap (λ bs. f z ∷ bs) (map_set f 
 
 -- A turn
 
--- the channel is the same, and what is said of refused memory stays said
+-- the channel is the same, and what is noted of refused memory stays noted
 record Stays (q q' : Seen) : Type 0 where
   same : IsSameChannel q q'
   short : q.0.short ≡ true → q'.0.short ≡ true
@@ -50,7 +50,7 @@ module _ (q q' : Seen) (h : HalfState) (refused short : Bool) (still : q.0.short
   stays_but intake posters chip ends others faults after =
       subst (Stays q) (sym after) (record { same = record { setup = refl; faults = faults; intake = ends; posters = others }; short = still })
 
-  -- .. but the half, what is said of refusals, and the chip
+  -- .. but the half, what is noted of refusals, and the chip
   stays_so : (chip : Chip) → chip.faults ≡ q.1.faults → q' ≡ (record q.0 { half = h; refused = refused; short = short }, chip) → Stays q q'
   stays_so chip faults after = stays_but q.0.intake q.0.posters chip refl refl faults after
 

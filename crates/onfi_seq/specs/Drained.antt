@@ -124,7 +124,7 @@ left_by (drained.Stopped cause) q = q
 left_by (drained.Waits until) q = q
 left_by (drained.Over opened) q = q
 
--- no more such turns than those were made, what each planned is such, the end is given as it was, and so many takings in were refused
+-- no more such turns than those were made, what each planned is such, the end is given as it was, and that many takings in were refused
 pub record DrainsBy (Such : Planning → Type 0) (Turns : Seen → TurnAt → Seen → Type 0) (q : Seen) (hosts : List HostView) (inboxes : List InboxView) (turns : ℕ) (end : DrainedAt) (q' : Seen) (inboxes' : List InboxView) : Type 0 where
   pub answers : List TurnAt
   pub last : Seen
@@ -140,7 +140,7 @@ abbrev pub Drains : (Planning → Type 0) → ℕ → Seen → List HostView →
 Drains Such now q hosts inboxes turns end q' inboxes' = DrainsBy Such (Turned now) q hosts inboxes turns end q' inboxes'
 
 -- ---- inside a draining
--- how it ends before a turn, where so many are made
+-- how it ends before a turn, where that many are made
 abbrev pub EndsBefore : DrainedAt → HalfState → List HostView → ℕ → ℕ → Type 0
 EndsBefore drained.Empty h hosts turns made = IsAnswered h hosts
 EndsBefore drained.TurnsSpent h hosts turns made = (made ≡ turns) × IsShort h hosts

@@ -91,7 +91,7 @@ pub record IsPosterFor (q : SequencerFields) (host : ℕ) (p : PosterView) : Typ
   pub room : p.capacity ≡ q.setup.post_cap
   pub posted : p.posted ≡ filter (is_to host) q.half.posted
 
--- so many items of each host are accepted
+-- that many items of each host are accepted
 pub record AreCounts (q : SequencerFields) (counts : List ℕ) : Type 0 where
   pub hosts : length counts ≡ 4
   pub each : (host count : ℕ) → slice_get counts host ≡ Some count → count ≡ length (filter (is_from host) q.half.accepted)

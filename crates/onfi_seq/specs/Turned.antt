@@ -102,13 +102,13 @@ pub record Takes (q q' : Seen) : Type 0 where
   pub next : IsNext q.0.setup q.0.half item
   pub after : q' ≡ (record q.0 { half = accepting q.0.setup q.0.half item; intake = after_accepting q.0.intake item }, q.1)
 
--- a planning came to that, whichever number the channel has; the half alone changed, and what is said of refusals and of memory
+-- a planning came to that, whichever number the channel has; the half alone changed, and what is noted of refusals and of memory
 pub record PlansTo (q : Seen) (o : Outcome) (refused short : Bool) (q' : Seen) : Type 0 where
   pub may : MayPlan q
   pub step : (channel : ℕ) → Step q.0.setup (channel_of q) (event.Plan channel) o (channel_of q')
   pub after : q' ≡ (record q.0 { half = q'.0.half; refused = refused; short = short }, q.1)
 
--- the next phase, which was due by the moment, came to that; half and chip alone changed, and what is said of refusals and of memory
+-- the next phase, which was due by the moment, came to that; half and chip alone changed, and what is noted of refusals and of memory
 pub record RunsTo (now start : ℕ) (q : Seen) (o : Outcome) (refused short : Bool) (q' : Seen) : Type 0 where
   pub may : MayRunPhase q
   pub due : StartsNext q.0.half start

@@ -21,7 +21,7 @@ use std::alloc::{AllocError, Global};
 use std::sync::Wait;
 
 impl<C: Chip, P: Planner> Sequencer<C, P> {
-    /// Makes turns, at most so many, until all that the hosts sent is accepted and answered, and takes replies in before each,
+    /// Makes turns, at most that many, until all that the hosts sent is accepted and answered, and takes replies in before each,
     /// so that no queue stays full. Hosts and inboxes are the other ends of the channel's queues, in the order of the hosts'
     /// numbers. Stopped ends it, and so do Over and Memory of a turn where no phase is left then, and a taking in that is
     /// refused memory. No time passes, as in [`Sequencer::turn`].
@@ -91,7 +91,7 @@ impl<C: Chip, P: Planner> Sequencer<C, P> {
         self.short = true;
     }
 
-    // How a draining ends where so many of its turns are made, if it does.
+    // How a draining ends where that many of its turns are made, if it does.
     fn end_before_turn(&self, hosts: &[Host; 4], made: u64, turns: u64) -> Option<DrainedAt>
         requires { made ≤ turns }
         ensures some { IfSome result (λ end. EndsBefore end self.now.0.half hosts.now turns made) }

@@ -9,7 +9,7 @@ use Rattle.onfi_core.proofs.Plan.{few_taken}
 use Rattle.onfi_core.proofs.Window.{fields_planned, places_fit}
 use Rattle.onfi_core.proofs.half.Half.take_over.Goals as goal
 
--- so many wants more are taken
+-- that many wants more are taken
 more_wants : (all wants more : List Want) (a b : ℕ) → all ≡ wants ++ more → a ≡ length all → b ≡ length wants → a - b ≡ length more
 more_wants all wants more a b is ea eb = let n = ap length is in omega (arith, n, ea, eb, length-append wants more)
 
