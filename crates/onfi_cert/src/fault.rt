@@ -8,7 +8,7 @@ pub enum CertTextFault {
     /// The text begins with neither header line.
     #[error("the header line is none of a certificate")]
     Header,
-    /// No token stands at this place, counted from 0; or so many good tokens stand there and the text does not end
+    /// No token stands at this place, counted from 0; or that many good tokens stand there and the text does not end
     /// with one LF after them.
     #[error("no token at place {0}")]
     BadToken(u32),
@@ -23,7 +23,7 @@ pub enum CertTextFault {
 /// Why the bytes after a header are no line of tokens of a kind.
 #[derive(Clone, Copy)]
 pub enum LineFault {
-    /// No token stands at this place, counted from 0; or so many good tokens stand there and the line does not end
+    /// No token stands at this place, counted from 0; or that many good tokens stand there and the line does not end
     /// with one LF after them.
     BadToken(usize),
     /// A space follows the last token that a line may have.

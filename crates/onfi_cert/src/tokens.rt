@@ -59,7 +59,7 @@ impl<'a> Tokens<'a> {
     /// The next token, or None where the text ends well.
     ///
     /// # Errors
-    /// What `read` answers of this text, after the tokens in front of the fault: `BadToken` with the number of these
+    /// What `read` returns for this text, after the tokens in front of the fault: `BadToken` with the number of these
     /// tokens, or `TooLong`. At its end and at a fault the reader stays where it is.
     pub fn next(&mut self) -> Result<Option<Token>, CertTextFault>
         ensures given { result ≡ result_map_both (λ token. token) cert_fault (next_of self.old.line) }

@@ -37,7 +37,7 @@ fn check_source<S: TokenSource<Token = Token>>(
     Ok(e)
 }
 
-/// Checks by a certificate that no legal schedule of the problem ends sooner than this one; answers when it ends, in
+/// Checks by a certificate that no legal schedule of the problem ends sooner than this one; returns when it ends, in
 /// ns.
 ///
 /// # Errors

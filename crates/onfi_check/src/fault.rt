@@ -12,7 +12,7 @@ pub enum CertFault {
     #[error("the tokens end too soon")]
     Short,
     /// A token stands after the tree.
-    #[error("token {0} stands behind the tree")]
+    #[error("token {0} stands after the tree")]
     Trailing(usize),
     /// The branch has another width than there are moves, or there is no move.
     #[error("token {0} has another width than there are moves")]

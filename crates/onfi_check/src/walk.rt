@@ -19,6 +19,13 @@ use onfi_bound::NodeBounds;
 use onfi_cert::{Numbered, Token, TokenSource, Width};
 use onfi_problem::{Move, Moves, Problem};
 
+// What is shown of a node, that nothing below it ends before `e` ns, and what its bounds come to.
+#[derive(Clone, Copy)]
+struct Node {
+    e: u64,
+    bounds: NodeBounds,
+}
+
 // What speaks against a token that closes no node, reported at that place.
 fn closing_fault(token: Token, place: usize) -> CertFault
     requires { (width : ℕ) → token ≢ Token.Branch width }
@@ -32,20 +39,14 @@ fn closing_fault(token: Token, place: usize) -> CertFault
 }
 
 // Reads a token that closes a node.
-fn read_closing(
-    problem: &Problem,
-    e: u64,
-    bounds: NodeBounds,
-    token: Token,
-    place: usize,
-) -> Result<(), CertFault>
-    requires bounds { AreNodeBounds problem.now.problem bounds }
+fn read_closing(problem: &Problem, node: Node, token: Token, place: usize) -> Result<(), CertFault>
+    requires bounds { AreNodeBounds problem.now.problem node.bounds }
     requires closing { (width : ℕ) → token ≢ Token.Branch width }
-    ensures ok { OnOk result ((c : Closing) × (token_of c ≡ token) × Closes problem.now.problem e c) }
-    ensures err { IfErr result (λ _. ((c : Closing) × (token_of c ≡ token) × Closes problem.now.problem e c) → ⊥) }
+    ensures ok { OnOk result ((c : Closing) × (token_of c ≡ token) × Closes problem.now.problem node.e c) }
+    ensures err { IfErr result (λ _. ((c : Closing) × (token_of c ≡ token) × Closes problem.now.problem node.e c) → ⊥) }
     ensures kind { IfErr result (λ fault. (behind left : List OneToken) → FaultFits place (token ∷ behind) left fault) }
 {
-    if closes(problem, bounds, &token, e) {
+    if closes(problem, node.bounds, &token, node.e) {
         Ok(())
     } else {
         Err(closing_fault(token, place))
@@ -55,21 +56,20 @@ fn read_closing(
 // Reads a bus or a trail token after a move.
 fn read_leaf(
     problem: &Problem,
-    e: u64,
-    bounds: NodeBounds,
+    node: Node,
     m: Move,
     token: Token,
     place: usize,
 ) -> Result<(), CertFault>
-    requires bounds { AreNodeBounds problem.now.problem bounds }
+    requires bounds { AreNodeBounds problem.now.problem node.bounds }
     requires leaf { (token ≡ Token.Bus) ⊎ (token ≡ Token.Trail) }
     requires step { IsMove problem.now.problem (move_of problem.now.groups m) }
     requires named { IsNamed problem.now.groups m }
-    ensures ok { OnOk result ((c : Closing) × (token_of c ≡ token) × Closes (after problem.now.problem (move_of problem.now.groups m)) e c) }
-    ensures err { IfErr result (λ _. ((c : Closing) × (token_of c ≡ token) × Closes (after problem.now.problem (move_of problem.now.groups m)) e c) → ⊥) }
+    ensures ok { OnOk result ((c : Closing) × (token_of c ≡ token) × Closes (after problem.now.problem (move_of problem.now.groups m)) node.e c) }
+    ensures err { IfErr result (λ _. ((c : Closing) × (token_of c ≡ token) × Closes (after problem.now.problem (move_of problem.now.groups m)) node.e c) → ⊥) }
     ensures kind { IfErr result (λ fault. (behind left : List OneToken) → FaultFits place (token ∷ behind) left fault) }
 {
-    if closes_after(problem, bounds, token, m, e) {
+    if closes_after(problem, node.bounds, token, m, node.e) {
         Ok(())
     } else {
         Err(CertFault::BoundLow(place))
@@ -85,26 +85,25 @@ fn read_leaf(
 #[cycle(read)]
 fn read_tree<S: TokenSource<Token = Token>>(
     problem: &mut Problem,
-    e: u64,
-    bounds: NodeBounds,
+    node: Node,
     token: Token,
     place: usize,
     tokens: &mut Numbered<S>,
 ) -> Result<(), CertFault>
-    requires bounds { AreNodeBounds problem.old.problem bounds }
+    requires bounds { AreNodeBounds problem.old.problem node.bounds }
     requires few { tokens.old.place + length (S.left tokens.old.source) < 2 ^ 64 }
     requires next { tokens.old.place ≡ place + 1 }
     ensures problem { OnOk result (problem.new ≡ problem.old) }
     ensures fewer { OnOk result (length (S.left tokens.new.source) ≤ length (S.left tokens.old.source)) }
     ensures read { OnOk result (ReadOn tokens.old.place tokens.new.place (S.left tokens.old.source) (S.left tokens.new.source)) }
     ensures behind { S.behind tokens.new.source ≡ S.behind tokens.old.source }
-    ensures ok { OnOk result (Begins problem.old.problem e (token ∷ S.left tokens.old.source) (S.left tokens.new.source)) }
-    ensures err { IfErr result (λ _. (rest : List OneToken) → Begins problem.old.problem e (token ∷ S.left tokens.old.source) rest → ⊥) }
+    ensures ok { OnOk result (Begins problem.old.problem node.e (token ∷ S.left tokens.old.source) (S.left tokens.new.source)) }
+    ensures err { IfErr result (λ _. (rest : List OneToken) → Begins problem.old.problem node.e (token ∷ S.left tokens.old.source) rest → ⊥) }
     ensures kind { IfErr result (FaultFits place (token ∷ S.left tokens.old.source) (S.left tokens.new.source)) }
 {
     match token {
-        Token::Branch(width) => read_branch(problem, e, bounds, width, place, tokens),
-        _ => read_closing(problem, e, bounds, token, place),
+        Token::Branch(width) => read_branch(problem, node, width, place, tokens),
+        _ => read_closing(problem, node, token, place),
     }
 }
 
@@ -113,21 +112,20 @@ fn read_tree<S: TokenSource<Token = Token>>(
 #[cycle(read)]
 fn read_branch<S: TokenSource<Token = Token>>(
     problem: &mut Problem,
-    e: u64,
-    bounds: NodeBounds,
+    node: Node,
     width: Width,
     place: usize,
     tokens: &mut Numbered<S>,
 ) -> Result<(), CertFault>
-    requires bounds { AreNodeBounds problem.old.problem bounds }
+    requires bounds { AreNodeBounds problem.old.problem node.bounds }
     requires few { tokens.old.place + length (S.left tokens.old.source) < 2 ^ 64 }
     requires next { tokens.old.place ≡ place + 1 }
     ensures problem { OnOk result (problem.new ≡ problem.old) }
     ensures fewer { OnOk result (length (S.left tokens.new.source) ≤ length (S.left tokens.old.source)) }
     ensures read { OnOk result (ReadOn tokens.old.place tokens.new.place (S.left tokens.old.source) (S.left tokens.new.source)) }
     ensures behind { S.behind tokens.new.source ≡ S.behind tokens.old.source }
-    ensures ok { OnOk result (Begins problem.old.problem e (Token.Branch width ∷ S.left tokens.old.source) (S.left tokens.new.source)) }
-    ensures err { IfErr result (λ _. (rest : List OneToken) → Begins problem.old.problem e (Token.Branch width ∷ S.left tokens.old.source) rest → ⊥) }
+    ensures ok { OnOk result (Begins problem.old.problem node.e (Token.Branch width ∷ S.left tokens.old.source) (S.left tokens.new.source)) }
+    ensures err { IfErr result (λ _. (rest : List OneToken) → Begins problem.old.problem node.e (Token.Branch width ∷ S.left tokens.old.source) rest → ⊥) }
     ensures kind { IfErr result (FaultFits place (Token.Branch width ∷ S.left tokens.old.source) (S.left tokens.new.source)) }
 {
     let mut moves = Moves::new();
@@ -135,19 +133,18 @@ fn read_branch<S: TokenSource<Token = Token>>(
     if moves.len() != width.get() as usize {
         return Err(CertFault::Width(place));
     }
-    read_children(problem, e, bounds, &moves, tokens)
+    read_children(problem, node, &moves, tokens)
 }
 
 // Reads a child for each move of a node.
 #[cycle(read)]
 fn read_children<S: TokenSource<Token = Token>>(
     problem: &mut Problem,
-    e: u64,
-    bounds: NodeBounds,
+    node: Node,
     moves: &Moves,
     tokens: &mut Numbered<S>,
 ) -> Result<(), CertFault>
-    requires bounds { AreNodeBounds problem.old.problem bounds }
+    requires bounds { AreNodeBounds problem.old.problem node.bounds }
     requires moves { AreMoves problem.old.problem (moves_of problem.old.groups moves.now) }
     requires named { Each (IsNamed problem.old.groups) moves.now }
     requires few { tokens.old.place + length (S.left tokens.old.source) < 2 ^ 64 }
@@ -155,8 +152,8 @@ fn read_children<S: TokenSource<Token = Token>>(
     ensures fewer { OnOk result (length (S.left tokens.new.source) ≤ length (S.left tokens.old.source)) }
     ensures read { OnOk result (ReadOn tokens.old.place tokens.new.place (S.left tokens.old.source) (S.left tokens.new.source)) }
     ensures behind { S.behind tokens.new.source ≡ S.behind tokens.old.source }
-    ensures ok { OnOk result (BeginsEach problem.old.problem e (moves_of problem.old.groups moves.now) (S.left tokens.old.source) (S.left tokens.new.source)) }
-    ensures err { IfErr result (λ _. (rest : List OneToken) → BeginsEach problem.old.problem e (moves_of problem.old.groups moves.now) (S.left tokens.old.source) rest → ⊥) }
+    ensures ok { OnOk result (BeginsEach problem.old.problem node.e (moves_of problem.old.groups moves.now) (S.left tokens.old.source) (S.left tokens.new.source)) }
+    ensures err { IfErr result (λ _. (rest : List OneToken) → BeginsEach problem.old.problem node.e (moves_of problem.old.groups moves.now) (S.left tokens.old.source) rest → ⊥) }
     ensures kind { IfErr result (FaultFits tokens.old.place (S.left tokens.old.source) (S.left tokens.new.source)) }
 {
     let listed = moves.as_slice();
@@ -166,7 +163,7 @@ fn read_children<S: TokenSource<Token = Token>>(
         leaving: [false; 8],
     };
     for m in listed {
-        read_child(problem, e, bounds, *m, listed, &mut standing, tokens)?;
+        read_child(problem, node, *m, listed, &mut standing, tokens)?;
     }
     Ok(())
 }
@@ -175,14 +172,13 @@ fn read_children<S: TokenSource<Token = Token>>(
 #[cycle(read)]
 fn read_child<S: TokenSource<Token = Token>>(
     problem: &mut Problem,
-    e: u64,
-    bounds: NodeBounds,
+    node: Node,
     m: Move,
     moves: &[Move],
     standing: &mut Standing,
     tokens: &mut Numbered<S>,
 ) -> Result<(), CertFault>
-    requires bounds { AreNodeBounds problem.old.problem bounds }
+    requires bounds { AreNodeBounds problem.old.problem node.bounds }
     requires step { IsMove problem.old.problem (move_of problem.old.groups m) }
     requires named { IsNamed problem.old.groups m }
     requires moves { Each (IsMove problem.old.problem) (moves_of problem.old.groups moves.now) }
@@ -194,8 +190,8 @@ fn read_child<S: TokenSource<Token = Token>>(
     ensures read { OnOk result (ReadOn tokens.old.place tokens.new.place (S.left tokens.old.source) (S.left tokens.new.source)) }
     ensures behind { S.behind tokens.new.source ≡ S.behind tokens.old.source }
     ensures asked { IsAsked problem.old.problem (moves_of problem.old.groups moves.now) standing.new.asked }
-    ensures ok { OnOk result (ReadsChild problem.old.problem e (moves_of problem.old.groups moves.now) (move_of problem.old.groups m) standing.old standing.new (S.left tokens.old.source) (S.left tokens.new.source)) }
-    ensures err { IfErr result (λ _. RefusesChild problem.old.problem e (moves_of problem.old.groups moves.now) (move_of problem.old.groups m) standing.old (S.left tokens.old.source)) }
+    ensures ok { OnOk result (ReadsChild problem.old.problem node.e (moves_of problem.old.groups moves.now) (move_of problem.old.groups m) standing.old standing.new (S.left tokens.old.source) (S.left tokens.new.source)) }
+    ensures err { IfErr result (λ _. RefusesChild problem.old.problem node.e (moves_of problem.old.groups moves.now) (move_of problem.old.groups m) standing.old (S.left tokens.old.source)) }
     ensures kind { IfErr result (FaultFits tokens.old.place (S.left tokens.old.source) (S.left tokens.new.source)) }
 {
     let Some((token, place)) = tokens.take() else {
@@ -203,8 +199,8 @@ fn read_child<S: TokenSource<Token = Token>>(
     };
     match token {
         Token::Yield(lun) => take_yield(problem, moves, standing, m.lun(), lun.get(), place),
-        Token::Bus | Token::Trail => read_leaf(problem, e, bounds, m, token, place),
-        _ => read_below(problem, e, bounds, m, token, place, tokens),
+        Token::Bus | Token::Trail => read_leaf(problem, node, m, token, place),
+        _ => read_below(problem, node, m, token, place, tokens),
     }
 }
 
@@ -212,14 +208,13 @@ fn read_child<S: TokenSource<Token = Token>>(
 #[cycle(read)]
 fn read_below<S: TokenSource<Token = Token>>(
     problem: &mut Problem,
-    e: u64,
-    bounds: NodeBounds,
+    node: Node,
     m: Move,
     token: Token,
     place: usize,
     tokens: &mut Numbered<S>,
 ) -> Result<(), CertFault>
-    requires bounds { AreNodeBounds problem.old.problem bounds }
+    requires bounds { AreNodeBounds problem.old.problem node.bounds }
     requires step { IsMove problem.old.problem (move_of problem.old.groups m) }
     requires named { IsNamed problem.old.groups m }
     requires few { tokens.old.place + length (S.left tokens.old.source) < 2 ^ 64 }
@@ -228,13 +223,14 @@ fn read_below<S: TokenSource<Token = Token>>(
     ensures fewer { OnOk result (length (S.left tokens.new.source) ≤ length (S.left tokens.old.source)) }
     ensures read { OnOk result (ReadOn tokens.old.place tokens.new.place (S.left tokens.old.source) (S.left tokens.new.source)) }
     ensures behind { S.behind tokens.new.source ≡ S.behind tokens.old.source }
-    ensures ok { OnOk result (Begins (after problem.old.problem (move_of problem.old.groups m)) e (token ∷ S.left tokens.old.source) (S.left tokens.new.source)) }
-    ensures err { IfErr result (λ _. (rest : List OneToken) → Begins (after problem.old.problem (move_of problem.old.groups m)) e (token ∷ S.left tokens.old.source) rest → ⊥) }
+    ensures ok { OnOk result (Begins (after problem.old.problem (move_of problem.old.groups m)) node.e (token ∷ S.left tokens.old.source) (S.left tokens.new.source)) }
+    ensures err { IfErr result (λ _. (rest : List OneToken) → Begins (after problem.old.problem (move_of problem.old.groups m)) node.e (token ∷ S.left tokens.old.source) rest → ⊥) }
     ensures kind { IfErr result (FaultFits place (token ∷ S.left tokens.old.source) (S.left tokens.new.source)) }
 {
-    let bounds = bounds.after(problem, m);
+    let bounds = node.bounds.after(problem, m);
+    let node = Node { e: node.e, bounds };
     let undo = problem.advance(&m);
-    read_tree(problem, e, bounds, token, place, tokens)?;
+    read_tree(problem, node, token, place, tokens)?;
     problem.undo(undo);
     Ok(())
 }
@@ -261,7 +257,8 @@ pub(crate) fn read_whole<S: TokenSource<Token = Token>>(
     let Some((token, place)) = tokens.take() else {
         return Err(CertFault::Short);
     };
-    read_tree(problem, e, bounds, token, place, tokens)?;
+    let node = Node { e, bounds };
+    read_tree(problem, node, token, place, tokens)?;
     match tokens.take() {
         Some((_, place)) => Err(CertFault::Trailing(place)),
         None => Ok(()),

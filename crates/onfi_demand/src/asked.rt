@@ -34,7 +34,7 @@ impl Demand {
         most
     }
 
-    // What is asked of the LUN of the move, where there are so many LUNs.
+    // What is asked of the LUN of the move, where `count` LUNs are there.
     fn of_own(&self, step: &Step, count: usize) -> u64
         requires lun { step.now.lun < 8 }
         requires count { count ≤ 8 }
@@ -51,7 +51,7 @@ impl Demand {
         self.bus.saturating_sub(length).max(own.max(through))
     }
 
-    /// Raises what is asked of each LUN by what this demand after a move asks before it, where there are so many LUNs.
+    /// Raises what is asked of each LUN by what this demand after a move asks before it, where `count` LUNs are there.
     pub fn raise(&self, step: &Step, count: usize, asked: &mut [u64; 8])
         requires lun { step.now.lun < 8 }
         requires count { count ≤ 8 }

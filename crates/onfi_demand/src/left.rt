@@ -21,7 +21,7 @@ use onfi_timing::Operation;
 pub enum LunLeft {
     #[default]
     Idle,
-    /// A group of so many members of an operation, of which phase `next` comes next, and how many sectors the posts put out
+    /// A group of `members` members of an operation, of which phase `next` comes next, and how many sectors the posts put out
     /// that are left; 0 after those, and where a post is no read of some sectors.
     Rest {
         operation: Operation,

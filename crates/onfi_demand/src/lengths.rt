@@ -18,7 +18,7 @@ pub(crate) fn operation_spans(timing: &Timing, operation: Operation) -> Spans
     }
 }
 
-// How long a post of an operation takes, where a read puts out so many sectors.
+// How long a post of an operation takes, where a read puts out that number of sectors.
 fn post_of(timing: &Timing, operation: Operation, sectors: u8) -> u64
     ensures post { result ≡ post_of timing.now operation sectors }
     ensures short { result < 2 ^ 50 }

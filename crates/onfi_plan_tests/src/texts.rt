@@ -18,8 +18,8 @@ fn texts_of_problems_and_plans(rt: HostRuntime) {
         (ProblemFault::Clock, "times that reach 2^62 ns"),
         (ProblemFault::Memory, "memory was refused"),
     ] {
-        let told = format!(in rt.alloc(); "{fault}").expect(&rt, "memory");
-        assert_eq!(rt; told.as_str(), text);
+        let printed = format!(in rt.alloc(); "{fault}").expect(&rt, "memory");
+        assert_eq!(rt; printed.as_str(), text);
     }
     for (fault, text) in [
         (
@@ -28,8 +28,8 @@ fn texts_of_problems_and_plans(rt: HostRuntime) {
         ),
         (PlanFault::Memory, "memory was refused"),
     ] {
-        let told = format!(in rt.alloc(); "{fault}").expect(&rt, "memory");
-        assert_eq!(rt; told.as_str(), text);
+        let printed = format!(in rt.alloc(); "{fault}").expect(&rt, "memory");
+        assert_eq!(rt; printed.as_str(), text);
     }
 }
 
@@ -60,7 +60,7 @@ fn texts_of_certificates(rt: HostRuntime) {
         (TextFault::Cert(CertFault::Short), "the tokens end too soon"),
         (
             TextFault::Cert(CertFault::Trailing(1)),
-            "token 1 stands behind the tree",
+            "token 1 stands after the tree",
         ),
         (
             TextFault::Cert(CertFault::Width(0)),
@@ -84,7 +84,7 @@ fn texts_of_certificates(rt: HostRuntime) {
         ),
         (TextFault::Cert(CertFault::Memory), "out of memory"),
     ] {
-        let told = format!(in rt.alloc(); "{fault}").expect(&rt, "memory");
-        assert_eq!(rt; told.as_str(), text);
+        let printed = format!(in rt.alloc(); "{fault}").expect(&rt, "memory");
+        assert_eq!(rt; printed.as_str(), text);
     }
 }

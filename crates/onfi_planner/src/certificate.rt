@@ -72,13 +72,13 @@ pub fn write_below(
     ensures problem { IfOk result (λ _. problem.new ≡ problem.old) }
     ensures written { IfOk result (λ _. Written (moved problem.old step).problem e tokens.old.items tokens.new.items) }
 {
-    let behind = bus_after(problem, bus_bound, step);
-    if behind >= e {
+    let bound = bus_after(problem, bus_bound, step);
+    if bound >= e {
         tokens.push(Token::Bus)?;
         return Ok(());
     }
     let undo = problem.advance(&step);
-    write(problem, loads, behind, e, tokens)?;
+    write(problem, loads, bound, e, tokens)?;
     problem.undo(undo);
     Ok(())
 }

@@ -16,11 +16,11 @@ struct Refusal {
     stop: Stop,
 }
 
-/// The answers of `f` to 0, 1 and so on below `n`, in order. Call i is made by worker i mod `workers`, each worker in a
+/// What `f` returns for 0, 1 and so on below `n`, in order. Call i is made by worker i mod `workers`, each worker in a
 /// thread of its own where one can be made.
 ///
 /// # Errors
-/// What the first call that was refused answered: a worker makes no more calls once it was refused one. `Memory` also
+/// What the first call that was refused returned: a worker makes no more calls once it was refused one. `Memory` also
 /// where there was no room for the answers.
 pub fn do_in_turn<R: Threads + Sync, X: Send + Drop, F: Fn(usize) -> Result<X, Stop> + Sync>(
     rt: &R,
@@ -50,8 +50,8 @@ pub fn do_in_turn<R: Threads + Sync, X: Send + Drop, F: Fn(usize) -> Result<X, S
     };
     let mut shares = gather_answers(alloc, shares)?;
     let mut answers = Vec::new(alloc);
-    for behind in 0..n {
-        let call = n - 1 - behind;
+    for after in 0..n {
+        let call = n - 1 - after;
         let answer = take_last(&mut shares, call % workers);
         match answers.insert(0, answer) {
             Ok(()) => {}

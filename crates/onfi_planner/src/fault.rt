@@ -17,7 +17,7 @@ impl From<AllocError> for PlanFault {
     ghost use Rattle.std.specs.Prelude.{◌≡◌};
     ghost use Rattle.onfi_planner.specs.declared.fault.PlanFault.TheVariants.{Memory};
 
-    ghost from_gives = { λ _ told. told ≡ Memory };
+    ghost from_gives = { λ _ fault. fault ≡ Memory };
 
     fn from(_refused: AllocError) -> PlanFault {
         PlanFault::Memory

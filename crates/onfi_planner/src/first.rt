@@ -13,7 +13,7 @@ use crate::search::Begun;
 use onfi_problem::{Move, Problem};
 use std::alloc::AllocError;
 
-/// Puts the steps of the first schedule into the empty list, last first; answers when it ends, in ns.
+/// Puts the steps of the first schedule into the empty list, last first; returns when it ends, in ns.
 ///
 /// Again and again it takes the move that may start first; among equals the one that starts the most wants; among those
 /// the first.

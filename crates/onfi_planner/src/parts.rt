@@ -19,7 +19,7 @@ use crate::fault::PlanFault;
 use crate::gate::PartGate;
 use crate::limit::Limit;
 use crate::root::Root;
-use crate::search::{Best, Stop, visit};
+use crate::search::{Best, Count, Stop, visit};
 use crate::yields::yields_of;
 use onfi_bound::{Loads, bus};
 use onfi_check::last_ends;
@@ -35,7 +35,7 @@ pub struct Part {
 }
 
 /// Searches the parts below a root by several workers, each part from the first schedule on, and leaves what ends first;
-/// among equals the first schedule, then the first part. Answers how many nodes were opened, the root among them.
+/// among equals the first schedule, then the first part. Returns how many nodes were opened, the root among them.
 ///
 /// # Errors
 /// `Over` with the limit where a part has more nodes; else with how many nodes the parts have together, where they are
@@ -72,7 +72,7 @@ pub fn search_parts<R: Threads + Sync, G: PartGate + Sync>(
     }
     let moves = root.problem.steps();
     let parts = list_parts(alloc, &root.problem, moves.as_slice())?;
-    let found = match search_each(rt, alloc, root, parts.as_slice(), limit, workers, gate) {
+    let found = match search_each(rt, root, parts.as_slice(), limit, workers, gate) {
         Ok(found) => found,
         Err(Stop::Over) => return Err(PlanFault::Over { opened: limit }),
         Err(Stop::Memory) => return Err(PlanFault::Memory),
@@ -104,7 +104,6 @@ fn list_parts(alloc: Global, problem: &Problem, moves: &[Move]) -> Result<Vec<Mo
 // What the searches of all parts found, in their order.
 fn search_each<R: Threads + Sync, G: PartGate + Sync>(
     rt: &R,
-    alloc: Global,
     root: &Root,
     parts: &[Move],
     limit: u32,
@@ -119,6 +118,7 @@ fn search_each<R: Threads + Sync, G: PartGate + Sync>(
     ensures found { IfOk result (λ found. AreFound root.now.problem root.now.best.finish limit parts.now found.items) }
     ensures over { IfErr result (λ stop. stop ≡ Stop.Over → (m : _) × Has parts.now m × IsOver (moved root.now.problem m).problem root.now.best.finish 0 limit limit) }
 {
+    let alloc = *root.best.steps.allocator();
     let problem = &root.problem;
     let loads = &root.loads;
     let finish = root.best.finish;
@@ -159,9 +159,10 @@ fn search_part(
     };
     let steps = Vec::new(alloc);
     let mut best = Best { finish, steps };
-    let mut opened = 0;
+    let mut count = Count { opened: 0, limit };
     let bound = bus(&at);
-    visit(&mut at, loads, bound, step, &mut best, &mut opened, limit)?;
+    visit(&mut at, loads, bound, step, &mut best, &mut count)?;
+    let opened = count.opened;
     Ok(Part { best, opened })
 }
 

@@ -10,7 +10,7 @@ use crate::fault::PlanFault;
 use crate::placing::schedule_of;
 use crate::planned::{Counted, Planned};
 use crate::root::{Root, root_of};
-use crate::search::{self, Best, Stop};
+use crate::search::{self, Best, Count, Stop};
 use onfi_bound::bus;
 use onfi_cert::Token;
 use onfi_problem::Problem;
@@ -56,16 +56,20 @@ pub fn plan_counted(alloc: Global, problem: &Problem, limit: u32) -> Result<Coun
         loads,
         mut best,
     } = root;
-    let mut opened = 0;
+    let mut count = Count { opened: 0, limit };
     let bus_bound = bus(&at);
-    match search::search(&mut at, &loads, bus_bound, &mut best, &mut opened, limit) {
+    match search::search(&mut at, &loads, bus_bound, &mut best, &mut count) {
         Ok(_) => {}
-        Err(Stop::Over) => return Err(PlanFault::Over { opened }),
+        Err(Stop::Over) => {
+            let opened = count.opened;
+            return Err(PlanFault::Over { opened });
+        }
         Err(Stop::Memory) => return Err(PlanFault::Memory),
     }
     let mut cert = Vec::new(alloc);
     certificate::write(&mut at, &loads, bus_bound, best.finish, &mut cert)?;
     let planned = found_plan(alloc, problem, &best, cert);
+    let opened = count.opened;
     Ok(Counted { planned, opened })
 }
 

@@ -27,6 +27,13 @@ pub struct Best {
     pub steps: Vec<Begun>,
 }
 
+/// How many nodes a search opened, and how many it may open.
+#[derive(Clone, Copy)]
+pub struct Count {
+    pub opened: u32,
+    pub limit: u32,
+}
+
 /// Why a search gave up.
 #[derive(Drop)]
 pub enum Stop {
@@ -44,23 +51,23 @@ pub fn search(
     loads: &Loads,
     bus_bound: u64,
     best: &mut Best,
-    opened: &mut u32,
-    limit: u32,
+    count: &mut Count,
 ) -> Result<bool, Stop>
     requires limits { InLimits problem.old.problem }
     requires loads { AreLoads problem.old loads.now.of.items }
     requires bus { bus_bound ≡ bus problem.old.problem }
-    requires opened { opened.old ≤ limit }
+    requires opened { count.old.opened ≤ count.old.limit }
     ensures problem { IfOk result (λ _. problem.new ≡ problem.old) }
     ensures found { IfOk result (λ improved. Searched problem.old best.old best.new improved) }
-    ensures opened { IfOk result (λ _. HasOpened problem.old.problem best.old.finish best.new.finish opened.old opened.new) }
-    ensures within { opened.new ≤ limit }
-    ensures over { IfErr result (λ stop. stop ≡ Stop.Over → IsOver problem.old.problem best.old.finish opened.old opened.new limit) }
+    ensures opened { IfOk result (λ _. HasOpened problem.old.problem best.old.finish best.new.finish count.old.opened count.new.opened) }
+    ensures within { count.new.opened ≤ count.old.limit }
+    ensures limit { count.new.limit ≡ count.old.limit }
+    ensures over { IfErr result (λ stop. stop ≡ Stop.Over → IsOver problem.old.problem best.old.finish count.old.opened count.new.opened count.old.limit) }
 {
-    if *opened == limit {
+    if count.opened == count.limit {
         return Err(Stop::Over);
     }
-    *opened += 1;
+    count.opened += 1;
     if closing_token(problem, loads, bus_bound, best.finish).is_some() {
         return Ok(false);
     }
@@ -79,7 +86,7 @@ pub fn search(
         if yields[step.lun() as usize].is_some() {
             continue;
         }
-        if visit(problem, loads, bus_bound, *step, best, opened, limit)? {
+        if visit(problem, loads, bus_bound, *step, best, count)? {
             improved = true;
         }
     }
@@ -95,13 +102,12 @@ pub fn visit(
     bus_bound: u64,
     step: Move,
     best: &mut Best,
-    opened: &mut u32,
-    limit: u32,
+    count: &mut Count,
 ) -> Result<bool, Stop>
     requires limits { InLimits problem.old.problem }
     requires loads { AreLoads problem.old loads.now.of.items }
     requires bus { bus_bound ≡ bus problem.old.problem }
-    requires opened { opened.old ≤ limit }
+    requires opened { count.old.opened ≤ count.old.limit }
     requires step { IsMove problem.old.problem (move_of problem.old.groups step) }
     requires lun { move_lun (move_of problem.old.groups step) ≡ lun_named step }
     ensures problem { IfOk result (λ _. problem.new ≡ problem.old) }
@@ -109,22 +115,23 @@ pub fn visit(
     ensures least { IfOk result (λ _. Bounded (moved problem.old step).problem best.new.finish) }
     ensures run { IfOk result (λ improved. improved ≡ true → Run problem.old.problem (run_of problem.old.groups best.new.steps.items) best.new.finish) }
     ensures kept { IfOk result (λ improved. improved ≡ false → best.new ≡ best.old) }
-    ensures opened { IfOk result (λ _. HasOpened (moved problem.old step).problem best.old.finish best.new.finish opened.old opened.new) }
-    ensures within { opened.new ≤ limit }
-    ensures over { IfErr result (λ stop. stop ≡ Stop.Over → IsOver (moved problem.old step).problem best.old.finish opened.old opened.new limit) }
+    ensures opened { IfOk result (λ _. HasOpened (moved problem.old step).problem best.old.finish best.new.finish count.old.opened count.new.opened) }
+    ensures within { count.new.opened ≤ count.old.limit }
+    ensures limit { count.new.limit ≡ count.old.limit }
+    ensures over { IfErr result (λ stop. stop ≡ Stop.Over → IsOver (moved problem.old step).problem best.old.finish count.old.opened count.new.opened count.old.limit) }
 {
     let start = problem.earliest(&step);
-    let behind = bus_after(problem, bus_bound, step);
-    if behind >= best.finish {
-        if limit == *opened {
+    let bound = bus_after(problem, bus_bound, step);
+    if bound >= best.finish {
+        if count.limit == count.opened {
             let over = Stop::Over;
             return Err(over);
         }
-        *opened = *opened + 1;
+        count.opened = count.opened + 1;
         return Ok(false);
     }
     let undo = problem.advance(&step);
-    let improved = search(problem, loads, behind, best, opened, limit)?;
+    let improved = search(problem, loads, bound, best, count)?;
     problem.undo(undo);
     if improved {
         match best.steps.push(Begun { step, start }) {

@@ -25,7 +25,7 @@ use std::thread::Threads;
 /// `Memory`.
 ///
 /// # Errors
-/// `Over` with `limit` where a part opened so many nodes and has more; else with how many nodes the parts opened
+/// `Over` with `limit` where a part opened `limit` nodes and has more; else with how many nodes the parts opened
 /// together, where these are more than 1,048,575. Where parts refuse, the first of them is reported. `Memory` where memory
 /// was refused.
 pub fn plan_split<R: Threads + Sync, G: PartGate + Sync>(

@@ -32,5 +32,5 @@ invariant-read_children-loop-m g l =
       read : ReadOn l.fn.tokens.place l.tokens.place begun left;
       behind : g.S.TokenSource.behind l.tokens.source ≡ g.S.TokenSource.behind l.fn.tokens.source;
       asked : IsAsked p all l.standing.asked;
-      same : (rest : List Token) → BeginsRest p l.e (moves_of l.fn.problem.groups (drop l.m-index l.listed)) all l.standing.awaited l.standing.leaving left rest ↔ BeginsEach p l.e all begun rest;
+      same : (rest : List Token) → BeginsRest p l.node.e (moves_of l.fn.problem.groups (drop l.m-index l.listed)) all l.standing.awaited l.standing.leaving left rest ↔ BeginsEach p l.node.e all begun rest;
     }

@@ -110,7 +110,7 @@ write_below-write-requires t c =
         (
           subst (λ (z : Position). AreLoads z c.args.loads.now.of.items) (sym c.advance-undo.ensures.moved) (loads_after x c.args.step c.args.loads.now.of.items c.requires.step c.requires.loads),
           (
-            subst (λ (z : Position). c.bus_after-behind.result ≡ bus z.problem) (sym c.advance-undo.ensures.moved) c.bus_after-behind.ensures,
+            subst (λ (z : Position). c.bus_after-bound.result ≡ bus z.problem) (sym c.advance-undo.ensures.moved) c.bus_after-bound.ensures,
             subst (λ (z : Position). Bounded z.problem c.args.e) (sym c.advance-undo.ensures.moved) (bounded_below x.problem m c.args.e c.requires.step c.requires.least),
           ),
         ),
@@ -135,8 +135,8 @@ write-bounds-yields-lun t c = subst (λ l. l < 8) (sym c.lun.ensures) (all_at (I
 pub write_below-returns-clause-problem : goal.write_below-returns-clause-problem
 write_below-returns-clause-problem t c = handed_back c.args.problem.now _ c.write.new.problem _ c.advance-undo.result c.in_ok-write.ensures.problem c.advance-undo.ensures.undo c.undo.ensures
 
-pub write_below-returns-then-behind-e-clause-written : goal.write_below-returns-then-behind-e-clause-written
-write_below-returns-then-behind-e-clause-written t c =
+pub write_below-returns-then-bound-e-clause-written : goal.write_below-returns-then-bound-e-clause-written
+write_below-returns-then-bound-e-clause-written t c =
     let x = c.args.problem.now in
     let m = move_of x.groups c.args.step in
-    closed_written (after x.problem m) c.args.e Bus c.args.tokens.now.items _ c.in_ok-push.ensures.items (ByBus, refl, let b = c.bus_after-behind.ensures in let k = c.if-behind-e.true in omega arith)
+    closed_written (after x.problem m) c.args.e Bus c.args.tokens.now.items _ c.in_ok-push.ensures.items (ByBus, refl, let b = c.bus_after-bound.ensures in let k = c.if-bound-e.true in omega arith)

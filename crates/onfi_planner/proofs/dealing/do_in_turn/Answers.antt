@@ -17,8 +17,8 @@ returns-in_err-shares-clause-over g c =
     let says = (c.in-Ok.ensures.each i (Err refusal) (omega arith)).1.met in
     subst (λ r. IfErr r (λ stopped. stopped.stop ≡ Over → MayRefuse g.F.Fn c.args.f.now c.args.n Over)) is says.1 over)
 
-pub loop-behind-init : goal.loop-behind-init
-loop-behind-init g c =
+pub loop-after-init : goal.loop-after-init
+loop-after-init g c =
     let whole : c.args.n ≡ c.args.n - 0 = omega arith in
     let long : length c.in-Ok.shares.items ≡ c.args.workers = search rules in
     let held = all_held g.F.Fn c.args.f.now c.args.workers c.args.n c.in-Ok.shares.items c.in_ok-shares.shares.items long c.in_ok-shares.ensures.done (λ worker d v below is.
@@ -32,21 +32,21 @@ loop-behind-init g c =
 
 pub take_last-answer-requires-clause-some : goal.take_last-answer-requires-clause-some
 take_last-answer-requires-clause-some g c =
-    let n = c.args.n - c.loop-behind.behind in
-    let call = c.args.n - 1 - c.loop-behind.behind in
+    let n = c.args.n - c.loop-after.after in
+    let call = c.args.n - 1 - c.loop-after.after in
     let next : suc call ≡ n = omega arith in
-    last_there g.F.Fn c.args.f.now c.args.workers n call c.loop-behind.shares.items next (mod_below call c.args.workers c.requires.some) c.loop-behind.invariant.held
+    last_there g.F.Fn c.args.f.now c.args.workers n call c.loop-after.shares.items next (mod_below call c.args.workers c.requires.some) c.loop-after.invariant.held
 
-pub loop-behind-preserved : goal.loop-behind-preserved
-loop-behind-preserved g c =
-    let n = c.args.n - c.loop-behind.behind in
-    let call = c.args.n - 1 - c.loop-behind.behind in
+pub loop-after-preserved : goal.loop-after-preserved
+loop-after-preserved g c =
+    let n = c.args.n - c.loop-after.after in
+    let call = c.args.n - 1 - c.loop-after.after in
     let next : suc call ≡ n = omega arith in
-    let same : call ≡ c.args.n - (c.loop-behind.behind + 1) = omega arith in
+    let same : call ≡ c.args.n - (c.loop-after.after + 1) = omega arith in
     let (rest, new, took) = c.take_last-answer.ensures in
-    let less = held_less g.F.Fn c.args.f.now c.args.workers n call (call % c.args.workers) c.loop-behind.shares.items c.take_last-answer.new.shares.items rest c.take_last-answer.result next refl (mod_below call c.args.workers c.requires.some) new took c.loop-behind.invariant.held in
+    let less = held_less g.F.Fn c.args.f.now c.args.workers n call (call % c.args.workers) c.loop-after.shares.items c.take_last-answer.new.shares.items rest c.take_last-answer.result next refl (mod_below call c.args.workers c.requires.some) new took c.loop-after.invariant.held in
     record {
       held = subst (λ z. Held g.F.Fn c.args.f.now c.args.workers z c.take_last-answer.new.shares.items) same less.0;
-      given = subst (λ z. GivesFrom g.F.Fn c.args.f.now z c.insert.new.self.items) same (in_front g.F.Fn c.args.f.now call n c.take_last-answer.result c.loop-behind.answers.items c.insert.new.self.items next c.in-Ok-insert.ensures.items less.1 c.loop-behind.invariant.given);
-      long = (let l = ap length c.in-Ok-insert.ensures.items in let k = c.loop-behind.invariant.long in omega arith);
+      given = subst (λ z. GivesFrom g.F.Fn c.args.f.now z c.insert.new.self.items) same (in_front g.F.Fn c.args.f.now call n c.take_last-answer.result c.loop-after.answers.items c.insert.new.self.items next c.in-Ok-insert.ensures.items less.1 c.loop-after.invariant.given);
+      long = (let l = ap length c.in-Ok-insert.ensures.items in let k = c.loop-after.invariant.long in omega arith);
     }

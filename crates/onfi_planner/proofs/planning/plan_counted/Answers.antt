@@ -13,15 +13,15 @@ found_plan-planned-requires-clause-found c = root_found c.args.problem.now c.in_
 
 pub returns-clause-opened : goal.returns-clause-opened
 returns-clause-opened c =
-    let n = nodes_opened c.args.problem.now c.in_ok-root.root c.search.new.best.finish c.search.new.opened c.in_ok-root.ensures c.in-Ok.ensures.opened in
-    subst (λ e. OpensNodes c.args.problem.now.problem e c.search.new.opened) (sym c.found_plan-planned.ensures.ends) n
+    let n = nodes_opened c.args.problem.now c.in_ok-root.root c.search.new.best.finish c.search.new.count.opened c.in_ok-root.ensures c.in-Ok.ensures.opened in
+    subst (λ e. OpensNodes c.args.problem.now.problem e c.search.new.count.opened) (sym c.found_plan-planned.ensures.ends) n
 
 pub returns-clause-some_opened : goal.returns-clause-some_opened
-returns-clause-some_opened c = some_opened c.in_ok-root.root.problem.problem _ _ c.search.new.opened c.in-Ok.ensures.opened
+returns-clause-some_opened c = some_opened c.in_ok-root.root.problem.problem _ _ c.search.new.count.opened c.in-Ok.ensures.opened
 
 pub returns-in-Err-Over-clause-over : goal.returns-in-Err-Over-clause-over
 returns-in-Err-Over-clause-over c = λ opened e.
     let over = c.in-Err-Over.ensures.over c.in-Err-Over.field-0-is in
-    let more = more_nodes c.args.problem.now c.in_ok-root.root c.search.new.opened c.args.limit c.in_ok-root.ensures over in
-    let same : c.search.new.opened ≡ opened = cc in
+    let more = more_nodes c.args.problem.now c.in_ok-root.root c.search.new.count.opened c.args.limit c.in_ok-root.ensures over in
+    let same : c.search.new.count.opened ≡ opened = cc in
     (sym same ∙ more.0, more.1)

@@ -1,4 +1,4 @@
-use Rattle.std.proofs.Common.{◌≡◌, true, length, get_or, arith, sym, ◌∙◌, subst, ap, refl, ◌<◌}
+use Rattle.std.proofs.Common.{◌≡◌, true, length, get_or, arith, sym, ◌∙◌, subst, ap, refl, ◌≤◌, ◌<◌}
 use Rattle.std.specs.Prelude.{◌==◌}
 use Rattle.std.specs.List.{AllByRecursion as All}
 use Rattle.std.proofs.lemmas.Bool.{eqb-true, false≢true}
@@ -25,8 +25,8 @@ use Rattle.onfi_problem.proofs.Limits.{after_limits}
 use Rattle.onfi_planner.proofs.search.+search.Goals as goal
 use Rattle.onfi_planner.proofs.search.+search.Goals.{search-then-branch, search-else-branch}
 
-pub search-returns-then-opened-limit-clause-over : goal.search-returns-then-opened-limit-clause-over
-search-returns-then-opened-limit-clause-over t c = λ e. one_over _ _ _ _ c.if-opened-limit.true
+pub search-returns-then-count-clause-over : goal.search-returns-then-count-clause-over
+search-returns-then-count-clause-over t c = λ e. one_over _ _ _ _ c.if-count.true
 
 pub search-returns-then-is_some-clause-found : goal.search-returns-then-is_some-clause-found
 search-returns-then-is_some-clause-found t c = closed_node c.args.problem.now c.args.best.now c.closing_token.result c.requires.limits.problem c.if-is_some.ensures c.closing_token.ensures
@@ -60,7 +60,7 @@ search-visit-requires t c =
           (
             subst (λ (z : Position). c.args.bus_bound ≡ bus z.problem) (sym e) c.requires.bus,
             (
-              c.loop-step.invariant.half.within,
+              subst (λ n. c.loop-step.count.opened ≤ n) (sym c.loop-step.invariant.limit) c.loop-step.invariant.half.within,
               (
                 subst (λ (z : Position). IsMove z.problem (move_of z.groups (get_or items c.loop-step.step-index (Next 0)))) (sym e) m,
                 subst (λ (z : Position). move_lun (move_of z.groups (get_or items c.loop-step.step-index (Next 0))) ≡ lun_named (get_or items c.loop-step.step-index (Next 0))) (sym e) named.lun,
@@ -78,8 +78,9 @@ search-returns-in_err-visit-clause-over t c =
     let items = c.as_slice-steps.result.now in
     let i = c.loop-step.step-index in
     let s = get_or items i (Next 0) in
-    rw (p.1, p.2) (λ q. given_up x items c.yields_of-yields.result i c.args.best.now c.loop-step.best c.loop-step.improved c.args.opened.now c.loop-step.opened c.visit.new.opened c.args.limit (Next 0) c.loop-step.invariant.listed c.loop-step.invariant.open_at c.loop-step-test.true c.loop-step.invariant.half
-    (subst (λ (z : Position). IsOver (moved z s).problem c.loop-step.best.finish c.loop-step.opened c.visit.new.opened c.args.limit) c.loop-step.invariant.problem (c.in_err-visit.ensures.over q)))
+    rw (p.1, p.2) (λ q. given_up x items c.yields_of-yields.result i c.args.best.now c.loop-step.best c.loop-step.improved c.args.count.now.opened c.loop-step.count.opened c.visit.new.count.opened c.args.count.now.limit (Next 0) c.loop-step.invariant.listed c.loop-step.invariant.open_at c.loop-step-test.true c.loop-step.invariant.half
+    (subst (λ n. IsOver (moved x s).problem c.loop-step.best.finish c.loop-step.count.opened c.visit.new.count.opened n) c.loop-step.invariant.limit
+    (subst (λ (z : Position). IsOver (moved z s).problem c.loop-step.best.finish c.loop-step.count.opened c.visit.new.count.opened c.loop-step.count.limit) c.loop-step.invariant.problem (c.in_err-visit.ensures.over q))))
 
 pub search-loop-step-preserved-then-is_some-2 : goal.search-loop-step-preserved-then-is_some-2
 search-loop-step-preserved-then-is_some-2 t c =
@@ -94,7 +95,8 @@ search-loop-step-preserved-then-is_some-2 t c =
       problem = e;
       listed = c.loop-step.invariant.listed;
       open_at = c.loop-step.invariant.open_at;
-      half = skipped x items c.yields_of-yields.result i c.args.best.now c.loop-step.best c.loop-step.improved c.args.opened.now c.loop-step.opened c.args.limit l.0 (Next 0) c.loop-step.invariant.listed c.loop-step-test.true l.1 h;
+      limit = c.loop-step.invariant.limit;
+      half = skipped x items c.yields_of-yields.result i c.args.best.now c.loop-step.best c.loop-step.improved c.args.count.now.opened c.loop-step.count.opened c.args.count.now.limit l.0 (Next 0) c.loop-step.invariant.listed c.loop-step-test.true l.1 h;
     }
 
 pub search-loop-step-preserved : goal.search-loop-step-preserved
@@ -110,15 +112,18 @@ search-loop-step-preserved t c =
     let v = c.in_ok-visit.ensures in
     let best = c.visit.new.best in
     let least = subst (λ (z : Position). Bounded (moved z s).problem best.finish) e v.least in
-    let more = subst (λ (z : Position). HasOpened (moved z s).problem c.loop-step.best.finish best.finish c.loop-step.opened c.visit.new.opened) e v.opened in
+    let more = subst (λ (z : Position). HasOpened (moved z s).problem c.loop-step.best.finish best.finish c.loop-step.count.opened c.visit.new.count.opened) e v.opened in
+    let limit = v.limit ∙ c.loop-step.invariant.limit in
+    let within = subst (λ n. c.visit.new.count.opened ≤ n) c.loop-step.invariant.limit v.within in
     elim c.if-branch.branch [
       | search-then-branch w ↦ (
           rw w.improved-is (record {
             problem = v.problem ∙ e;
             listed = all;
             open_at = o;
-            half = visited x items c.yields_of-yields.result i c.args.best.now c.loop-step.best best c.loop-step.improved true c.args.opened.now c.loop-step.opened c.visit.new.opened c.args.limit (Next 0) all o c.loop-step-test.true h
-                v.sooner least more v.within
+            limit = limit;
+            half = visited x items c.yields_of-yields.result i c.args.best.now c.loop-step.best best c.loop-step.improved true c.args.count.now.opened c.loop-step.count.opened c.visit.new.count.opened c.args.count.now.limit (Next 0) all o c.loop-step-test.true h
+                v.sooner least more within
                 (λ q. subst (λ (z : Position). Run z.problem (run_of z.groups best.steps.items) best.finish) e (v.run w.if-branch.true))
                 (λ q. absurd (false≢true (sym q)));
           }))
@@ -128,8 +133,9 @@ search-loop-step-preserved t c =
             problem = v.problem ∙ e;
             listed = all;
             open_at = o;
-            half = visited x items c.yields_of-yields.result i c.args.best.now c.loop-step.best best c.loop-step.improved c.loop-step.improved c.args.opened.now c.loop-step.opened c.visit.new.opened c.args.limit (Next 0) all o c.loop-step-test.true h
-                v.sooner least more v.within
+            limit = limit;
+            half = visited x items c.yields_of-yields.result i c.args.best.now c.loop-step.best best c.loop-step.improved c.loop-step.improved c.args.count.now.opened c.loop-step.count.opened c.visit.new.count.opened c.args.count.now.limit (Next 0) all o c.loop-step-test.true h
+                v.sooner least more within
                 (λ q. subst (λ (b : Best). Run x.problem (run_of x.groups b.steps.items) b.finish) (sym k) (h.run q))
                 (λ q. k ∙ h.kept q);
           }))
@@ -156,21 +162,21 @@ visit-search-requires t c =
     let less = work_after x.problem m c.requires.limits.problem c.requires.step in
     let w : work c.advance-undo.new.self.problem ≡ work (after x.problem m) = ap (λ (z : Position). work z.problem) c.advance-undo.ensures.moved in (
       omega (arith, c.decreases, w, less),
-      (subst (λ (z : Position). InLimits z.problem) (sym c.advance-undo.ensures.moved) (after_limits x.problem m c.requires.limits c.requires.step), (subst (λ (z : Position). AreLoads z c.args.loads.now.of.items) (sym c.advance-undo.ensures.moved) (loads_after x c.args.step c.args.loads.now.of.items c.requires.step c.requires.loads), (subst (λ (z : Position). c.bus_after-behind.result ≡ bus z.problem) (sym c.advance-undo.ensures.moved) c.bus_after-behind.ensures, c.requires.opened))),
+      (subst (λ (z : Position). InLimits z.problem) (sym c.advance-undo.ensures.moved) (after_limits x.problem m c.requires.limits c.requires.step), (subst (λ (z : Position). AreLoads z c.args.loads.now.of.items) (sym c.advance-undo.ensures.moved) (loads_after x c.args.step c.args.loads.now.of.items c.requires.step c.requires.loads), (subst (λ (z : Position). c.bus_after-bound.result ≡ bus z.problem) (sym c.advance-undo.ensures.moved) c.bus_after-bound.ensures, c.requires.opened))),
     )
 
-pub visit-returns-then-limit-opened-clause-over : goal.visit-returns-then-limit-opened-clause-over
-visit-returns-then-limit-opened-clause-over t c = λ e. one_over _ _ _ _ (sym c.if-limit-opened.true)
+pub visit-returns-then-count-clause-over : goal.visit-returns-then-count-clause-over
+visit-returns-then-count-clause-over t c = λ e. one_over _ _ _ _ (sym c.if-count.true)
 
-pub visit-returns-then-behind-best-clause-least : goal.visit-returns-then-behind-best-clause-least
-visit-returns-then-behind-best-clause-least t c =
+pub visit-returns-then-bound-best-clause-least : goal.visit-returns-then-bound-best-clause-least
+visit-returns-then-bound-best-clause-least t c =
     let x = c.args.problem.now in
     let m = move_of x.groups c.args.step in
     let limits = after_limits x.problem m c.requires.limits c.requires.step in
-    sound (Closed ByBus) (after x.problem m) c.args.best.now.finish limits.problem (let b = c.bus_after-behind.ensures in let k = c.if-behind-best.true in omega arith)
+    sound (Closed ByBus) (after x.problem m) c.args.best.now.finish limits.problem (let b = c.bus_after-bound.ensures in let k = c.if-bound-best.true in omega arith)
 
-pub visit-returns-then-behind-best-clause-opened : goal.visit-returns-then-behind-best-clause-opened
-visit-returns-then-behind-best-clause-opened t c = one_opened _ _ _ _ (ByBus, let b = c.bus_after-behind.ensures in let k = c.if-behind-best.true in omega arith)
+pub visit-returns-then-bound-best-clause-opened : goal.visit-returns-then-bound-best-clause-opened
+visit-returns-then-bound-best-clause-opened t c = one_opened _ _ _ _ (ByBus, let b = c.bus_after-bound.ensures in let k = c.if-bound-best.true in omega arith)
 
 pub visit-returns-else-improved-clause-problem : goal.visit-returns-else-improved-clause-problem
 visit-returns-else-improved-clause-problem t c = handed_back c.args.problem.now _ c.search.new.problem _ c.advance-undo.result c.in_ok-improved.ensures.problem c.advance-undo.ensures.undo c.undo.ensures
@@ -183,7 +189,8 @@ search-loop-step-init t c = record {
   problem = refl;
   listed = listed c.args.problem.now c.as_slice-steps.result.now _ c.as_slice-steps.ensures.value c.list_steps.ensures.moves c.list_steps.ensures.named;
   open_at = open_node c.args.problem.now c.args.best.now.finish c.closing_token.result _ (sym c.if-is_some.ensures) c.closing_token.ensures;
-  half = started c.args.problem.now c.as_slice-steps.result.now c.yields_of-yields.result c.args.best.now c.args.opened.now c.args.limit (omega (arith, c.if-opened-limit.false));
+  limit = refl;
+  half = started c.args.problem.now c.as_slice-steps.result.now c.yields_of-yields.result c.args.best.now c.args.count.now.opened c.args.count.now.limit (omega (arith, c.if-count.false));
 }
 
 pub search-last_ends-ends-requires-clause-moves : goal.search-last_ends-ends-requires-clause-moves

@@ -15,5 +15,6 @@ invariant-search-loop-step l = record {
   problem : l.problem ≡ l.fn.problem;
   listed : Listed l.fn.problem l.steps;
   open_at : IsOpen l.fn.best.finish l.fn.problem.problem;
-  half : Halfway l.fn.problem l.steps l.yields l.step-index l.fn.best l.best l.improved l.fn.opened l.opened l.limit;
+  half : Halfway l.fn.problem l.steps l.yields l.step-index l.fn.best l.best l.improved l.fn.count.opened l.count.opened l.fn.count.limit;
+  limit : l.count.limit ≡ l.fn.count.limit;
 }
