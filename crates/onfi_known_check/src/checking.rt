@@ -147,7 +147,7 @@ fn check_text(
 }
 
 /// Checks by the text of a certificate that remembers states that no legal schedule of the problem ends sooner than this
-/// one; answers when it ends, in ns. The tokens are read once, and no list of them is built; of each open node one record is
+/// one; returns when it ends, in ns. The tokens are read once, and no list of them is built; of each open node one record is
 /// kept, at most 1,048,576, so who bounds the tokens bounds the memory.
 ///
 /// # Errors
@@ -173,7 +173,7 @@ pub fn check_known_text(
 }
 
 /// Checks by the text of a certificate that remembers states that no legal schedule of the problem ends before `below` ns,
-/// and that this one ends then or later; answers when it ends, in ns. So it is optimal where it ends then. Tokens that are
+/// and that this one ends then or later; returns when it ends, in ns. So it is optimal where it ends then. Tokens that are
 /// accepted for one number may be refused for another.
 ///
 /// # Errors

@@ -118,7 +118,7 @@ fn closing_fault(token: Token, place: usize) -> KnownFault
     }
 }
 
-/// Reads a token that closes a node by a bound, and answers what that asks for.
+/// Reads a token that closes a node by a bound, and returns what that asks for.
 pub(crate) fn read_closing(
     problem: &Problem,
     e: u64,

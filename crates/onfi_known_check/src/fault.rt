@@ -31,7 +31,7 @@ pub enum KnownTextFault {
     /// The text begins with neither header line.
     #[error("the header line is none of a certificate that remembers states")]
     Header,
-    /// No token stands at this place, counted from 0; or so many good tokens stand there and the text doesn't end with
+    /// No token stands at this place, counted from 0; or that many good tokens stand there and the text doesn't end with
     /// one LF after them.
     #[error("no token at place {0}")]
     BadToken(usize),

@@ -69,8 +69,8 @@ impl Standing {
         let mut time = self.asked_of(lun);
         for y in self.given.as_slice() {
             if y.own as usize == lun {
-                let behind = self.asked_of(y.lun as usize).checked_add(y.longest)?;
-                time = time.max(behind);
+                let later = self.asked_of(y.lun as usize).checked_add(y.longest)?;
+                time = time.max(later);
             }
         }
         Some(time)

@@ -11,7 +11,7 @@ pub const MOST_KNOWN: u32 = 1_048_576;
 /// that node ends sooner.
 #[derive(Clone, Copy, Debug, PartialEq, Eq)]
 pub enum Token {
-    /// `B1` to `B99`: a node with so many moves; a child for each follows, in the order of the moves.
+    /// `B1` to `B99`: a node with that number of moves; a child for each follows, in the order of the moves.
     Branch(Width),
     /// `U`: the bound by the bus closes the node.
     Bus,

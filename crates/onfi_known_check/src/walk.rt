@@ -21,7 +21,7 @@ use onfi_check::{CertFault, last_ends};
 use onfi_demand::Demand;
 use onfi_problem::{Move, Moves, Problem};
 
-// Remembers a node that was read, and answers what it asks for.
+// Remembers a node that was read, and returns what it asks for.
 fn remember(
     problem: &Problem,
     times: [u64; 8],
@@ -45,7 +45,7 @@ fn remember(
     }
 }
 
-// Reads the tree of a problem whose first token, which stands at that place, was taken already, and answers what it
+// Reads the tree of a problem whose first token, which stands at that place, was taken already, and returns what it
 // asks for.
 //
 // On Ok the problem is as it was, and the tokens of the tree were taken.
