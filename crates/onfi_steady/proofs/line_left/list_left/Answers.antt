@@ -1,4 +1,4 @@
-use Rattle.std.proofs.Common.{◌∙◌, ap, arith, sym}
+use Rattle.std.proofs.Common.{◌∙◌, ap, arith, false, sym}
 use Rattle.std.proofs.lemmas.List.{take_all}
 use Rattle.onfi_steady.specs.declared.slot.Slot.{Slot}
 use Rattle.onfi_steady.specs.Slots.{left_of}
