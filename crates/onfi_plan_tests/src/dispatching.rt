@@ -31,7 +31,7 @@ fn want(id: u64, kind: Kind, lun: u8, block: u16) -> Want
 }
 
 // The LUN of the phase, its start, and the numbers of those that begin, 99 in place of none.
-fn told(next: &Option<NextPhase>) -> Option<(u8, u64, [u64; 4])> {
+fn numbers_of(next: &Option<NextPhase>) -> Option<(u8, u64, [u64; 4])> {
     match next {
         Some(phase) => Some((phase.lun, phase.start, numbers(phase.members()))),
         None => None,
@@ -53,16 +53,16 @@ fn when_a_read_starts(rt: HostRuntime) -> Result<(), Fail> {
     dispatcher.wait(6);
     dispatcher.accept(want(1, Kind::Read, 0, 0))?;
     assert_eq!(rt;
-        told(&dispatcher.look(4)),
+        numbers_of(&dispatcher.look(4)),
         Some((0, 6, [1, NONE, NONE, NONE]))
     );
     assert_eq!(rt;
-        told(&dispatcher.look(7)),
+        numbers_of(&dispatcher.look(7)),
         Some((0, 7, [1, NONE, NONE, NONE]))
     );
     dispatcher.wait(8);
     assert_eq!(rt;
-        told(&dispatcher.look(7)),
+        numbers_of(&dispatcher.look(7)),
         Some((0, 8, [1, NONE, NONE, NONE]))
     );
     Ok(())
@@ -75,7 +75,7 @@ fn what_is_held_where_nothing_runs(rt: HostRuntime) -> Result<(), Fail> {
     dispatcher.accept(want(1, Kind::Program, 1, 0))?;
     dispatcher.accept(want(2, Kind::Read, 1, 0))?;
     assert_eq!(rt;
-        told(&dispatcher.next(3)),
+        numbers_of(&dispatcher.next(3)),
         Some((1, 3, [1, NONE, NONE, NONE]))
     );
     Ok(())
@@ -87,18 +87,18 @@ fn the_newest_program(rt: HostRuntime) -> Result<(), Fail> {
     let mut dispatcher = Dispatcher::new(&timing(5)?, rules(), 2);
     dispatcher.accept(want(1, Kind::Read, 1, 0))?;
     assert_eq!(rt;
-        told(&dispatcher.next(0)),
+        numbers_of(&dispatcher.next(0)),
         Some((1, 0, [1, NONE, NONE, NONE]))
     );
     dispatcher.ran(0)?;
     dispatcher.accept(want(2, Kind::Program, 0, 0))?;
     assert_eq!(rt;
-        told(&dispatcher.next(0)),
+        numbers_of(&dispatcher.next(0)),
         Some((1, 60, [NONE, NONE, NONE, NONE]))
     );
     dispatcher.accept(want(3, Kind::Program, 1, 0))?;
     assert_eq!(rt;
-        told(&dispatcher.next(0)),
+        numbers_of(&dispatcher.next(0)),
         Some((0, 10, [2, NONE, NONE, NONE]))
     );
     Ok(())
@@ -122,7 +122,7 @@ fn what_is_refused(rt: HostRuntime) -> Result<(), Fail> {
     );
     assert_eq!(rt; dispatcher.ran(5), Err(RanFault::NothingDue));
     assert_eq!(rt;
-        told(&dispatcher.next(3)),
+        numbers_of(&dispatcher.next(3)),
         Some((1, 3, [7, NONE, NONE, NONE]))
     );
     assert_eq!(rt; dispatcher.ran(2), Err(RanFault::TooSoon));
@@ -154,12 +154,15 @@ fn a_change_after_next(rt: HostRuntime) -> Result<(), Fail> {
     let mut dispatcher = Dispatcher::new(&timing(5)?, rules(), 2);
     dispatcher.accept(want(1, Kind::Read, 0, 0))?;
     assert_eq!(rt;
-        told(&dispatcher.next(0)),
+        numbers_of(&dispatcher.next(0)),
         Some((0, 0, [1, NONE, NONE, NONE]))
     );
     dispatcher.accept(want(2, Kind::Read, 0, 1))?;
     assert_eq!(rt; dispatcher.ran(0), Err(RanFault::NothingDue));
-    assert_eq!(rt; told(&dispatcher.next(0)), Some((0, 0, [1, 2, NONE, NONE])));
+    assert_eq!(rt;
+        numbers_of(&dispatcher.next(0)),
+        Some((0, 0, [1, 2, NONE, NONE]))
+    );
     Ok(())
 }
 
@@ -167,22 +170,22 @@ fn a_change_after_next(rt: HostRuntime) -> Result<(), Fail> {
 #[test]
 fn a_look_and_a_wait(rt: HostRuntime) -> Result<(), Fail> {
     let mut dispatcher = Dispatcher::new(&timing(5)?, rules(), 2);
-    assert_eq!(rt; told(&dispatcher.look(4)), None);
+    assert_eq!(rt; numbers_of(&dispatcher.look(4)), None);
     dispatcher.accept(want(1, Kind::Read, 0, 0))?;
     assert_eq!(rt;
-        told(&dispatcher.look(4)),
+        numbers_of(&dispatcher.look(4)),
         Some((0, 4, [1, NONE, NONE, NONE]))
     );
     assert_eq!(rt; dispatcher.ran(4), Err(RanFault::NothingDue));
     assert_eq!(rt;
-        told(&dispatcher.next(4)),
+        numbers_of(&dispatcher.next(4)),
         Some((0, 4, [1, NONE, NONE, NONE]))
     );
     dispatcher.wait(9);
     assert_eq!(rt; dispatcher.ran(9), Err(RanFault::NothingDue));
     dispatcher.wait(7);
     assert_eq!(rt;
-        told(&dispatcher.look(0)),
+        numbers_of(&dispatcher.look(0)),
         Some((0, 9, [1, NONE, NONE, NONE]))
     );
     Ok(())
@@ -194,21 +197,21 @@ fn an_array_done_early(rt: HostRuntime) -> Result<(), Fail> {
     let mut dispatcher = Dispatcher::new(&timing(5)?, rules(), 1);
     dispatcher.accept(want(1, Kind::Read, 0, 0))?;
     assert_eq!(rt;
-        told(&dispatcher.next(0)),
+        numbers_of(&dispatcher.next(0)),
         Some((0, 0, [1, NONE, NONE, NONE]))
     );
     dispatcher.ran(0)?;
     assert_eq!(rt;
-        told(&dispatcher.next(0)),
+        numbers_of(&dispatcher.next(0)),
         Some((0, 60, [NONE, NONE, NONE, NONE]))
     );
     assert_eq!(rt; dispatcher.ready(0, 30), Ok(()));
     assert_eq!(rt;
-        told(&dispatcher.next(0)),
+        numbers_of(&dispatcher.next(0)),
         Some((0, 30, [NONE, NONE, NONE, NONE]))
     );
     dispatcher.ran(30)?;
-    assert_eq!(rt; told(&dispatcher.next(0)), None);
+    assert_eq!(rt; numbers_of(&dispatcher.next(0)), None);
     Ok(())
 }
 
@@ -221,7 +224,7 @@ fn a_request_that_is_cancelled(rt: HostRuntime) -> Result<(), Fail> {
     assert!(rt; dispatcher.cancel(1));
     assert!(rt; !dispatcher.cancel(1));
     assert_eq!(rt;
-        told(&dispatcher.next(0)),
+        numbers_of(&dispatcher.next(0)),
         Some((1, 0, [2, NONE, NONE, NONE]))
     );
     Ok(())
@@ -275,12 +278,12 @@ fn a_request_once_more(rt: HostRuntime) -> Result<(), Fail> {
     dispatcher.accept(want(6, Kind::Read, 0, 1))?;
     dispatcher.accept_again(want(5, Kind::Program, 0, 0))?;
     assert_eq!(rt;
-        told(&dispatcher.next(0)),
+        numbers_of(&dispatcher.next(0)),
         Some((0, 0, [6, NONE, NONE, NONE]))
     );
     assert!(rt; dispatcher.cancel(6));
     assert_eq!(rt;
-        told(&dispatcher.next(0)),
+        numbers_of(&dispatcher.next(0)),
         Some((0, 0, [5, NONE, NONE, NONE]))
     );
     Ok(())

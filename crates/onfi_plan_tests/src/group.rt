@@ -26,8 +26,8 @@ fn are(groups: &[Group], numbers: &[u64]) -> bool {
     if groups.len() != numbers.len() {
         return false;
     }
-    for (group, told) in groups.iter().zip(numbers.iter()) {
-        if number(group) != *told {
+    for (group, listed) in groups.iter().zip(numbers.iter()) {
+        if number(group) != *listed {
             return false;
         }
     }

@@ -46,7 +46,7 @@ pub(crate) fn timing(gap: u64) -> Result<Timing, Fail> {
 
 /// When a plan ends, and what no schedule ends before; after a stroke the starts that are left of each LUN's running group;
 /// then each new group, its members' numbers before its starts.
-pub(crate) fn told(alloc: Global, plan: &Plan) -> Result<Vec<u8>, AllocError> {
+pub(crate) fn print_plan(alloc: Global, plan: &Plan) -> Result<Vec<u8>, AllocError> {
     let mut text = Vec::new(alloc);
     let (finish, below) = (plan.finish, plan.below);
     text.extend_from_slice(format!(in alloc; "{finish} {below}")?.as_bytes())?;

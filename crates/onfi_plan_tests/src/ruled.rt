@@ -1,6 +1,6 @@
 //! A plan by the rule, alone and as it is chosen.
 
-use crate::rule_sample::{free, timing, told, want};
+use crate::rule_sample::{free, print_plan, timing, want};
 use onfi_group::Rules;
 use onfi_known_check::check_known_within;
 use onfi_plan::{Certificate, Limit, Planner};
@@ -20,7 +20,7 @@ fn the_planner_and_the_certificate(rt: HostRuntime) -> Result<(), Fail> {
     let problem = Problem::new(alloc, timing(5)?, rules, 0, &luns, &wants)?;
     let plan = plan_by_rule(alloc, &problem)?;
     let by_planner = By::Rule.plan(alloc, &problem, Limit::of(1).unwrap())?;
-    assert!(rt; told(alloc, &plan)?.as_slice() == told(alloc, &by_planner)?.as_slice());
+    assert!(rt; print_plan(alloc, &plan)?.as_slice() == print_plan(alloc, &by_planner)?.as_slice());
     assert_eq!(rt; by_planner.opened, 0);
     let Certificate::Text(text) = &plan.certificate else {
         return Err(Fail::from("tokens"));

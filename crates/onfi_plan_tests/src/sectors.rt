@@ -1,6 +1,6 @@
 //! Plans of reads of some sectors.
 
-use crate::rule_sample::told;
+use crate::rule_sample::print_plan;
 use crate::sample::free;
 use onfi_addr::Place;
 use onfi_group::{Group, Rules};
@@ -98,7 +98,7 @@ fn the_rule_begins_reads_of_other_sectors_as_one(rt: HostRuntime) -> Result<(), 
     let wants = [read(0, Kind::Read, 0, 0, 0), read(1, SECTOR, 0, 1, 0)];
     let problem = posed(alloc, &[free()], &wants)?;
     let plan = plan_by_rule(alloc, &problem)?;
-    let shown = told(alloc, &plan)?;
+    let shown = print_plan(alloc, &plan)?;
     assert!(rt; shown.as_slice() == b"40060 40060|; 0 1: 0 740 25980 36980".as_slice());
     Ok(())
 }

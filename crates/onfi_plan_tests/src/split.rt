@@ -103,7 +103,7 @@ fn the_second_part_begins_while_the_first_waits(rt: HostRuntime) -> Result<(), F
 }
 
 #[test]
-fn the_gate_is_told_of_each_part_once(rt: HostRuntime) -> Result<(), Fail> {
+fn the_gate_hears_of_each_part_once(rt: HostRuntime) -> Result<(), Fail> {
     let problem = reads_apart(rt.alloc())?;
     let alone = plan(rt.alloc(), &problem, 7)?;
     for workers in 1..9usize {

@@ -1,6 +1,6 @@
 //! What a walk is after.
 
-ghost use Rattle.std.specs.Prelude.{◌≤◌, length};
+ghost use Rattle.std.specs.Prelude.{◌≡◌, ◌≤◌, IfOk, length};
 
 use crate::cost::weight_of;
 use crate::weights::Weights;
@@ -39,13 +39,16 @@ impl Aim {
         problem: &Problem,
         weights: &Weights,
         latest: u64,
-    ) -> Result<Aim, AllocError> {
+    ) -> Result<Aim, AllocError>
+        ensures wants { IfOk result (λ aim. aim.wants ≡ weights.now.wants) }
+        ensures latest { IfOk result (λ aim. aim.latest ≡ latest) }
+    {
         let mut groups = members_of_groups(alloc, problem, &weights.wants)?;
         for (lun, state) in problem.luns().iter().enumerate() {
             if state.next > 0
                 && let Some(own) = groups.get_mut(state.place as usize)
             {
-                own.weights = weights.running[lun % 8];
+                own.weights = weights.running[lun];
             }
         }
         let wants = weights.wants;
@@ -73,7 +76,7 @@ impl Aim {
         }
     }
 
-    /// The least weight of so many members of the group at a place, from one on; the greatest number where there is none.
+    /// The least weight of `members` members of the group at a place, from one on; the greatest number where there is none.
     pub fn least(&self, place: u8, first: u8, members: u8) -> u16 {
         let mut least = u16::MAX;
         for member in first..first.saturating_add(members) {
@@ -124,7 +127,7 @@ fn weights_of_members(wants: &[Want], weights: &[u16; 8], group: &Group) -> [u16
 {
     let mut own = [0; 4];
     for (at, member) in group.members().iter().enumerate() {
-        own[at % 4] = weight_of(wants, weights, member.id);
+        own[at] = weight_of(wants, weights, member.id);
     }
     own
 }

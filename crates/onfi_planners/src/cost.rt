@@ -99,7 +99,7 @@ fn cost_of_group(timing: &Timing, wants: &[Want], weights: &[u16; 8], group: &Pl
     cost_after(posts.as_slice(), own.as_slice(), 0, members.len(), starts)
 }
 
-// What the posts after so many commands cost; the first of them is that of member `first`.
+// What the posts after that number of commands cost; the first of them is that of member `first`.
 fn cost_after(
     posts: &[u64],
     weights: &[u16],

@@ -5,16 +5,13 @@
 
 mod aim;
 mod by;
-mod children;
 mod chosen;
 mod cost;
 mod floor;
 mod improving;
 mod line;
 mod nodes;
-mod rest;
 mod seen;
-mod times;
 mod walk;
 mod weighing;
 mod weights;
@@ -22,7 +19,7 @@ mod weights;
 pub use by::By;
 pub use chosen::{ChosenPlanner, Early};
 pub use cost::cost_of;
-pub use improving::make_better;
+pub use improving::{Better, make_better, make_better_counted};
 pub use nodes::Nodes;
 pub use onfi_plan::PlainPlanner;
 pub use weighing::Weighing;

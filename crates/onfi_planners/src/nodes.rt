@@ -30,7 +30,7 @@ impl Nodes {
     /// The number where none is named.
     pub const USUAL: u32 = 1_500;
 
-    /// So many nodes, or None where that is above 1,048,576.
+    /// That number of nodes, or None where it is above 1,048,576.
     pub fn of(number: u32) -> Option<Nodes>
         ensures in_range { IsSome result ↔ (number ≤ 1048576) }
         ensures value { IfSome result (λ nodes. nodes ≡ number) }

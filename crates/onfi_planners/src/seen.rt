@@ -1,6 +1,6 @@
 //! What a walk has seen, so that it doesn't look again where it can find nothing cheaper.
 
-ghost use Rattle.std.specs.Prelude.{◌<◌};
+ghost use Rattle.std.specs.Prelude.{◌≡◌, ◌<◌, []};
 
 use onfi_problem::Problem;
 use std::alloc::{AllocError, Global};
@@ -21,7 +21,7 @@ pub struct Node {
 }
 
 impl Node {
-    /// The node of a problem as it stands, before which posts cost so much.
+    /// The node of a problem as it stands, before which posts cost `cost`.
     pub fn of(problem: &Problem, cost: u128) -> Node {
         Node {
             key: key_of(problem),
@@ -42,7 +42,9 @@ pub struct Seen {
 
 impl Seen {
     /// No node yet.
-    pub fn new(alloc: Global) -> Seen {
+    pub fn new(alloc: Global) -> Seen
+        ensures { result.nodes.items ≡ [] }
+    {
         Seen {
             nodes: Vec::new(alloc),
             newest: HashMap::new(alloc),

@@ -1,6 +1,6 @@
 //! How much the requests of a problem count.
 
-ghost use Rattle.std.specs.Prelude.{◌≤◌};
+ghost use Rattle.std.specs.Prelude.{◌≤◌, length};
 ghost use Rattle.std.specs.List.{All};
 ghost use Rattle.onfi_planners.specs.Weighing.{AreWeights};
 
@@ -102,21 +102,23 @@ impl Ages {
     }
 
     fn weights_of_wants(self, wants: &[Want]) -> [u16; 8]
+        requires { length wants.now ≤ 8 }
         ensures { All (λ w. 1 ≤ w) result }
     {
         let mut weights = [1; 8];
         for (at, want) in wants.iter().enumerate() {
-            weights[at % 8] = self.weight_of(want.id);
+            weights[at] = self.weight_of(want.id);
         }
         weights
     }
 
     fn weights_of_members(self, members: &[Want]) -> [u16; 4]
+        requires { length members.now ≤ 4 }
         ensures { All (λ w. 1 ≤ w) result }
     {
         let mut weights = [1; 4];
         for (at, member) in members.iter().enumerate() {
-            weights[at % 4] = self.weight_of(member.id);
+            weights[at] = self.weight_of(member.id);
         }
         weights
     }
@@ -129,7 +131,7 @@ impl Ages {
             if state.next > 0
                 && let Some(group) = problem.groups().get(state.place as usize)
             {
-                weights[lun % 8] = self.weights_of_members(group.members());
+                weights[lun] = self.weights_of_members(group.members());
             }
         }
         weights

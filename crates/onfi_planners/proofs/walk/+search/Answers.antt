@@ -22,7 +22,7 @@ search_children-visit-requires t c =
     let e = sym c.loop.invariant.problem in
     let step = step_at x c.args.moves.now items c.in-Some.at (Next 0) c.as_slice-listed.ensures.value c.requires.moves c.requires.named c.in-Some.ensures in
     let w : work c.loop.problem.problem ≡ work x.problem = ap (λ (z : Position). work z.problem) c.loop.invariant.problem in
-    (omega (arith, c.decreases, w), (subst (λ (z : Position). IsWalk z c.args.loads.now) e c.requires.walk, subst (λ (z : Position). IsStep z (get_or items c.in-Some.at (Next 0))) e step))
+    (omega (arith, c.decreases, w), (subst (λ (z : Position). IsWalk z c.args.guide.now.loads) e c.requires.walk, subst (λ (z : Position). IsStep z (get_or items c.in-Some.at (Next 0))) e step))
 
 pub visit-search-requires : goal.visit-search-requires
 visit-search-requires t c =
@@ -30,4 +30,4 @@ visit-search-requires t c =
     let m = move_of x.groups c.args.step in
     let less = work_after x.problem m c.requires.walk.limits.problem c.requires.step.move in
     let w : work c.advance-undo.new.self.problem ≡ work (after x.problem m) = ap (λ (z : Position). work z.problem) c.advance-undo.ensures.moved in
-    (omega (arith, c.decreases, w, less), subst (λ (z : Position). IsWalk z c.args.loads.now) (sym c.advance-undo.ensures.moved) (walk_moved x c.args.step c.args.loads.now c.requires.step c.requires.walk))
+    (omega (arith, c.decreases, w, less), subst (λ (z : Position). IsWalk z c.args.guide.now.loads) (sym c.advance-undo.ensures.moved) (walk_moved x c.args.step c.args.guide.now.loads c.requires.step c.requires.walk))

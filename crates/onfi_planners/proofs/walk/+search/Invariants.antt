@@ -1,4 +1,4 @@
-use Rattle.std.proofs.Common.{◌≡◌, ◌+◌, ◌*◌}
+use Rattle.std.proofs.Common.{◌≡◌, ◌+◌, ◌*◌, ◌≤◌}
 use Rattle.onfi_planner.specs.Planning.{work}
 use Rattle.onfi_planners.specs.Steps.{IsFound}
 use Rattle.onfi_planners.proofs.walk.+search.Given as goal
@@ -16,4 +16,5 @@ abbrev pub invariant-search_children-loop : goal.invariant-search_children-loop
 invariant-search_children-loop l = record {
   problem : l.problem ≡ l.fn.problem;
   found : IsFound l.fn.problem l.fn.best l.best l.improved;
+  spent : l.notes.left ≤ l.fn.notes.left;
 }
