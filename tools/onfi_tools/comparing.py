@@ -82,7 +82,7 @@ def ended_of(request: Request) -> int:
 
 
 def of_log(requests: Sequence[Request], outstanding: Optional[int]) -> Outcome:
-    """The log itself: each request came with its command, or with so many outstanding as the one so many before it ended, if that was sooner."""
+    """The log itself: each request came with its command, or with that many outstanding as the one that many before it ended, if that was sooner."""
     ended = {it.number: ended_of(it) for it in requests}
     came = {it.number: it.began for it in requests}
     if outstanding is not None:
@@ -137,7 +137,7 @@ def geometry_of(onfi: Any, channel: Any) -> Any:
 
 
 class Loop:
-    """The dispatcher on the requests of a log: each comes with its command in the log, or with so many outstanding as the one so many before
+    """The dispatcher on the requests of a log: each comes with its command in the log, or with that many outstanding as the one that many before
     it has ended, the first ones as the log begins its first."""
 
     def __init__(self, onfi: Any, channel: Any, requests: Sequence[Request], outstanding: Optional[int]) -> None:

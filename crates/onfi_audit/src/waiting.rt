@@ -14,7 +14,7 @@ use std::marker::Model;
 #[derive(Drop)]
 pub(crate) struct Waiting {
     all: Vec<Want>,
-    // So many at the front have left.
+    // That many at the front have left.
     gone: usize,
 }
 

@@ -43,7 +43,7 @@ begun_says channel p said is =
       is = same_parts p.timing p.rules p.bus_free channel.bus_free 0 (map stage_of_state p.luns) (stages_of bits (luns_of channel) (replicate 8 no_stage)) [] is.bus_free stages refl;
     }
 
--- what is said of a channel of which nothing waits
+-- what is given of a channel of which nothing waits
 pub said_here : (channel : PlainChannel) (timing : Timing) (rules : Rules) (whole : List LunState) → IsMeasured channel [] timing → AreRules channel.rules rules
     → whole ≡ filled 8 (Free 0) (states_of channel.rules.plane_bits (luns_of channel)) → IsSaid channel [] (problem_of timing rules channel.bus_free (take (length (luns_of channel)) whole) [])
 said_here channel timing rules whole measured are states = record {

@@ -109,7 +109,7 @@ short_posts (post ∷ posts) good =
     let short : post < 2 ^ 50 = grind (arith, nat_tests) in
     (short, short_posts posts more)
 
--- What is said with sectors that have no length
+-- What is given with sectors that have no length
 
 pub lacking_told : (p : Problem) (o : Option ProblemFault) → TellsFault p o → IsBadProblem true p (lacking_status o)
 lacking_told p None tells = (tells.0.small, tells.0.problem, refl)

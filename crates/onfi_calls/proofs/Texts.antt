@@ -27,7 +27,7 @@ pub memory_is_answer : (a : Asked) (input old new : List ℕ) (bytes result : �
 memory_is_answer (asked.Answer command) input old new bytes result g = record { answer = memory; is_answer = inl refl; gives = g }
 memory_is_answer (asked.Audit options) input old new bytes result g = record { answer = memory; is_answer = inl refl; gives = g }
 
--- what is said of a log is the answer that is asked for
+-- what is reported of a log is the answer that is asked for
 pub log_answered : (options : AuditOptions) (input : List ℕ) (o : Option Answered) → IfSome o (λ a. AnswersAuditBy options input (answer_of a))
     → IfSome o (λ a. IsAnswerTo (asked.Audit options) input (answer_of a))
 log_answered options input None is = tt

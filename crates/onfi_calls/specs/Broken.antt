@@ -89,7 +89,7 @@ timed (RunningGroupLeft name lun start end) = too_soon 16 name lun start end
 timed (LunNotFree name lun start since) = too_soon 18 name lun start since
 timed breach = in_the_way breach
 
--- .. or a phase starts too soon behind the one before it in its group
+-- .. or a phase starts too soon after the one before it in its group
 abbrev pub waited : Breach → PlainBroken
 waited (WaitTooShort name before lun start ready) = record (too_soon 15 name lun start ready) { other = written_name before }
 waited breach = timed breach
@@ -115,19 +115,19 @@ IsNear (ForeignLun last) = last < 256
 IsNear (MissingLun lun) = lun < 256
 IsNear _ = Unit {0}
 
--- the schedule breaks a condition, and what is said of it is so
+-- the schedule breaks a condition, and what is reported of it is so
 pub record IsBroken (p : Problem) (s : Schedule) (broken : PlainBroken) : Type 0 where
   pub breach : Breach
   pub breaks : Breaks p s breach
   pub tells : Tells p s breach
   pub written : broken ≡ written_breach breach
 
--- it is legal, or breaks that condition, and by a number it is told which
+-- it is legal, or breaks that condition, and a number says which
 pub data IsJudged (p : Problem) (s : Schedule) (broken : PlainBroken) (result : ℕ) : Type 0 where
   is_legal : Legal p s → broken ≡ unbroken → result ≡ 0 → IsJudged p s broken result
   is_illegal : IsBroken p s broken → result ≡ number_of Illegal → IsJudged p s broken result
 
--- a caller is told that the schedule is legal, or which condition it breaks; or by a number why there is none, and nothing else
+-- a caller learns that the schedule is legal, or which condition it breaks; or by a number why there is none, and nothing else
 pub data GivesBreach (channel : PlainChannel) (wants : List PlainWant) (schedule : PlainSchedule) (old new : PlainBroken) (result : ℕ) : Type 0 where
   gives_breach : (p : Problem) (s : Schedule) → IsScheduleSaid channel wants schedule p s → IsJudged p s new result
       → GivesBreach channel wants schedule old new result

@@ -25,11 +25,11 @@ use Rattle.onfi_calls.specs.Ran.{IsDueThere, lun_in, telling}
 use Rattle.onfi_calls.specs.ReadSchedule.{group_of, rest_of}
 use Rattle.onfi_calls.specs.PlainSchedule.{filled, no_rest, written_group, written_rest}
 
--- what is left of a running group, later by so much
+-- what is left of a running group, later by that much
 abbrev pub later_rest : ℕ → PlainRest → PlainRest
 later_rest by rest = written_rest (later_starts by (rest_of rest))
 
--- a new group of these wants, later by so much
+-- a new group of these wants, later by that much
 abbrev pub later_said : ℕ → List Want → PlainGroup → PlainGroup
 later_said by wants group = written_group (later_group by (group_of wants group))
 
@@ -37,7 +37,7 @@ later_said by wants group = written_group (later_group by (group_of wants group)
 abbrev pub said_by : List Want → List PlainRest → List PlainGroup → Schedule
 said_by wants rests groups = record { rest = map rest_of rests; groups = map (group_of wants) groups }
 
--- what is left of running groups in a schedule, later by so much
+-- what is left of running groups in a schedule, later by that much
 abbrev pub written_rests : ℕ → Schedule → List PlainRest
 written_rests by s = filled 8 no_rest (map written_rest (map (later_starts by) s.rest))
 
@@ -59,7 +59,7 @@ plain_behind (Some place) group wants = plain_without group wants
 abbrev pub end_of : Timing → Due → ℕ → ℕ
 end_of timing due started = started + phase_length (group_spans timing due.group) (length due.group) due.phase
 
--- the due phase of what is said is that one, and ends then; its LUN says so, and the problem that is left is in its limits
+-- the due phase of what is given is that one, and ends then; its LUN says so, and the problem that is left is in its limits
 pub record IsStep (channel : PlainChannel) (wants : List PlainWant) (schedule : PlainSchedule) (lun number started : ℕ) (step : Step) : Type 0 where
   pub timing : Timing
   pub rules : Rules

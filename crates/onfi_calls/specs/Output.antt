@@ -21,7 +21,7 @@ from_sector first (ReadSectors begin count) = ReadSectors first count
 from_sector first Program = Program
 from_sector first Erase = Erase
 
--- the device that is said, whose sectors have so many bytes
+-- the device that is said, whose sectors have that many bytes
 pub record IsSectored (said : PlainGeometry) (sector_bytes : ℕ) (geometry : Geometry) : Type 0 where
   pub written : said ≡ written_geometry geometry
   pub sectors : geometry.sector_bytes ≡ sector_bytes

@@ -87,7 +87,7 @@ pub data IsNoPlan (channel : PlainChannel) (wants : List PlainWant) (options : P
   is_refused : (by : By) → by_of options.by ≡ Some by → 1 ≤ options.limit → options.limit ≤ 1048576 → IsRefused channel wants status → IsNoPlan channel wants options status
   is_unplanned : (by : By) (x : Position) → IsPosed channel wants options by x → IsUnplanned by x.problem options.limit status → IsNoPlan channel wants options status
 
--- a plan of what is said, with the text of its certificate
+-- a plan of what is given, with the text of its certificate
 pub record IsFound (channel : PlainChannel) (wants : List PlainWant) (options : PlainOptions) (plan : PlainPlanned) (text : List ℕ) : Type 0 where
   pub by : By
   pub position : Position

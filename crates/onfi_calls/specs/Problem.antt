@@ -102,7 +102,7 @@ has_bad_member lun = list_any has_bad_kind (members_of lun)
 abbrev pub have_bad_kind : PlainChannel → List PlainWant → Bool
 have_bad_kind channel wants = list_any has_bad_member (luns_of channel) || list_any has_bad_kind wants
 
--- so many sectors are put out, by a read, without a post of as many; or by what is no read
+-- that many sectors are put out, by a read, without a post of as many; or by what is no read
 abbrev pub lacks_post : List ℕ → ℕ → ℕ → Bool
 lacks_post posts operation count = if count == 0 then false else (if operation == 0 then slice_index_or posts (count - 1) 0 == 0 else true)
 
@@ -113,6 +113,6 @@ lacks_length lengths w = lacks_post lengths.sectors (operation_in w.kind) (secto
 abbrev pub has_lacking : PlainLengths → PlainLun → Bool
 has_lacking lengths lun = list_any (lacks_length lengths) (members_of lun)
 
--- .. by any of what is said
+-- .. by any of what is given
 abbrev pub have_lacking : PlainChannel → List PlainWant → Bool
 have_lacking channel wants = list_any (has_lacking channel.lengths) (luns_of channel) || list_any (lacks_length channel.lengths) wants

@@ -41,7 +41,7 @@ pub record IsGoodTiming (channel : PlainChannel) : Type 0 where
   pub kinds : AreGoodKinds channel.timing
   pub sectors : list_any is_long channel.lengths.sectors ≡ false
 
--- why what is said is no problem of the program; `lacking` where it has sectors without lengths
+-- why what is given is no problem of the program; `lacking` where it has sectors without lengths
 abbrev pub IsBadProblem : Bool → Problem → Status → Type 0
 IsBadProblem lacking p TooMany = IsSmall p → ⊥
 IsBadProblem lacking p BadLun = IsSmall p × (IsProblem p → ⊥)
@@ -57,7 +57,7 @@ IsFaultSaid channel wants status = (p : Problem) × IsSaid channel wants p × Is
 abbrev pub IsBadSaid : PlainChannel → List PlainWant → Status → Type 0
 IsBadSaid channel wants status = (status ≡ Memory) ⊎ IsFaultSaid channel wants status
 
--- all numbers of what is said are in their ranges
+-- all numbers of what is given are in their ranges
 pub record AreSaid (channel : PlainChannel) (wants : List PlainWant) : Type 0 where
   pub few : channel.lun_count ≤ 8
   pub timing : IsGoodTiming channel
@@ -80,7 +80,7 @@ pub data IsUnsaid (channel : PlainChannel) (wants : List PlainWant) (status : St
   is_kind : channel.lun_count ≤ 8 → IsGoodTiming channel → channel.rules.plane_bits ≤ 2 → list_any has_bad_count (luns_of channel) ≡ false → have_bad_kind channel wants ≡ true → status ≡ BadKind
       → IsUnsaid channel wants status
 
--- the first fault of what is said
+-- the first fault of what is given
 pub data IsRefused (channel : PlainChannel) (wants : List PlainWant) (status : Status) : Type 0 where
   is_unsaid : IsUnsaid channel wants status → IsRefused channel wants status
   is_problem : AreSaid channel wants → IsBadSaid channel wants status → IsRefused channel wants status

@@ -161,7 +161,7 @@ problem_status problem.NoLengths = NoLengths
 problem_status problem.Clock = Clock
 problem_status problem.Memory = Memory
 
--- .. of what is said with sectors that have no length
+-- .. of what is given with sectors that have no length
 abbrev pub lacking_status : Option ProblemFault → Status
 lacking_status (Some problem.TooMany) = TooMany
 lacking_status (Some problem.BadLun) = BadLun

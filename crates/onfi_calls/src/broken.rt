@@ -50,7 +50,7 @@ const NO_NAME: PlainNamed = PlainNamed {
     is_running: false,
 };
 
-/// What is said where no condition is broken.
+/// What is reported where no condition is broken.
 const UNBROKEN: PlainBroken = PlainBroken {
     phase: NO_NAME,
     other: NO_NAME,
@@ -105,7 +105,7 @@ fn too_soon(condition: u8, name: PhaseName, lun: u8, start: u64, earliest: u64) 
     }
 }
 
-/// A LUN, or a request, of which there are so many in place of so many.
+/// A LUN, or a request, of which there is one number in place of another.
 fn count_broken(condition: u8, lun: u8, want: u64, count: usize, right: usize) -> PlainBroken
     ensures { result ≡ spec.counted condition lun want count right }
 {

@@ -1,4 +1,4 @@
-//! What the due phase leaves, made of what is said where it stands.
+//! What the due phase leaves, made of what is given where it stands.
 ghost use Rattle.std.specs.Prelude.{◌≡◌, ◌==◌, ◌≤◌, ◌<◌, ◌+◌, ◌-◌, ◌*◌, ◌^◌, ◌++◌, ℕ, List, Some, false, drop, length, map};
 ghost use Rattle.std.specs.List.{list_any};
 ghost use Rattle.onfi_request.specs.declared.want.Want.{Want as AWant};
@@ -21,7 +21,7 @@ use onfi_flight::Due;
 use onfi_group::{Group, wait_before};
 use onfi_timing::Timing;
 
-/// Starts later by so much, and 0 in the places past them.
+/// Starts later by that much, and 0 in the places past them.
 fn delay_starts(by: u64, starts: &[u64]) -> [u64; 8]
     requires few { length starts.now ≤ 8 }
     requires early { list_any is_half starts.now ≡ false }
@@ -35,7 +35,7 @@ fn delay_starts(by: u64, starts: &[u64]) -> [u64; 8]
     all
 }
 
-/// What is left of a running group, later by so much.
+/// What is left of a running group, later by that much.
 fn delay_rest(by: u64, starts: &[u64]) -> PlainRest
     requires few { length starts.now ≤ 8 }
     requires early { list_any is_half starts.now ≡ false }
@@ -68,7 +68,7 @@ fn starts_in<'a>(group: &'a PlainGroup) -> &'a [u64]
     &group.start[..2 * usize::from(group.members)]
 }
 
-/// What is left of what is said of one running group, later by so much.
+/// What is left of what is given of one running group, later by that much.
 fn delay_one(by: u64, rest: &PlainRest) -> PlainRest
     requires good { is_odd_rest rest.now ≡ false }
     requires less { by < 2 ^ 61 }
@@ -100,7 +100,7 @@ fn fill_numbers(numbers: &[u64]) -> [u64; 4]
     all
 }
 
-/// A new group, later by so much.
+/// A new group, later by that much.
 fn delay_group(by: u64, said: &PlainGroup) -> PlainGroup
     requires good { is_odd_group said.now ≡ false }
     requires less { by < 2 ^ 61 }
@@ -114,7 +114,7 @@ fn delay_group(by: u64, said: &PlainGroup) -> PlainGroup
     }
 }
 
-/// What is left of running groups, later by so much, and nothing in the places past them.
+/// What is left of running groups, later by that much, and nothing in the places past them.
 fn delay_rests(by: u64, said: &[PlainRest]) -> [PlainRest; 8]
     requires few { length said.now ≤ 8 }
     requires good { list_any is_odd_rest said.now ≡ false }
@@ -128,7 +128,7 @@ fn delay_rests(by: u64, said: &[PlainRest]) -> [PlainRest; 8]
     all
 }
 
-/// Puts new groups from that place on, later by so much.
+/// Puts new groups from that place on, later by that much.
 fn put_groups(all: &mut [PlainGroup; 8], from: usize, by: u64, said: &[PlainGroup])
     requires few { from + length said.now ≤ 8 }
     requires good { list_any is_odd_group said.now ≡ false }
@@ -141,7 +141,7 @@ fn put_groups(all: &mut [PlainGroup; 8], from: usize, by: u64, said: &[PlainGrou
     }
 }
 
-/// New groups but the one at that place, later by so much, and none in the places past them.
+/// New groups but the one at that place, later by that much, and none in the places past them.
 fn delay_groups(by: u64, said: &[PlainGroup], place: Option<usize>) -> [PlainGroup; 8]
     requires few { length said.now ≤ 8 }
     requires place { (at : ℕ) → place ≡ Some at → at < length said.now }
@@ -188,7 +188,7 @@ fn starts_due<'a>(rest: &'a [PlainRest], groups: &'a [PlainGroup], due: &Due) ->
     }
 }
 
-/// What is left of running groups once the due phase ran, later by so much, and nothing in the places past them.
+/// What is left of running groups once the due phase ran, later by that much, and nothing in the places past them.
 fn delay_left(by: u64, said: &[PlainRest], groups: &[PlainGroup], due: &Due) -> [PlainRest; 8]
     requires few { length said.now ≤ 8 }
     requires rest { list_any is_odd_rest said.now ≡ false }
@@ -203,7 +203,7 @@ fn delay_left(by: u64, said: &[PlainRest], groups: &[PlainGroup], due: &Due) -> 
     rest
 }
 
-/// The schedule that is said so without the due phase, later by so much.
+/// The schedule that is said so without the due phase, later by that much.
 fn delay_said(by: u64, rest: &[PlainRest], groups: &[PlainGroup], due: &Due) -> PlainSchedule
     requires few { (length rest.now ≤ 8) × (length groups.now ≤ 8) }
     requires rest { list_any is_odd_rest rest.now ≡ false }
@@ -221,7 +221,7 @@ fn delay_said(by: u64, rest: &[PlainRest], groups: &[PlainGroup], due: &Due) -> 
     }
 }
 
-/// The schedule without the due phase, later by so much.
+/// The schedule without the due phase, later by that much.
 pub fn delay_schedule(by: u64, said: &PlainSchedule, due: &Due) -> PlainSchedule
     requires good { is_odd_schedule said.now ≡ false }
     requires less { by < 2 ^ 61 }

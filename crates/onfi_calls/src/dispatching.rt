@@ -1,4 +1,4 @@
-//! The phase that a dispatcher gives, and what is said of it.
+//! The phase that a dispatcher gives, and what is reported of it.
 ghost use Rattle.std.specs.Prelude.{◌≡◌, ◌<◌, ◌^◌, IfOk, IfErr};
 ghost use Rattle.onfi_calls.specs.Dispatching as spec;
 

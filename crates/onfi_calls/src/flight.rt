@@ -31,7 +31,7 @@ pub fn fault_of(flight: &Flight, wants: &[Want]) -> Option<ProblemFault>
     )
 }
 
-/// Has the LUNs of a flight do what is said.
+/// Has the LUNs of a flight do what is given.
 fn set_luns(alloc: Global, flight: &mut Flight, plane_bits: u8, luns: &[PlainLun])
     requires bits { plane_bits ≤ 2 }
     requires few { length luns.now ≤ 8 }

@@ -20,7 +20,7 @@ pub struct PlainLogBroken {
     pub is_post: bool,
 }
 
-/// What is said where no condition is broken.
+/// What is reported where no condition is broken.
 pub const UNBROKEN: PlainLogBroken = PlainLogBroken {
     want: 0,
     other_want: 0,

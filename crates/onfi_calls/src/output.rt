@@ -31,7 +31,7 @@ fn from_sector(first: u8, kind: Kind) -> Kind
     }
 }
 
-/// The geometry that is said, if it is one, with sectors of so many bytes.
+/// The geometry that is said, if it is one, with sectors of that many bytes.
 fn divide_page(said: &PlainGeometry, sector_bytes: u16) -> Option<Geometry>
     ensures some { IfSome result (λ geometry. spec.IsSectored said.now sector_bytes geometry) }
     ensures none { IfNone result (IsNoGeometry said.now) }
@@ -84,7 +84,7 @@ fn find_output(
 }
 
 /// The column and the count of bytes of what a phase puts out (ONFI 4.2, Change Read Column Enhanced): of the post of a read all of
-/// its page, or the sectors that its kind names, from sector `first` on, of so many bytes each; of any other phase none. Of the phase
+/// its page, or the sectors that its kind names, from sector `first` on, of that many bytes each; of any other phase none. Of the phase
 /// its kind and whether it is a post are looked at.
 ///
 /// Answers 0; or the first of the numbers of `BadKind`, `BadGeometry` and, where a read names sectors that its page doesn't have,

@@ -43,7 +43,7 @@ fn whole_timing(channel: &PlainChannel) -> Result<Timing, Status>
     Ok(Timing::new(read, program, erase))
 }
 
-/// A read of so many sectors; of all of its page where there are none.
+/// A read of that many sectors; of all of its page where there are none.
 fn read_of(count: u8) -> Kind
     ensures { result ≡ spec.read_of count }
 {
@@ -214,7 +214,7 @@ fn open(
     }
 }
 
-/// The same of what is said, whose numbers are in their ranges, with these lengths of all that is put out.
+/// The same of what is given, whose numbers are in their ranges, with these lengths of all that is put out.
 // A problem has some thousand bytes, and each call that isn't inlined hands it on by a copy.
 #[inline(always)]
 fn open_said(
@@ -277,7 +277,7 @@ fn have_bad_member(said: &[PlainLun]) -> bool
     said.iter().any(|lun| has_bad_member(lun))
 }
 
-/// The lengths of a channel, where all numbers of what is said are in their ranges.
+/// The lengths of a channel, where all numbers of what is given are in their ranges.
 pub fn read_timing(channel: &PlainChannel, wants: &[PlainWant]) -> Result<Timing, Status>
     ensures timing { IfOk result (λ timing. spec.IsTiming channel.now timing) }
     ensures said { IfOk result (λ _. AreSaid channel.now wants.now) }
@@ -341,7 +341,7 @@ fn wants_lack(lengths: &PlainLengths, wants: &[PlainWant]) -> bool
     wants.iter().any(|want| lacks_length(lengths, want))
 }
 
-/// Whether any of what is said does.
+/// Whether any of what is given does.
 fn have_lacking(channel: &PlainChannel, wants: &[PlainWant]) -> bool
     requires { channel.now.lun_count ≤ 8 }
     ensures { result ≡ spec.have_lacking channel.now wants.now }
@@ -357,7 +357,7 @@ fn are_many(wants: &[PlainWant]) -> bool
     wants.len() > 8
 }
 
-/// Why there is no problem of what is said, where it has sectors without lengths.
+/// Why there is no problem of what is given, where it has sectors without lengths.
 fn refuse_lacking(
     alloc: Global,
     timing: &Timing,
@@ -381,7 +381,7 @@ fn refuse_lacking(
     Status::of_lacking(find_fault(timing, &rules, channel.bus_free, states, wants.as_slice()))
 }
 
-/// The lengths of a channel, where all numbers of what is said are in their ranges and all that is put out has a length.
+/// The lengths of a channel, where all numbers of what is given are in their ranges and all that is put out has a length.
 fn measure(alloc: Global, channel: &PlainChannel, wants: &[PlainWant]) -> Result<Timing, Status>
     ensures measured { IfOk result (IsMeasured channel.now wants.now) }
     ensures refused { IfErr result (IsRefused channel.now wants.now) }

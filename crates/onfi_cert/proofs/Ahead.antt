@@ -18,7 +18,7 @@ token_given a t e = token_first a.tokens a.fault t e
 pub fewer : {T : Type 0} (a : Line T) (t : T) → next_of a ≡ Ok (Some t) → length (later a).tokens < length a.tokens
 fewer a t e = omega (arith, ap length (token_given a t e))
 
--- so many tokens were taken from the front
+-- that many tokens were taken from the front
 pub record Taken {T : Type 0} (first now : Line T) (front : List T) : Type 0 where
   pub fault : now.fault ≡ first.fault
   pub tokens : front ++ now.tokens ≡ first.tokens

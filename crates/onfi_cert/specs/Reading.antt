@@ -15,7 +15,7 @@ led [] = 32 ∷ []
 led (b ∷ []) = if b == 10 then b ∷ [] else 32 ∷ b ∷ []
 led (b ∷ c ∷ rest) = 32 ∷ b ∷ c ∷ rest
 
--- how the bytes after a header go wrong after these good tokens, where there may be so many
+-- how the bytes after a header go wrong after these good tokens, where there may be that many
 pub data IsWrongAfter {T : Type 0} (Kept : T → Type 0) (spelling : T → List ℕ) (most : ℕ) (good : List T) (bytes : List ℕ) : Type 0 where
   -- the next word is no token
   no_token : (rest : List ℕ) → led bytes ≡ fronted_of spelling good ++ 32 ∷ rest → NoToken Kept spelling (word rest) → length good < most
@@ -36,7 +36,7 @@ pub record Line (T : Type 0) : Type 0 where
   pub tokens : List T
   pub fault : Option LineFault
 
--- a text with the header of this option holds these good tokens, at most so many, and then ends well or by this fault
+-- a text with the header of this option holds these good tokens, at most that many, and then ends well or by this fault
 pub record HoldsLine {T : Type 0} (header : Bool → List ℕ) (Kept : T → Type 0) (spelling : T → List ℕ) (most : ℕ)
     (text : List ℕ) (strict : Bool) (line : Line T) : Type 0 where
   pub in_range : All Kept line.tokens

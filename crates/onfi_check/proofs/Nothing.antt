@@ -38,7 +38,7 @@ no_moves p ip are = record { wants = go p.wants refl; free = λ l g n r at. are.
         let x = get_within p.luns w.lun below in
         absurd (at_lun w ws x.0 e x.1)
 
--- where so much time has passed it is over exactly where there is no move
+-- where that much time has passed it is over exactly where there is no move
 pub over_where_none : (x : Position) (items : List KeptMove) (e : ℕ) (empty : Bool) → IsProblem x.problem → AreMoves x.problem (moves_of x.groups items) → e ≤ x.problem.bus_free → empty ≡ (length items == 0) → IsTrue empty ↔ (IsDone x.problem × (e ≤ x.problem.bus_free))
 over_where_none x [] e empty ip are le q = ((λ _. (no_moves x.problem ip are, le)), λ _. rw q refl)
 over_where_none x (s ∷ items) e empty ip are le q = ((λ h. let k = eqb-true (length (s ∷ items)) 0 (sym q ∙ h) in absurd (omega arith)), λ (d, _). absurd (not_done x.problem _ d are.moves_only.0))

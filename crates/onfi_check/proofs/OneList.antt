@@ -23,7 +23,7 @@ each_width (Child t f) p e (m ∷ ms) whole all a = let h = each_width f p e ms 
 each_width (Yields l f) p e [] whole all a = absurd a
 each_width (Yields l f) p e (m ∷ ms) whole all a = let h = each_width f p e ms whole all a.1 in omega arith
 
--- a tree that begins with a branch has so many children, one for each move
+-- a tree that begins with a branch has that many children, one for each move
 pub branch_each : (p : Problem) (e w : ℕ) (moves : List Move) (ts rest : List Token) → AreMoves p moves → Begins p e (Branch w ∷ ts) rest → (w ≡ length moves) × (1 ≤ length moves) × BeginsEach p e moves ts rest
 branch_each p e w moves ts rest are (Closed AtEnd, t, a) = cc
 branch_each p e w moves ts rest are (Closed ByBus, t, a) = cc

@@ -67,7 +67,7 @@ PartsWithin n (Opened forest) = EachWithin n forest
 abbrev pub HasPartsWithin : Problem → ℕ → ℕ → ℕ → Type 0
 HasPartsWithin p e n limit = (tree : Tree) × Accepts tree p e × (nodes tree ≡ n) × PartsWithin limit tree
 
--- a search down to the finish e opens n nodes: they are a tree that is accepted for e, and so many the tree of p has
+-- a search down to the finish e opens n nodes: they are a tree that is accepted for e, and that many the tree of p has
 pub record OpensNodes (p : Problem) (e n : ℕ) : Type 0 where
   pub accepted : HasTreeOf p e n
   pub first : ℕ

@@ -10,7 +10,7 @@ use onfi_cert::Token;
 use onfi_problem::{Move, Problem};
 
 /// Whether a token closes the node of a problem for the finish `e`, in ns: its bound reaches it, or nothing is left and
-/// so much time has passed.
+/// that much time has passed.
 pub(crate) fn closes(problem: &Problem, bounds: NodeBounds, token: &Token, e: u64) -> bool
     requires { AreNodeBounds problem.now.problem bounds }
     ensures { IsTrue result ↔ ((c : Closing) × (token_of c ≡ token.now) × Closes problem.now.problem e c) }

@@ -183,7 +183,7 @@ given name used = is_given (first_of name used)
 abbrev pub printed_by : List Used → Output
 printed_by used = output_of (given (codes "trace") used) (given (codes "requests") used)
 
--- `plan` with these arguments asks for this, by so many workers
+-- `plan` with these arguments asks for this, by that many workers
 pub record IsPlan (options : PlanOptions) (workers : ℕ) (used : List Used) : Type 0 where
   pub is_by : IsBy (first_of (codes "by") used) options.by
   pub is_early : options.early ≡ given (codes "early") used

@@ -52,7 +52,7 @@ fn problem_counts(alloc: Global, text: &[u8]) -> Counts {
     }
 }
 
-/// The number of a field where it is none of so many.
+/// The number of a field where it is none of that many.
 fn find_beyond(record: &ByteRecord, name: &str, count: Option<u64>) -> Option<u64> {
     let number = read_named_number(record, name)?;
     match count {

@@ -1,4 +1,4 @@
-//! What is said beside an answer of what a plan doesn't look at in a parameter page.
+//! The message beside an answer about what a plan doesn't look at in a parameter page.
 use crate::fields::{field, number_beyond};
 use crate::input::Input;
 use crate::place::{line_of, row_text};

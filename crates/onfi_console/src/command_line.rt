@@ -504,7 +504,7 @@ fn refuse(alloc: Global, fault: ValueFault) -> Untaken {
     }
 }
 
-/// The words with what isn't printable escaped, so that what is said of them is safe to show.
+/// The words with what isn't printable escaped, so that a message about them is safe to show.
 fn escape_words(alloc: Global, words: &[String]) -> Result<Vec<String>, AllocError> {
     let mut shown = Vec::new(alloc);
     for word in words {
@@ -528,7 +528,7 @@ fn without_tip(alloc: Global, text: &str) -> Result<String, AllocError> {
     Ok(left)
 }
 
-/// What is said of words in which nothing was found.
+/// The message about words in which nothing was found.
 fn describe_unfound(alloc: Global, words: &[String], error: &Error) -> Result<String, AllocError> {
     let shown = escape_words(alloc, words)?;
     let text = match matches_of(alloc, shown.as_slice()) {

@@ -15,7 +15,7 @@ pub enum WordsFault {
 /// The same, with what the program says of it.
 #[derive(Debug, Drop)]
 pub enum Untaken {
-    /// It is not one of this program, or asks for help: what is said about it.
+    /// It is not one of this program, or asks for help: the message about it.
     Refused(String),
     /// Memory was refused.
     Memory,

@@ -20,7 +20,7 @@ pub enum OtherText {
 }
 
 impl OtherText {
-    /// What is said of it where another text was expected.
+    /// The message about it where another text was expected.
     pub fn text(self) -> &'static str {
         match self {
             OtherText::Wide => "this is UTF-16 text; save it as ASCII or UTF-8",
@@ -37,7 +37,7 @@ impl OtherText {
 }
 
 impl OtherText {
-    /// What is said of it where a log was expected, if it can't be the beginning of one.
+    /// The message about it where a log was expected, if it can't be the beginning of one.
     pub fn log_text(self) -> Option<&'static str> {
         match self {
             OtherText::Wide | OtherText::Mark | OtherText::NoPlan => Some(self.text()),

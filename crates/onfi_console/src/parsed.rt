@@ -60,7 +60,7 @@ pub struct RunOptions {
 /// What a command line names.
 #[derive(Clone, Copy)]
 pub enum Named {
-    /// The problem of a script is planned, or a plan of it checked, by so many workers, 1 to 8; one where none are
+    /// The problem of a script is planned, or a plan of it checked, by that many workers, 1 to 8; one where none are
     /// named.
     Problem { command: Command, workers: usize },
     /// The operations of a script are run.

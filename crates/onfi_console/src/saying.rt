@@ -11,7 +11,7 @@ use crate::script::{purpose_of, script_message};
 use onfi_script::Why;
 use std::alloc::{AllocError, Global};
 
-/// What is said, in words and for a person, beside an answer to an input, which refuses for that reason; nothing where the
+/// The message for a person beside an answer to an input, which refuses for that reason; nothing where the
 /// answer says all, or where quiet was asked for. Which words is free: no program may rely on them.
 ///
 /// # Errors
@@ -68,7 +68,7 @@ fn about(
     }
 }
 
-/// The message where a search opened so many nodes and isn't over.
+/// The message where a search opened that many nodes and isn't over.
 fn over_message(alloc: Global, limit: u32, opened: u32) -> Result<String, AllocError> {
     let raise = if limit < MOST {
         "raise '--limit' up to 1048576, or "

@@ -103,7 +103,7 @@ abbrev pub RunsAlike : LunState → Type 0
 RunsAlike (Free since) = Unit {0}
 RunsAlike (Running g n r) = IsAlike g
 
--- the operation and the sectors of a kind tell its post
+-- the operation and the sectors of a kind give its post
 post_of_kind : (timing : Timing) (kind : Kind) → post_of timing (operation_of kind) (sectors_of kind) ≡ (spans_of timing kind).post
 post_of_kind timing Read = refl
 post_of_kind timing Program = refl
@@ -129,11 +129,11 @@ past_zeros zero (suc j) [] h = refl
 past_zeros zero (suc j) (p ∷ ps) h = absurd (omega arith)
 past_zeros (suc k) (suc j) ps h = let more : suc k - length ps ≡ suc (k - length ps) = omega arith in rw more (past_zeros k j ps (omega arith))
 
--- so many posts are left
+-- that many posts are left
 pub sectors_length : (g : List Want) (n : ℕ) → length (sectors_left g n) ≡ length g - (n - length g)
 sectors_length g n = length-map (drop (n - length g) g) (λ m. sectors_of m.kind) ∙ length-drop (n - length g) g
 
--- what is known of the rest of a group tells its lengths from then on
+-- what is known of the rest of a group gives its lengths from then on
 pub agree_group : (timing : Timing) (g : List Want) (n : ℕ) → IsAlike g → Agree (length g) n (group_spans timing g) (lengths_left timing (group_operation g) (length g) (sectors_left g n))
 agree_group timing g n alike =
     let shared = of_operation timing (kind_of g) in

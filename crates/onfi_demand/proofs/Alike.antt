@@ -173,7 +173,7 @@ module _ (timing : Timing) (rules : Rules) where
         left = λ t u. same_behind (without ms wants) luns luns' (lun_of ms) ms ms 0 t u h alike;
       }
 
--- what is said of times of p is said of a problem with the same left
+-- what holds of times of p holds of a problem with the same left
 pub of_same : (P : Problem → Type 0) (p q : Problem) → SameLeft p q → P (with_times p.timing p.rules p.wants q.bus_free q.luns) → P q
 of_same P p q s h = subst (λ t. P (with_times t q.rules q.wants q.bus_free q.luns)) s.timing (subst (λ r. P (with_times p.timing r q.wants q.bus_free q.luns)) s.rules (subst (λ ws. P (with_times p.timing p.rules ws q.bus_free q.luns)) s.wants h))
 

@@ -261,7 +261,7 @@ module _ (timing : Timing) (g : List Want) (operations : All (λ m. operation_of
       let all = posts_of_all spans (length g) n le in
       omega arith
 
-  -- behind a command of a group stand its array and each post at least
+  -- after a command of a group stand its array and each post at least
   command_tail : (n : ℕ) → n < length g → spans.array + posts_from spans (length g) (n + 1) ≤ wait_before spans (length g) (n + 1) + chain_from spans (length g) (n + 1)
   command_tail n h =
       elim (cases_lt (n + 1) (length g)) [

@@ -24,7 +24,7 @@ with_posts spans posts = record { cmd = spans.cmd; gap = spans.gap; array = span
 abbrev pub posts_count : ℕ → ℕ → ℕ
 posts_count k n = k - (n - k)
 
--- the posts of k members, of which the last put out so many sectors; those before them are over and count as 0
+-- the posts of k members, of which the last put out that many sectors; those before them are over and count as 0
 abbrev pub posts_left : Timing → Operation → ℕ → List ℕ → List ℕ
 posts_left timing operation k sectors = replicate (k - length sectors) 0 ++ map (post_of timing operation) sectors
 

@@ -56,7 +56,7 @@ not_described all k p marks count same c h g r w s f d =
     let t : same ≡ true = s.1 (subst (λ n. take n k.waiting ≡ take n marks) (sym c) equal) in
     cc
 
--- what is said of lists is said of what stands at a place
+-- what holds of lists holds of what stands at a place
 pub map_at : {A B : Type 0} (f : A → B) (xs ys : List A) (i : ℕ) (d : A) → i < length xs → length xs ≡ length ys → map f xs ≡ map f ys → f (get_or xs i d) ≡ f (get_or ys i d)
 map_at f [] ys i d h l e = absurd (omega arith)
 map_at f (x ∷ xs) [] i d h l e = absurd (omega arith)

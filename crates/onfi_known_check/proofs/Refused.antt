@@ -1,4 +1,4 @@
--- What is said of tokens that are to show that none ends before a number.
+-- What is reported of tokens that are to show that none ends before a number.
 use Rattle.std.proofs.Common.{◌≡◌, ℕ, ◌≤◌, Bool, List, [], sym, ap, subst, arith}
 use Rattle.std.specs.Prelude.{◌↔◌, IfErr, OnOk, IfOk, Result, Ok, Err}
 use Rattle.onfi_request.specs.declared.want.Want.{Want}

@@ -104,7 +104,7 @@ IsKnownFault all p s below tokens fault =
     ByCause (Legal p s → ⊥) (Legal p s × (below ≤ finish p s)) (EndsBefore p s below)
     (Legal p s × (below ≤ finish p s) × (ProvesTokens all tokens p below → ⊥) × IsTokenFault all p below tokens [] fault) fault
 
--- a line has no token at this place, or goes wrong after so many; one without tokens has none at place 0
+-- a line has no token at this place, or goes wrong after that many; one without tokens has none at place 0
 abbrev pub IsWrongAt : ℕ → Line Token → Type 0
 IsWrongAt place line = (line.fault ≡ Some (of.BadToken place)) ⊎ ((line.fault ≡ None) × (line.tokens ≡ []) × (place ≡ 0))
 
@@ -121,6 +121,6 @@ IsFaultOf text (BadToken place) = HasNoToken text place
 abbrev pub IsTextFault : List Want → Problem → Schedule → ℕ → List ℕ → TextFault KnownFault KnownTextFault → Type 0
 IsTextFault all p s below text fault = plain.IsTextFaultBy (IsCertificate text) (IsFaultOf text) (IsKnownFault all p s below) p.rules.strict fault
 
--- what is said of the text where it is a certificate with the option of the problem's rules: else its own fault is reported before
+-- what is reported of the text where it is a certificate with the option of the problem's rules: else its own fault is reported before
 abbrev pub OfCertificate : List ℕ → Problem → Type 0 → Type 0
 OfCertificate text p said = (tokens : List Token) → IsCertificate text p.rules.strict tokens → said

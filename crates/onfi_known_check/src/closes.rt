@@ -77,7 +77,7 @@ fn window_asks(problem: &Problem, window: Window, e: u64) -> Option<Demand>
     window.asks(problem, &load, e)
 }
 
-// What a node asks for to which nothing is left, where so much time has passed.
+// What a node asks for to which nothing is left, where that much time has passed.
 fn end_asks(problem: &Problem, e: u64) -> Option<Demand>
     ensures some { IfSome result (λ d. Closes problem.now.problem e Token.End × IsKept d (closing_demand problem.now.problem e Token.End)) }
     ensures none { IfNone result (Closes problem.now.problem e Token.End → ⊥) }

@@ -65,7 +65,7 @@ fn is_same(one: LunLeft, other: LunLeft) -> bool
     }
 }
 
-// Whether so much of a group is left.
+// Whether that much of a group is left.
 fn is_rest(left: LunLeft, operation: Operation, members: u8, next: u8, sectors: &[u8; 4]) -> bool
     ensures { IsTrue result ↔ (Rest operation members (take (posts_count members next) sectors.now) next ≡ left_of left) }
 {

@@ -197,7 +197,7 @@ nodes_later at x a b n e le nodes = subst (λ (z : Position). AreMore z.problem 
 pub none_opened : (p : Problem) (finish : ℕ) → AreMore p finish 0
 none_opened p finish = λ f le. nodes_none f p
 
--- so many nodes of the root's tree
+-- that many nodes of the root's tree
 begun_many : (x : Position) (root : Root) (n : ℕ) → IsBegun x root → AreMore root.problem.problem root.best.finish n → HasSoMany x.problem n
 begun_many x root n b nodes = let s = b.sooner in (b.first, b.ends, (nodes_later root.problem x root.best.finish b.first n b.same s nodes) b.first (omega arith))
 

@@ -17,7 +17,7 @@ abbrev pub nodes_in : List Token → ℕ
 nodes_in [] = 0
 nodes_in (token ∷ tokens) = nodes_at token + nodes_in tokens
 
--- a certificate that remembers states is the text of tokens with so many nodes, under the problem's option
+-- a certificate that remembers states is the text of tokens with that many nodes, under the problem's option
 abbrev pub HasNodesIn : Problem → Certificate → ℕ → Type 0
 HasNodesIn p (Tokens tokens) n = ⊥
 HasNodesIn p (Text text) n = (tokens : List Token) × IsCertificate text.items p.rules.strict tokens × (nodes_in tokens ≡ n)

@@ -100,7 +100,7 @@ pub record IsClosing (e : ℕ) (x : Position) (known : List Known) (c : Closing)
   pub met : Meets x.problem (demand_of c.demand)
   pub proves : (rest : List Token) → Proves e x.all x.problem known (c.token ∷ rest) c.demand known rest
 
--- so many nodes were opened and remembered since; a walk that is cut has met one more than it may open, and is cut for good
+-- that many nodes were opened and remembered since; a walk that is cut has met one more than it may open, and is cut for good
 pub record HasOpened (p : Problem) (finish began : ℕ) (before behind : Notes) : Type 0 where
   pub more : began ≤ behind.opened
   pub some : behind.cut ≡ false → began < behind.opened
@@ -127,7 +127,7 @@ pub record IsFound (x : Position) (old new : Best) (improved : Bool) : Type 0 wh
   pub run : improved ≡ true → IsRunOf x new
   pub kept : improved ≡ false → new ≡ old
 
--- what was shown of the node x, which the walk began with so many nodes opened
+-- what was shown of the node x, which the walk began with that many nodes opened
 pub record IsShown (x : Position) (old new : Best) (began : ℕ) (before behind : Notes) (shown : Shown) : Type 0 where
   pub found : IsFound x old new shown.improved
   pub met : Meets x.problem (demand_of shown.demand)

@@ -48,7 +48,7 @@ impl LogEntry {
     }
 }
 
-/// Whether a line of so many words is a report.
+/// Whether a line of that many words is a report.
 fn is_report(readies: Readies, count: usize) -> bool
     ensures { result ≡ spec.is_report readies count }
 {

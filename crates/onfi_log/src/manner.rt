@@ -17,7 +17,7 @@ pub enum Statuses {
 pub struct Manner {
     /// From when on LUNs are ready.
     pub readies: Readies,
-    /// A phase may come so much too soon, in ns.
+    /// A phase may come that much too soon, in ns.
     pub tolerance: u64,
     pub statuses: Statuses,
 }

@@ -49,7 +49,7 @@ pub record Searched (x : Position) (old new : Best) (improved : Bool) : Type 0 w
   pub run : improved ≡ true → Run x.problem (run_of x.groups new.steps.items) new.finish
   pub kept : improved ≡ false → new ≡ old
 
--- from one best finish to another so many nodes were opened: each is one of the tree, and they show the new finish
+-- from one best finish to another that many nodes were opened: each is one of the tree, and they show the new finish
 pub record HasOpened (p : Problem) (finish found old new : ℕ) : Type 0 where
   pub more : old ≤ new
   pub nodes : (f : ℕ) → finish ≤ f → HasNodes f p (new - old)

@@ -35,7 +35,7 @@ with_each_of front last whole [] same = refl
 with_each_of front last whole (h ∷ hs) same =
     ap (λ l. l ∷ with_each (map front hs) (map last hs)) (same h) ∙ ap (λ l. whole h ∷ l) (with_each_of front last whole hs same)
 
--- what is said of lists and of the elements after them is said of the longer lists
+-- what holds of lists and of the elements after them holds of the longer lists
 pub told_with : {A B H : Type 0} (f : A → B) (front : H → List B) (last : H → B) (whole : H → List B) (hs : List H) (lists : List (List A)) (more : List A)
     → ((h : H) → front h ++ last h ∷ [] ≡ whole h) → map (map f) lists ≡ map front hs → map f more ≡ map last hs
     → map (map f) (with_each lists more) ≡ map whole hs
@@ -68,17 +68,17 @@ each_with P [] more all ones = tt
 each_with P (xs ∷ lists) [] all ones = tt
 each_with P (xs ∷ lists) (x ∷ more) (here, all) (one, ones) = (each_longer P xs x here one, each_with P lists more all ones)
 
--- ---- what is said by keys
+-- ---- what is stated by keys
 by_key : {A K B : Type 0} (key : A → K) (f : K → B) (lists : List (List A)) → map (map (λ x. f (key x))) lists ≡ map (map f) (map (map key) lists)
 by_key key f [] = refl
 by_key key f (xs ∷ lists) = ap (λ l. l ∷ map (map (λ x. f (key x))) lists) (sym (map-map f key xs)) ∙ ap (λ l. map f (map key xs) ∷ l) (by_key key f lists)
 
--- what is said by a key is the same where the keys are
+-- what is stated by a key is the same where the keys are
 pub same_by_key : {A K B : Type 0} (key : A → K) (f : K → B) (old new : List (List A)) → map (map key) new ≡ map (map key) old
     → map (map (λ x. f (key x))) new ≡ map (map (λ x. f (key x))) old
 same_by_key key f old new same = by_key key f new ∙ ap (map (map f)) same ∙ sym (by_key key f old)
 
--- what two lists of n tell is the same where it is place by place
+-- what two lists of n give is the same where it is place by place
 pub map_by_place : {A B X : Type 0} (f : A → X) (g : B → X) (xs : List A) (ys : List B) (n : ℕ) → length xs ≡ n → length ys ≡ n
     → ((i : ℕ) (d : A) (e : B) → i < n → g (get_or ys i e) ≡ f (get_or xs i d)) → map g ys ≡ map f xs
 map_by_place f g [] [] n a b same = refl

@@ -117,7 +117,7 @@ abbrev pub nodes_by : Choice → ℕ → Option ℕ
 nodes_by InOrder limit = Some limit
 nodes_by NextPhase limit = None
 
--- where it is over, so many nodes were opened
+-- where it is over, that many nodes were opened
 abbrev pub IsOverAt : Option ℕ → ChannelEnd → Type 0
 IsOverAt nodes (end.Over opened) = nodes ≡ Some opened
 IsOverAt nodes (end.Stopped cause) = Unit {0}

@@ -17,7 +17,7 @@ latency_of operation c = if same_operation operation (operation_of c.kind) && is
 abbrev pub latencies : Operation → List GotView → List ℕ
 latencies operation got = flat_map (flat_map (filter_map (latency_of operation))) got
 
--- the place, counted from 0, of the least of so many in rising order that at least 99 of 100 don't pass
+-- the place, counted from 0, of the least of that many in rising order that at least 99 of 100 don't pass
 abbrev pub place_of_99 : ℕ → ℕ
 place_of_99 count = count - count / 100 - 1
 

@@ -44,7 +44,7 @@ pub record MayTurn (now : ℕ) (pace : Pace) (free : ℕ) : Type 0 where
 abbrev pub Waits : ℕ → Pace → ℕ → Type 0
 Waits now pace free = MayTurn now pace free → ⊥
 
--- it needs no moment after `now`: what is said of it is due by then, or at no moment
+-- it needs no moment after `now`: what is noted of it is due by then, or at no moment
 abbrev pub NeedsNone : ℕ → ℕ → Type 0
 NeedsNone now due = now < due → no_clock ≤ due
 
@@ -67,7 +67,7 @@ woken lane = record lane { pace = record lane.pace { wakes = 0 } }
 abbrev pub EndsWithin : {X : Type 0} → (X → ChannelQueues) → Lane X → Type 0
 EndsWithin queues lane = IsOverAt (queues lane.channel).nodes lane.ended
 
--- .. which are so many
+-- .. which are that many
 abbrev pub IsLaneWithin : {X : Type 0} → (X → ChannelQueues) → Option ℕ → Lane X → Type 0
 IsLaneWithin queues nodes lane = ((queues lane.channel).nodes ≡ nodes) × EndsWithin queues lane
 

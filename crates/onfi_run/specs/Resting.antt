@@ -41,7 +41,7 @@ pub record IsPutOff (ends : ℕ → Bool → Type 0) (ports : List Port) (channe
   pub full : IsFullAt ports channel
   pub goes_on : ends channel false
 
--- at that moment the host of that number, past so many rows, goes past no other: it is past all, or before a moment of arrival that hasn't come, or before an
+-- at that moment the host of that number, past that many rows, goes past no other: it is past all, or before a moment of arrival that hasn't come, or before an
 -- operation of its own that has to wait
 pub data Stands (now : ℕ) (rows : List Row) (ends : ℕ → Bool → Type 0) (number passed : ℕ) (ports : List Port) : Type 0 where
   is_through : length rows ≤ passed → Stands now rows ends number passed ports

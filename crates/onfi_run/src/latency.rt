@@ -79,7 +79,7 @@ fn latencies(alloc: Global, operation: Operation, all: &[Got]) -> Result<Vec<u64
     Ok(latencies)
 }
 
-/// What is said of latencies; nothing of none.
+/// What is reported of latencies; nothing of none.
 fn summarize_latencies(latencies: Vec<u64>) -> Option<Latency>
     ensures { spec.IsLatencyOf latencies.items result }
 {

@@ -38,7 +38,7 @@ pub refused_at : (ws : List Want) (i : ℕ) (none : Want) (a b : Audit) (refusal
 refused_at ws i none a b refusal there all why =
     all (Err refusal) (subst (λ l. AcceptsAll l a (Err refusal)) (sym (drop-cons ws i none there)) (refused_first (get_or ws i none) (drop (suc i) ws) a refusal why))
 
--- a problem that is told is the one that was set up
+-- a problem that is given is the one that was set up
 pub told_is : (rows : List Row) (p q : Problem) → TellsProblem rows p (Ok q) → q ≡ p
 told_is rows p q (is_too_many why same) = cc
 told_is rows p q (is_bad_lun small why same) = cc

@@ -30,7 +30,7 @@ read_answers : (Tells : ℕ → Problem → ℕ → Type 0) (command : Command) 
 read_answers Tells command None xs answer e is = tt
 read_answers Tells command (Some ys) xs answer e is = subst (λ zs. IsAnswerBy Tells command zs answer) e is
 
--- .. and what is said in place of none
+-- .. and what stands in place of none
 pub all_answers : (Tells : ℕ → Problem → ℕ → Type 0) (command : Command) (input : Option (List ℕ)) (xs : List ℕ) (r : Result Made AllocError)
     → IfSome input (λ ys. xs ≡ ys) → IfOk r (λ a. IsAnswerBy Tells command xs (answer_of a)) → IfSome input (λ ys. IsAnswerBy Tells command ys (told_of r))
 all_answers Tells command input xs (Ok a) e is = read_answers Tells command input xs (answer_of a) e is

@@ -1,4 +1,4 @@
--- What is said, as an answer.
+-- What is reported, as an answer.
 use Rattle.std.specs.Prelude.{Result, Ok, Err}
 use Rattle.std.specs.declared.alloc.AllocError.{AllocError}
 use Rattle.onfi_script.specs.declared.text.Answer.{Answer as Told}

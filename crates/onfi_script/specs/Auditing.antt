@@ -99,7 +99,7 @@ statuses_of true = OneForAll
 abbrev pub manner_of : AuditOptions → Manner
 manner_of options = record { readies = readies_of options.by_status; tolerance = options.tolerance; statuses = statuses_of options.one_status }
 
--- the answer to an input with a log: why its script is refused, or what is said of the log
+-- the answer to an input with a log: why its script is refused, or what is reported of the log
 pub data AnswersAuditBy (options : AuditOptions) (input : List ℕ) (answer : Answer) : Type 0 where
   is_unread : (refusal : Refusal) → TellsLog input (Err refusal) → answer ≡ refused refusal → AnswersAuditBy options input answer
   is_judged : (a : Audit) (requests : Requests) (log : LogAnswer) → TellsLog input (Ok (a, requests))

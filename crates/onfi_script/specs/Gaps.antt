@@ -15,7 +15,7 @@ use Rattle.onfi_script.specs.Auditing.{TellsLog}
 use Rattle.onfi_script.specs.Script.{plan_text_of}
 use Rattle.onfi_script.specs.Text.{Answer, refused}
 
--- the answer to a log of that opening: what is said of it where it isn't legal, else its pieces by rising line, and what no schedule of
+-- the answer to a log of that opening: what is reported of it where it isn't legal, else its pieces by rising line, and what no schedule of
 -- its requests passes
 pub data AnswersMeasured (options : GapOptions) (a : Audit) (requests : Requests) (text : List ℕ) (answer : Answer) : Type 0 where
   is_broken : (log : LogAnswer) → AnswersLog requests a options.all text log → log.status ≢ 0

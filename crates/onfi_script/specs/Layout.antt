@@ -15,7 +15,7 @@ pub record IsLaidOut (shape : ShapeRow) (row : GeometryRow) (g : Geometry) : Typ
   pub whole_pages : g.sector_bytes ≡ 0
   pub cycles : (g.column_address_cycles ≡ 2) × (g.row_address_cycles ≡ 4)
 
--- with sectors of so many bytes, where a sector has any and a page as many
+-- with sectors of that many bytes, where a sector has any and a page as many
 abbrev pub with_sectors : ℕ → Geometry → Geometry
 with_sectors bytes g = if nat_le 1 bytes && nat_le bytes (page_bytes_of g) then record g { sector_bytes = bytes } else g
 

@@ -136,7 +136,7 @@ names_absent luns lines = list_any (λ line. nat_le luns line.lun) lines
 abbrev pub rest_on : ℕ → List RestLine → List (List ℕ)
 rest_on luns lines = if names_absent luns lines then rests lines luns ++ [] ∷ [] else rests lines luns
 
--- the schedule that a plan says of so many LUNs
+-- the schedule that a plan says of that many LUNs
 abbrev pub schedule_on : ℕ → Plan → Schedule
 schedule_on luns plan = record { rest = rest_on luns plan.rest; groups = plan.groups }
 

@@ -17,7 +17,7 @@ pub record SpansRow : Type 0 where
   pub array : ℕ
   pub post : ℕ
 
--- how long an output of so many sectors holds the bus, in ns
+-- how long an output of that many sectors holds the bus, in ns
 pub record SectorPostRow : Type 0 where
   pub count : ℕ
   pub post : ℕ

@@ -103,7 +103,7 @@ state_from plane_bits (Some (Free lun since)) = state.Free since
 state_from plane_bits (Some (Running row)) = state.Running (members plane_bits row) row.next row.ready
 state_from plane_bits _ = state.Free 0
 
--- members with so many sectors each, from number `at` on; one that lacks a number puts out all of its page
+-- members with that many sectors each, from number `at` on; one that lacks a number puts out all of its page
 unfoldable pub each_asked : ℕ → List ℕ → List WantOf → List WantOf
 each_asked at counts [] = []
 each_asked at counts (want ∷ wants) = with_sectors (slice_index_or counts at 0) want ∷ each_asked (at + 1) counts wants

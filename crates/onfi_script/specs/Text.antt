@@ -210,7 +210,7 @@ known_text_refused (in_text.Text (in_known.BadToken place)) = refused_at (codes 
 known_text_refused (in_text.Cert fault) = known_refused fault
 known_text_refused in_text.Option = refused_for (codes "cert Option")
 
--- the answer where so many nodes were opened, and the search is not over
+-- the answer where that many nodes were opened, and the search is not over
 abbrev pub over : ℕ → Answer
 over opened = line (codes "over") opened 6
 

@@ -34,7 +34,7 @@ fn plan_script(alloc: Global, options: PlanOptions, script: &Script) -> Result<A
     }
 }
 
-/// The answer that plans a problem, where the plain search has so many workers.
+/// The answer that plans a problem, where the plain search has that many workers.
 fn answer_plan_by_workers<T: Threads + Sync>(
     rt: &T,
     alloc: Global,
@@ -103,7 +103,7 @@ fn answer(alloc: Global, command: Command, input: &[u8]) -> Result<Answer, Alloc
     }
 }
 
-/// The answer to an input that is planned by so many workers.
+/// The answer to an input that is planned by that many workers.
 fn answer_by_workers<T: Threads + Sync>(
     rt: &T,
     alloc: Global,
@@ -164,7 +164,7 @@ pub fn engine<R: Read, W: Write>(
     }
 }
 
-/// What [`engine`] does for `Plan`, with the search of [`plan_split`](onfi_planner::plan_split) by so many workers, 1 to
+/// What [`engine`] does for `Plan`, with the search of [`plan_split`](onfi_planner::plan_split) by that many workers, 1 to
 /// 8, and `limit` nodes, 1 to 1,048,576, for each part: the same text for any number of workers.
 ///
 /// Answers the status that `engine` does: 6 where a part has more nodes than the limit, or the parts together have more

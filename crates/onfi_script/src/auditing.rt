@@ -146,7 +146,7 @@ pub struct AuditOptions {
     pub all: bool,
     /// Whether LUNs are ready too from when lines `START LUN ready` or `START LUN edge` say that they were.
     pub by_status: bool,
-    /// A phase may come so much too soon, in ns.
+    /// A phase may come that much too soon, in ns.
     pub tolerance: u64,
     /// Whether a group of programs or erases has one status, and not one of each plane.
     pub one_status: bool,

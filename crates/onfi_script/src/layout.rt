@@ -49,7 +49,7 @@ pub fn geometry_row(row: &ByteRecord) -> Result<Row, ScriptFault>
     }))
 }
 
-/// The least number of bits that distinguish so many things.
+/// The least number of bits that distinguish that many things.
 fn bits_for(count: u32) -> u32
     ensures least { IsBitCount count result }
     ensures below { result ≤ 32 }
@@ -88,7 +88,7 @@ impl GeometryRow {
     }
 }
 
-/// The geometry with sectors of so many bytes, where a sector has any and a page as many.
+/// The geometry with sectors of that many bytes, where a sector has any and a page as many.
 pub fn with_sectors(geometry: Geometry, bytes: u16) -> Geometry
     ensures { result ≡ spec_with_sectors bytes geometry }
 {

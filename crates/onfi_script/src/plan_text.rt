@@ -107,7 +107,7 @@ impl Plan {
         }
     }
 
-    /// The schedule that the plan says of a problem with so many LUNs.
+    /// The schedule that the plan says of a problem with that many LUNs.
     pub fn schedule(self, luns: usize) -> Schedule
         requires { luns ≤ 8 }
         ensures { result ≡ spec.schedule_on luns self }

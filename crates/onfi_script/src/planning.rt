@@ -38,7 +38,7 @@ pub fn plan_by(
     Ok(better)
 }
 
-/// The plan that these options ask for, where the plain search has so many workers.
+/// The plan that these options ask for, where the plain search has that many workers.
 ///
 /// # Errors
 /// `Over` as [`plan_split`] reports it; `Memory` where memory was refused.

@@ -35,7 +35,7 @@ fn run_sectors(rows: &[Row], lun: u8) -> &[u8]
     }
 }
 
-/// A kind that puts out so many sectors, where it is a read.
+/// A kind that puts out that many sectors, where it is a read.
 fn put_out_sectors(count: u8, kind: Kind) -> Kind
     ensures { result ≡ spec.putting_out count kind }
 {
@@ -48,7 +48,7 @@ fn put_out_sectors(count: u8, kind: Kind) -> Kind
     }
 }
 
-/// A want that puts out so many sectors, where it is a read.
+/// A want that puts out that many sectors, where it is a read.
 fn with_sectors(count: u8, want: Want) -> Want
     ensures { result ≡ spec.with_sectors count want }
 {
@@ -72,7 +72,7 @@ pub fn ask_sectors(alloc: Global, rows: &[Row], wants: &[Want]) -> Result<Vec<Wa
     Ok(asked)
 }
 
-/// The members of a group with so many sectors each.
+/// The members of a group with that many sectors each.
 #[tactic(auto, unfolding(crate::specs::Setup::each_asked))]
 fn each_asked(alloc: Global, counts: &[u8], group: &Group) -> Group
     ensures { result ≡ spec.each_asked 0 counts.now group.now }

@@ -8,7 +8,7 @@ use onfi_schedule::Breach;
 pub enum Why {
     /// The script is refused.
     Script(Refusal),
-    /// So many nodes were opened, and the search is not over.
+    /// That many nodes were opened, and the search is not over.
     Over(u32),
     /// The first wrong line of the plan text, counted from 1.
     Line(u64),

@@ -14,7 +14,7 @@ pub struct Line {
     pub count: Count,
 }
 
-/// So many wait.
+/// That many wait.
 #[repr(C)]
 #[derive(Clone, Copy)]
 pub struct Count {
