@@ -97,7 +97,7 @@ abbrev pub TakesUrgent : Books → NextPhase → Type 0
 TakesUrgent books phase = (w : Waiter) → find is_due (ready_on phase.lun books.waiting) ≡ None → find is_urgent (ready_on phase.lun books.waiting) ≡ Some w
     → phase.members.items ≢ [] → Has phase.members.items w.want
 
--- what is said of the phase that is next: it is what a LUN gives, or where none gives any what the lowest one holds; it may come
+-- what is reported of the phase that is next: it is what a LUN gives, or where none gives any what the lowest one holds; it may come
 -- next on the channel, and starts as soon as it may
 pub record IsNextPhase (books : Books) (p : Problem) (phase : NextPhase) : Type 0 where
   pub next : IsFirstGiven books p (move_of_phase phase) ⊎ IsFirstHeld books p (move_of_phase phase)

@@ -26,7 +26,7 @@ on_lun lun waiting = filter (is_on lun) waiting
 abbrev pub ready_on : ℕ → List Waiter → List Waiter
 ready_on lun waiting = firsts (on_lun lun waiting)
 
--- so many groups with a later request may pass over a request
+-- that many groups with a later request may pass over a request
 abbrev pub turns_of : Operation → ℕ
 turns_of Erases = 512
 turns_of other = 128

@@ -75,7 +75,7 @@ impl Dispatcher {
     ghost use Rattle.onfi_steady.specs.Selecting.{IsChoice, IsHolder, IsNextChoice, IsPhaseOf};
     ghost use Rattle.onfi_flight.specs.Flight.{luns_ready_by};
 
-    /// Of a channel with so many LUNs, on which nothing runs or waits from time 0 on.
+    /// Of a channel with that many LUNs, on which nothing runs or waits from time 0 on.
     pub fn new(timing: &Timing, rules: Rules, luns: u8) -> Dispatcher
         requires some { 1 ≤ luns }
         requires few { luns ≤ 8 }

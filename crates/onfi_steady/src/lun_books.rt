@@ -32,7 +32,7 @@ use onfi_problem::LunState;
 use onfi_request::Want;
 use onfi_timing::Kind;
 
-// So many requests wait for a LUN at most in a short line.
+// That many requests wait for a LUN at most in a short line.
 const SHORT: usize = 16;
 
 /// What a LUN would begin that runs nothing.

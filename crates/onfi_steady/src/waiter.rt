@@ -38,7 +38,7 @@ impl Waiter {
     }
 }
 
-// So many groups with a later request may pass over a request.
+// That many groups with a later request may pass over a request.
 fn turns_of(operation: Operation) -> u16
     ensures { result ≡ turns_of operation }
 {
