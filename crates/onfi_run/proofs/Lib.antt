@@ -18,3 +18,4 @@ pub mod Latencies
 pub mod Resting
 pub mod Moments
 pub mod Acting
+pub mod Uniform

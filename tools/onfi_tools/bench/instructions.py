@@ -13,9 +13,9 @@ valgrind's callgrind, long memory as cleared by vectors: two runs agree to a par
 | a node, with its certificate | a script of 32,853 nodes and 39,916 tokens, planned within the greatest limit |
 | a node, remembering states | nodes 101 to 400 of both walks of `plan --by within` of programs-on-one-plane, tokens included |
 | a token checked, a token read | `check` of that certificate; the same after a start that is too early, so that the text is only read |
-| an operation of a run | `run` of 400 reads on one channel by one host, above a run without operations: the median of three |
+| an operation of a run, phase by phase | `run`, `run --by next` of 400 reads on one channel by one host, above a run without operations: the median of three |
 
---functions N: the N functions that take most in each search too, with their part of it.
+--functions N: the N functions that take most in each search and in the run phase by phase too, with their part of it.
 
 --libraries FOLDER..: whole calls of the library for C too, or alone where no PROGRAM is named; each FOLDER holds libonfi.a and has a
 column. Each call is counted by itself, without reading its script. Scripts are drawn from seed 1.
@@ -51,6 +51,7 @@ from onfi_tools.bench.runs import HARD, PROGRAM, ROOT, counted, row, table
 LIMIT = 100_000
 NODES = 32_853
 OPERATIONS = 400
+PHASE_BY_PHASE = ("--by", "next")
 RUNS = 3
 SCRIPT = """shape,8,1,1,1
 spans,read,140,600,50100,176000
@@ -138,15 +139,13 @@ class Program:
         given = SCRIPT + (re.sub(r"\nrest 4 \d+", "\nrest 4 0", plan) if early else plan)
         return self.above_start(["check"], given, "refused 1 Illegal" if early else "accepted") / tokens
 
-    def operation(self) -> float:
-        """Instructions of an operation of a host."""
-        none, many = (self.reads(count) for count in (0, OPERATIONS))
+    def operation(self, *by: str) -> float:
+        """Instructions of an operation of a host, each run the median of a few: threads that wait make them vary."""
+        none, many = (statistics.median(self.reads(count, *by).instructions for _ in range(RUNS)) for count in (0, OPERATIONS))
         return (many - none) / OPERATIONS
 
-    def reads(self, operations: int) -> float:
-        """Instructions of a run of that many reads, the median of a few: threads that wait make them vary."""
-        begins = "reply" if operations else "closed"
-        return statistics.median(self.run(["run"], script_of_reads(1, operations), begins).instructions for _ in range(RUNS))
+    def reads(self, operations: int, *by: str) -> Count:
+        return self.run(["run", *by], script_of_reads(1, operations), "reply" if operations else "closed")
 
 
 def program_table(programs: Sequence[Program], functions: int) -> None:
@@ -165,9 +164,12 @@ def program_table(programs: Sequence[Program], functions: int) -> None:
         ("a token checked", lambda program: program.token(False)),
         ("a token read", lambda program: program.token(True)),
         ("an operation of a run", Program.operation),
+        ("an operation of a run, phase by phase", lambda program: program.operation(*PHASE_BY_PHASE)),
     ]
     for name, cost in rows:
         print(row([name, *("" if program.plain else f"{cost(program):,.0f}" for program in programs)]), flush=True)
+    if functions:
+        most += [("a run, phase by phase", program.reads(OPERATIONS, *PHASE_BY_PHASE)) for program in programs if not program.plain]
     for name, of in most if functions else []:
         print(f"{name}: " + ", ".join(f"{function} {part / 10} %" for function, part in of.functions[:functions]))
 
