@@ -1,10 +1,9 @@
 -- Row addresses as numbers of three fields.
 use Rattle.std.proofs.Common.{◌≡◌, ℕ, ◌+◌, ◌*◌, ◌/◌, ◌%◌, ◌^◌, ◌<◌, ◌≤◌, arith, ap, sym, ◌∙◌, refl}
 use Rattle.std.proofs.Math.Pow.{pow_mono, pow-add, high, low, shr-shr, split, shl_exact, shl_lt}
-use Rattle.std.proofs.Math.Nat.{mul-le-mul_left, lt_of_lt_of_le, mod-add-div, mod-le}
+use Rattle.std.proofs.Math.Nat.{mul-le-mul_left, lt_of_lt_of_le}
 use Rattle.onfi_addr.specs.declared.geometry.Geometry.{Geometry}
 use Rattle.onfi_addr.specs.declared.place.Place.{Place}
-use Rattle.onfi_addr.specs.Enables.{enable_of, place_in_enable, row_in_enable_of}
 use Rattle.onfi_addr.specs.Rows.{IsInRange, row_of}
 
 joined_lt : (j k x y : ℕ) → x < 2 ^ j → y < 2 ^ k → x * 2 ^ k + y < 2 ^ (j + k)
@@ -64,14 +63,13 @@ page_within geometry place there = omega (arith, there.page_there, geometry.leas
 pub block_within : (geometry : Geometry) (place : Place) → IsInRange geometry place → place.block < 2 ^ geometry.block_bits
 block_within geometry place there = omega (arith, there.block_there, geometry.least_block_bits.enough)
 
-pub lun_within : (geometry : Geometry) (place : Place) → place.lun < geometry.luns_per_enable → place.lun < 2 ^ geometry.lun_bits
-lun_within geometry place first = omega (arith, first, geometry.least_lun_bits.enough)
+pub lun_within : (geometry : Geometry) (place : Place) → IsInRange geometry place → place.lun < 2 ^ geometry.lun_bits
+lun_within geometry place there = omega (arith, there.lun_there, geometry.least_lun_bits.enough)
 
-pub row_fits : (geometry : Geometry) (place : Place) → IsInRange geometry place → place.lun < geometry.luns_per_enable
-    → row_of geometry place < 2 ^ (8 * geometry.row_address_cycles)
-row_fits geometry place there first =
+pub row_fits : (geometry : Geometry) (place : Place) → IsInRange geometry place → row_of geometry place < 2 ^ (8 * geometry.row_address_cycles)
+row_fits geometry place there =
     let low = packed_lt geometry.page_bits geometry.block_bits geometry.lun_bits place.page place.block place.lun
-    (page_within geometry place there) (block_within geometry place there) (lun_within geometry place first) in
+    (page_within geometry place there) (block_within geometry place there) (lun_within geometry place there) in
     lt_of_lt_of_le low (pow_mono geometry.rows_fit)
 
 -- the fields of a row are the numbers of its place
@@ -101,24 +99,3 @@ next_byte row cycle =
 pub place_is : (place : Place) (lun block page : ℕ) → lun ≡ place.lun → block ≡ place.block → page ≡ place.page
     → record { lun = lun; block = block; page = page } ≡ place
 place_is place lun block page luns blocks pages = rw (luns, blocks, pages) refl
-
--- the same page of the same LUN on the first chip enable
-pub in_enable : (geometry : Geometry) (place : Place) → IsInRange geometry place → IsInRange geometry (place_in_enable geometry place)
-in_enable geometry place there =
-    let less = mod-le place.lun geometry.luns_per_enable in
-    record { lun_there = omega (arith, less, there.lun_there); block_there = there.block_there; page_there = there.page_there }
-
--- the chip enable and the number on it are a LUN
-lun_again : (a b k : ℕ) → a / k ≡ b / k → a % k ≡ b % k → a ≡ b
-lun_again a b k same_enable same_number =
-    sym (mod-add-div a k) ∙ ap (λ n. n + k * (a / k)) same_number ∙ ap (λ n. b % k + k * n) same_enable ∙ mod-add-div b k
-
--- chip enable and row on it are one place
-pub row_is_of_one : (geometry : Geometry) (a b : Place) → IsInRange geometry a → IsInRange geometry b → enable_of geometry b.lun ≡ enable_of geometry a.lun
-    → row_in_enable_of geometry b ≡ row_in_enable_of geometry a → b ≡ a
-row_is_of_one geometry a b a_there b_there same_enable same_row =
-    let fa = fields_of geometry _ (place_in_enable geometry a) (in_enable geometry a a_there) refl in
-    let fb = fields_of geometry _ (place_in_enable geometry b) (in_enable geometry b b_there) same_row in
-    place_is a b.lun b.block b.page
-    (lun_again b.lun a.lun geometry.luns_per_enable same_enable (fb.lun_is ∙ sym fa.lun_is))
-    (fb.block_is ∙ sym fa.block_is) (fb.page_is ∙ sym fa.page_is)

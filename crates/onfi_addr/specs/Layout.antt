@@ -3,9 +3,8 @@ use Rattle.std.specs.Prelude.{◌≡◌, ◌↔◌, ℕ, List, IsTrue, IsBitSet}
 use Rattle.onfi_param.specs.Fields.{features, data_bytes, spare_bytes, pages_per_block, blocks_per_lun, lun_count, column_cycles, row_cycles, plane_address_bits}
 use Rattle.onfi_addr.specs.declared.geometry.Geometry.{Geometry}
 
--- the geometry of the page, with one chip enable and no sectors; its bit counts are the least for its counts, as each geometry's are
+-- the geometry of the page, which tells of no sectors; its bit counts are the least for its counts, as each geometry's are
 pub record IsGeometryOf (page : List ℕ) (geometry : Geometry) : Type 0 where
-  pub luns_per_enable : geometry.luns_per_enable ≡ lun_count page
   pub lun_count : geometry.lun_count ≡ lun_count page
   pub plane_address_bits : geometry.plane_address_bits ≡ plane_address_bits page
   pub pages_per_block : geometry.pages_per_block ≡ pages_per_block page

@@ -1,5 +1,4 @@
 pub mod Bits
-pub mod Enables
 pub mod Faults
 pub mod Layout
 pub mod Limits

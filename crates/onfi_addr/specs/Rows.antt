@@ -14,7 +14,7 @@ abbrev pub row_of : Geometry → Place → ℕ
 row_of geometry place =
     place.page + place.block * 2 ^ geometry.page_bits + place.lun * 2 ^ (geometry.page_bits + geometry.block_bits)
 
--- the low bits of a block's number, that many
+-- the low bits of a block's number, so many
 abbrev pub plane_at : ℕ → ℕ → ℕ
 plane_at plane_bits block = block % 2 ^ plane_bits
 

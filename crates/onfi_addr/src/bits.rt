@@ -1,7 +1,7 @@
 ghost use Rattle.std.specs.Prelude.{◌≡◌, ◌+◌, ◌*◌, ◌%◌, ◌^◌, ◌<◌, ◌≤◌};
 ghost use Rattle.onfi_addr.specs.Bits.{IsBitCount};
 
-/// The least number of bits that distinguish that many things: 0 for one thing or none.
+/// The least number of bits that distinguish so many things: 0 for one thing or none.
 pub(crate) fn bits_for(count: u32) -> u32
     ensures least { IsBitCount count result }
     ensures below { result ≤ 32 }

@@ -10,15 +10,12 @@ use onfi_param::ParamPage;
 
 /// What of a device's parameter page its addressing and its scheduling rest on (ONFI 4.2, addressing; features).
 ///
-/// Each value is in the range that its ghost fields say. The bit counts are those of row addresses on one chip enable:
-/// the least with `2^page_bits` at least the pages of a block, and so for blocks and for the LUNs of one chip enable.
+/// Each value is in the range that its ghost fields say. The bit counts are those of row addresses: the least with
+/// `2^page_bits` at least the pages of a block, and so for blocks and LUNs.
 #[derive(Clone, Copy, Debug, PartialEq, Eq)]
 pub struct Geometry {
-    /// LUNs of the channel, 1 to 8.
+    /// LUNs of the device, 1 to 8.
     pub lun_count: u8,
-    /// LUNs of one chip enable (target), 1 to `lun_count`, of which the channel's are a multiple: LUN n of the channel is
-    /// LUN `n % luns_per_enable` of chip enable `n / luns_per_enable`.
-    pub luns_per_enable: u8,
     /// Plane address bits, 0 to 2: a LUN has `2^plane_address_bits` planes.
     pub plane_address_bits: u8,
     /// Pages of a block, 1 to 4,096.
@@ -29,7 +26,7 @@ pub struct Geometry {
     pub page_bits: u32,
     /// Bits of a block number in a row address, at most 16.
     pub block_bits: u32,
-    /// Bits of a LUN number in a row address on one chip enable, at most 3.
+    /// Bits of a LUN number in a row address, at most 3.
     pub lun_bits: u32,
     /// Column address cycles, 0 to 15.
     pub column_address_cycles: u8,
@@ -49,8 +46,6 @@ pub struct Geometry {
     pub multi_plane_reads: bool,
     ghost some_lun: { 1 ≤ lun_count },
     ghost few_luns: { lun_count ≤ 8 },
-    ghost some_lun_of_enable: { 1 ≤ luns_per_enable },
-    ghost whole_enables: { lun_count % luns_per_enable ≡ 0 },
     ghost few_planes: { plane_address_bits ≤ 2 },
     ghost some_page: { 1 ≤ pages_per_block },
     ghost few_pages: { pages_per_block ≤ 4096 },
@@ -61,7 +56,7 @@ pub struct Geometry {
     ghost few_lun_bits: { lun_bits ≤ 3 },
     ghost least_page_bits: { IsBitCount pages_per_block page_bits },
     ghost least_block_bits: { IsBitCount blocks_per_lun block_bits },
-    ghost least_lun_bits: { IsBitCount luns_per_enable lun_bits },
+    ghost least_lun_bits: { IsBitCount lun_count lun_bits },
     ghost few_column_cycles: { column_address_cycles ≤ 15 },
     ghost few_row_cycles: { row_address_cycles ≤ 15 },
     ghost rows_fit: { page_bits + block_bits + lun_bits ≤ 8 * row_address_cycles },
@@ -75,12 +70,11 @@ impl Geometry {
     ghost use Rattle.onfi_addr.specs.Layout.{IsGeometryOf};
     ghost use Rattle.onfi_addr.specs.Limits.{IsWithinLimits};
     ghost use Rattle.onfi_addr.specs.Sectors.{IsSectorSize};
-    ghost use Rattle.onfi_addr.specs.Enables.{IsChannelOf, MayHaveEnables, enable_of, row_in_enable_of};
     ghost use Rattle.onfi_addr.specs.Rows.{IsInRange, page_bytes_of, plane_of_block, row_of};
     ghost use Rattle.onfi_addr.specs.declared.fault.GeometryFault.{GeometryFault};
     ghost use Rattle.onfi_addr.specs.declared.place.Place.{Place};
 
-    /// The geometry of a device with one chip enable by its parameter page. Its reads put out pages as a whole.
+    /// The geometry of a device by its parameter page. Its reads put out pages as a whole.
     ///
     /// # Errors
     /// The first fault of the page in the order of [`GeometryFault`].
@@ -101,7 +95,6 @@ impl Geometry {
     {
         Geometry {
             lun_count: page.lun_count(),
-            luns_per_enable: page.lun_count(),
             plane_address_bits: page.plane_address_bits(),
             pages_per_block: page.pages_per_block() as u16,
             blocks_per_lun: page.blocks_per_lun(),
@@ -119,7 +112,7 @@ impl Geometry {
         }
     }
 
-    /// The same device, whose reads may put out sectors of that many bytes; `None` where a page has fewer, or a sector none.
+    /// The same device, whose reads may put out sectors of so many bytes; `None` where a page has fewer, or a sector none.
     pub fn with_sector_bytes(self, bytes: u16) -> Option<Geometry>
         ensures some { IfSome result (λ geometry. IsSectorSize self bytes × (geometry ≡ record self { sector_bytes = bytes })) }
         ensures none { IfNone result (¬ IsSectorSize self bytes) }
@@ -130,36 +123,6 @@ impl Geometry {
         let mut geometry = self;
         geometry.sector_bytes = bytes;
         Some(geometry)
-    }
-
-    /// The channel of that many such devices, each on a chip enable of its own: the LUNs of the first chip enable come
-    /// first. `None` where the count is 0, the LUNs would be more than 8, or there are several chip enables already.
-    pub fn with_chip_enables(self, count: u8) -> Option<Geometry>
-        ensures some { IfSome result (λ geometry. MayHaveEnables self count × IsChannelOf self count geometry) }
-        ensures none { IfNone result (¬ MayHaveEnables self count) }
-    {
-        let luns = u16::from(self.lun_count) * u16::from(count);
-        if luns == 0 || luns > 8 || self.luns_per_enable != self.lun_count {
-            return None;
-        }
-        let mut geometry = self;
-        geometry.lun_count = luns as u8;
-        Some(geometry)
-    }
-
-    /// Chip enables of the channel, 1 to 8.
-    pub fn chip_enables(&self) -> u8
-        ensures { result * self.now.luns_per_enable ≡ self.now.lun_count }
-    {
-        self.lun_count / self.luns_per_enable
-    }
-
-    /// The chip enable of a LUN, counted from 0. That of a LUN of the channel is below `chip_enables()`.
-    pub fn chip_enable_of(&self, lun: u8) -> u8
-        ensures value { result ≡ enable_of self.now lun }
-        ensures there { lun < self.now.lun_count → result * self.now.luns_per_enable < self.now.lun_count }
-    {
-        lun / self.luns_per_enable
     }
 
     /// The bytes of a page: its data bytes and its spare bytes.
@@ -180,33 +143,14 @@ impl Geometry {
 
     /// The row address of a place (ONFI 4.2, addressing): the page in the low bits, above it the block, above it the LUN.
     ///
-    /// The LUN is that of the channel, so each place in range has a row of its own, and [`Geometry::unrow`] gives the
-    /// place back. The row of a place in range on the first chip enable fits the row address cycles. On another chip
-    /// enable the cycles carry [`Geometry::row_in_enable`].
+    /// That of a place in range fits the row address cycles.
     pub fn row(&self, place: &Place) -> u64
         ensures value { result ≡ row_of self.now place.now }
-        ensures fits { IsInRange self.now place.now → place.now.lun < self.now.luns_per_enable → result < 2 ^ (8 * self.now.row_address_cycles) }
+        ensures fits { IsInRange self.now place.now → result < 2 ^ (8 * self.now.row_address_cycles) }
     {
         let block = shift_up(place.block, self.page_bits);
         let lun = shift_up(u16::from(place.lun), self.page_bits + self.block_bits);
         u64::from(place.page) + block + lun
-    }
-
-    /// The row address of a place on its chip enable (ONFI 4.2, addressing), which the row address cycles carry: as
-    /// [`Geometry::row`], with the LUN's number on its chip enable.
-    ///
-    /// That of a place in range fits the row address cycles; with the chip enable it is of one place in range alone.
-    pub fn row_in_enable(&self, place: &Place) -> u64
-        ensures value { result ≡ row_in_enable_of self.now place.now }
-        ensures fits { IsInRange self.now place.now → result < 2 ^ (8 * self.now.row_address_cycles) }
-        ensures alone { (other : Place) → IsInRange self.now place.now → IsInRange self.now other
-            → enable_of self.now other.lun ≡ enable_of self.now place.now.lun → row_in_enable_of self.now other ≡ result → other ≡ place.now }
-    {
-        self.row(&Place {
-            lun: place.lun % self.luns_per_enable,
-            block: place.block,
-            page: place.page,
-        })
     }
 
     /// The place in range with this row address; `None` exactly where there is none.

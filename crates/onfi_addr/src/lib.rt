@@ -2,7 +2,7 @@
 //!
 //! [`Geometry::of`] takes the counts and the cycles from a parameter page, or says why the device can't be driven; a
 //! [`Geometry`] then turns a [`Place`] (LUN, block, page) into the row address that commands carry and back, and says on
-//! which plane a block and on which chip enable a LUN lies. No call takes memory.
+//! which plane a block lies. No call takes memory.
 #![tactic(auto)]
 
 mod bits;

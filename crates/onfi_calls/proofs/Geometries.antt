@@ -8,7 +8,7 @@ use Rattle.onfi_addr.specs.Bits.{IsBitCount}
 use Rattle.onfi_addr.specs.Rows.{IsInRange, row_of}
 use Rattle.onfi_addr.specs.declared.geometry.Geometry.{Geometry}
 use Rattle.onfi_addr.specs.declared.place.Place.{Place}
-use Rattle.onfi_addr.proofs.RowLemmas.{packed_lt, page_within, block_within}
+use Rattle.onfi_addr.proofs.RowLemmas.{packed_lt, page_within, block_within, lun_within}
 
 -- one bit fewer isn't enough
 pub bit_count_test : (count bits : ℕ) → bits ≤ 16 → count ≤ 2 ^ bits → 1 ≤ bits → IsTrue (nat_lt (1 * 2 ^ (bits - 1) % 4294967296) count) ↔ IsBitCount count bits
@@ -44,7 +44,7 @@ two_cycles bytes cycles few some =
 -- a row address has at most 31 bits
 pub row_short : (g : Geometry) (place : Place) → IsInRange g place → row_of g place < 2 ^ 31
 row_short g place there =
-    let few : place.lun < 2 ^ 3 = omega (arith, there.lun_there, g.few_luns) in
-    let low = packed_lt g.page_bits g.block_bits 3 place.page place.block place.lun (page_within g place there) (block_within g place there) few in
-    let bits : g.page_bits + g.block_bits + 3 ≤ 31 = omega (arith, g.few_page_bits, g.few_block_bits) in
+    let low = packed_lt g.page_bits g.block_bits g.lun_bits place.page place.block place.lun
+    (page_within g place there) (block_within g place there) (lun_within g place there) in
+    let bits : g.page_bits + g.block_bits + g.lun_bits ≤ 31 = omega (arith, g.few_page_bits, g.few_block_bits, g.few_lun_bits) in
     lt_of_lt_of_le low (pow_mono bits)

@@ -38,9 +38,9 @@ pub record AreColumns (g : PlainGeometry) : Type 0 where
   pub few_column_cycles : g.column_address_cycles ≤ 15
   pub columns_fit : g.data_bytes + g.spare_bytes ≤ 2 ^ (8 * g.column_address_cycles)
 
--- no geometry of one chip enable is said so
+-- no geometry is said so
 abbrev pub IsNoGeometry : PlainGeometry → Type 0
-IsNoGeometry said = (geometry : Geometry) → geometry.luns_per_enable ≡ geometry.lun_count → said ≢ written_geometry geometry
+IsNoGeometry said = (geometry : Geometry) → said ≢ written_geometry geometry
 
 -- the row address of a page of the device that is said
 pub record IsRowSaid (said : PlainGeometry) (place : Place) (row : ℕ) : Type 0 where

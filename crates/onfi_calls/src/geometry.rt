@@ -71,7 +71,6 @@ pub fn read(said: &PlainGeometry) -> Geometry
 {
     Geometry {
         lun_count: said.lun_count,
-        luns_per_enable: said.lun_count,
         plane_address_bits: said.plane_address_bits,
         pages_per_block: said.pages_per_block,
         blocks_per_lun: said.blocks_per_lun,

@@ -6,7 +6,6 @@ use onfi_timing::{Spans, Timing};
 /// The geometry of the sample device.
 pub fn sample_geometry() -> Geometry
     ensures luns { (result.lun_count ≡ 2) × (result.plane_address_bits ≡ 1) }
-    ensures one_enable { result.luns_per_enable ≡ 2 }
     ensures blocks { (result.blocks_per_lun ≡ 1000) × (result.pages_per_block ≡ 64) }
     ensures pages { (result.data_bytes ≡ 512) × (result.spare_bytes ≡ 16) }
     ensures whole_pages { result.sector_bytes ≡ 0 }
@@ -17,7 +16,6 @@ pub fn sample_geometry() -> Geometry
 {
     Geometry {
         lun_count: 2,
-        luns_per_enable: 2,
         plane_address_bits: 1,
         pages_per_block: 64,
         blocks_per_lun: 1000,

@@ -10,7 +10,6 @@ use Rattle.onfi_script.specs.RowParts.{ShapeRow, GeometryRow}
 pub record IsLaidOut (shape : ShapeRow) (row : GeometryRow) (g : Geometry) : Type 0 where
   pub shaped : shape ≡ record { luns = g.lun_count; plane_bits = g.plane_address_bits; read = g.multi_plane_reads; write = g.multi_plane_writes }
   pub sized : row ≡ record { blocks = g.blocks_per_lun; pages = g.pages_per_block; bytes = g.data_bytes; any_order = g.any_page_order }
-  pub one_enable : g.luns_per_enable ≡ g.lun_count
   pub no_spare : g.spare_bytes ≡ 0
   pub whole_pages : g.sector_bytes ≡ 0
   pub cycles : (g.column_address_cycles ≡ 2) × (g.row_address_cycles ≡ 4)

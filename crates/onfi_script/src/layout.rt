@@ -69,7 +69,6 @@ impl GeometryRow {
     {
         Geometry {
             lun_count: shape.luns(),
-            luns_per_enable: shape.luns(),
             plane_address_bits: shape.plane_bits(),
             pages_per_block: self.pages,
             blocks_per_lun: self.blocks,
