@@ -21,10 +21,6 @@ use std::alloc::Global;
 /// Each call asks that it is the next of its LUN's group and that the wait before it is over. A group's requests happen at
 /// its last command; its posts, one for each member, give their answers.
 ///
-/// A row address has the LUN of the channel (`Geometry::row`). A driver of several chip enables takes the place by
-/// `Geometry::unrow`, selects the LUN's `chip_enable_of` and sends the cycles of `row_in_enable`; with one chip enable
-/// these are the row's.
-///
 /// Any operation may form a group here, whatever the device's page says of grouped reads, programs and erases. A driver for a
 /// device that forbids groups of an operation gives each member of it the closer `Last`, so that its groups have one
 /// member; it gets so where the rules of its problems allow no such group, as they do when they come from the page.
