@@ -244,32 +244,6 @@ fn two_of_one_number(rt: HostRuntime) -> Result<(), Fail> {
     Ok(())
 }
 
-// An urgent read goes before an older one, once more too; an urgent program doesn't.
-#[test]
-fn an_urgent_read(rt: HostRuntime) -> Result<(), Fail> {
-    let mut dispatcher = Dispatcher::new(&timing(5)?, rules(), 1);
-    dispatcher.accept(want(1, Kind::Read, 0, 0))?;
-    dispatcher.accept_urgent(want(2, Kind::Program, 0, 2))?;
-    assert_eq!(rt;
-        told(&dispatcher.next(0)),
-        Some((0, 0, [1, NONE, NONE, NONE]))
-    );
-    dispatcher.accept_urgent(want(4, Kind::Read, 0, 4))?;
-    assert_eq!(rt;
-        told(&dispatcher.next(0)),
-        Some((0, 0, [4, NONE, NONE, NONE]))
-    );
-    assert!(rt; dispatcher.cancel(4));
-    dispatcher.accept(want(5, Kind::Read, 0, 6))?;
-    dispatcher.accept_urgent_again(want(3, Kind::Read, 0, 8))?;
-    dispatcher.accept_again(want(4, Kind::Read, 0, 4))?;
-    assert_eq!(rt;
-        told(&dispatcher.next(0)),
-        Some((0, 0, [3, NONE, NONE, NONE]))
-    );
-    Ok(())
-}
-
 // One that is taken in again goes before what waits for its block.
 #[test]
 fn a_request_once_more(rt: HostRuntime) -> Result<(), Fail> {

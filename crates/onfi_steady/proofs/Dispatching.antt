@@ -24,7 +24,7 @@ use Rattle.onfi_steady.specs.declared.dispatcher.Dispatcher.{Dispatcher}
 use Rattle.onfi_steady.specs.declared.first.Choice.{Choice}
 use Rattle.onfi_steady.specs.declared.lun_books.LunBooks.{LunBooks}
 use Rattle.onfi_steady.specs.declared.waiter.Waiter.{Waiter}
-use Rattle.onfi_steady.specs.Waiting.{Books, accepted_as, begins_with, begun, channel, greatest_number, is_on, left_waiting, newest_with, passed_by, waiter_of}
+use Rattle.onfi_steady.specs.Waiting.{Books, accepted, begins_with, begun, channel, greatest_number, is_on, left_waiting, newest_with, passed_by}
 use Rattle.onfi_steady.specs.Offer.{erase_group, firsts, is_open, on_lun, own_group, ready_on}
 use Rattle.onfi_steady.specs.Next.{IsIdle, given_move, move_by}
 use Rattle.onfi_steady.specs.Kept.{NoneBelow, held_group}
@@ -307,12 +307,12 @@ pub record IsSame (old new : Dispatcher) : Type 0 where
   pub rules : new.rules ≡ old.rules
 
 -- a request was accepted
-pub accepted_is : (urgent : Bool) (timing : Timing) (books : Books) (want : Want) (old new : Dispatcher) (l after : LunBooks) → IsOf timing books old → IsSame old new →
+pub accepted_is : (timing : Timing) (books : Books) (want : Want) (old new : Dispatcher) (l after : LunBooks) → IsOf timing books old → IsSame old new →
     slice_get (luns_of old) want.lun ≡ Some l → luns_of new ≡ slice_set (luns_of old) want.lun after → newest_of new ≡ newest_with (newest_of old) want.kind want.id → want.plane ≤ 3 →
-    waiters_in (slots_in after.line) ≡ waiters_in (slots_in l.line) ++ waiter_of urgent want ∷ [] → IsLun timing books.rules after →
-    AreDistinct (accepted_as urgent books want) → IsOf timing (accepted_as urgent books want) new
-accepted_is urgent timing books want old new l after is same e changed newest plane line lun distinct =
-    let w : Waiter = waiter_of urgent want in
+    waiters_in (slots_in after.line) ≡ waiters_in (slots_in l.line) ++ record { want = want; passed = 0 } ∷ [] → IsLun timing books.rules after →
+    AreDistinct (accepted books want) → IsOf timing (accepted books want) new
+accepted_is timing books want old new l after is same e changed newest plane line lun distinct =
+    let w : Waiter = record { want = want; passed = 0 } in
     let size : length (luns_of new) ≡ length (luns_of old) = ap length changed ∙ length_set (luns_of old) want.lun after in
     record {
       spans = rw same.spans is.spans;
@@ -321,7 +321,7 @@ accepted_is urgent timing books want old new l after is same e changed newest pl
       planes = All-append (λ v. v.want.plane ≤ 3) books.waiting (w ∷ []) is.planes (plane, tt);
       there = subst (λ n. All (λ v. v.want.lun < n) (books.waiting ++ w ∷ [])) (sym size) (All-append (λ v. v.want.lun < length (luns_of old)) books.waiting (w ∷ []) is.there (slice_get_within (luns_of old) want.lun l e, tt));
       distinct = distinct;
-      luns = subst (AreLuns timing (accepted_as urgent books want)) (sym changed) (luns_changed timing books (accepted_as urgent books want) (luns_of old) want.lun l after is.luns refl e lun
+      luns = subst (AreLuns timing (accepted books want)) (sym changed) (luns_changed timing books (accepted books want) (luns_of old) want.lun l after is.luns refl e lun
           (line ∙ (ap (λ z. z ++ w ∷ []) (line_at timing books (luns_of old) want.lun l is.luns e) ∙ sym (on_push want.lun books.waiting w refl)))
           (λ at d. off_push at books.waiting w (λ q. d (sym q))));
     }

@@ -1,5 +1,5 @@
 -- No two requests that wait for one LUN have one number.
-use Rattle.std.proofs.Common.{◌≡◌, ◌≢◌, ℕ, ◌<◌, ◌∙◌, inl, inr, Bool, true, false, List, [], ◌∷◌, ◌++◌, length, nat_lt, Some, None, ap, arith, refl, sym}
+use Rattle.std.proofs.Common.{◌≡◌, ◌≢◌, ℕ, ◌<◌, ◌∙◌, inl, inr, true, false, List, [], ◌∷◌, ◌++◌, length, nat_lt, Some, None, ap, arith, refl, sym}
 use Rattle.std.specs.Prelude.{◌==◌, if◌then◌else◌, slice_get}
 use Rattle.std.specs.List.{AllByRecursion as All, list_any}
 use Rattle.std.proofs.lemmas.Bool.{cases_Bool, eq-eqb, ne_eqb, false≢true}
@@ -11,9 +11,9 @@ use Rattle.onfi_steady.specs.declared.dispatcher.Dispatcher.{Dispatcher}
 use Rattle.onfi_steady.specs.declared.lun_books.LunBooks.{LunBooks}
 use Rattle.onfi_steady.specs.declared.slot.Slot.{Slot}
 use Rattle.onfi_steady.specs.declared.waiter.Waiter.{Waiter}
-use Rattle.onfi_steady.specs.Waiting.{Books, accepted_as, is_on, waiter_of}
+use Rattle.onfi_steady.specs.Waiting.{Books, accepted, is_on}
 use Rattle.onfi_steady.specs.Slots.{has_number, is_line_below, slots_in}
-use Rattle.onfi_steady.specs.Dispatcher.{AreDistinct, Differ, IsOf, accept_refusal, again_as, again_line_refusal, again_refusal, head_refusal, is_request, line_refusal, lun_refusal, luns_of}
+use Rattle.onfi_steady.specs.Dispatcher.{AreDistinct, Differ, IsOf, accept_refusal, accepted_again, again_line_refusal, again_refusal, head_refusal, is_request, line_refusal, lun_refusal, luns_of}
 use Rattle.onfi_steady.proofs.Changing.{holds_request, none_has}
 
 -- what isn't refused has a number that none has which waits
@@ -45,17 +45,17 @@ module _ (timing : Timing) (books : Books) (d : Dispatcher) (want : Want) (l : L
   none_is : list_any (is_request want.lun want.id) books.waiting ≡ false → (v : Waiter) → Has books.waiting v → v.want.lun ≡ want.lun → v.want.id ≢ want.id
   none_is none v i = differs v want (none_has (is_request want.lun want.id) books.waiting v none i)
 
-  pub accepts_distinct : (urgent : Bool) → accept_refusal d want ≡ None → AreDistinct (accepted_as urgent books want)
-  accepts_distinct urgent h =
+  pub accepts_distinct : accept_refusal d want ≡ None → AreDistinct (accepted books want)
+  accepts_distinct h =
       let free = lun_free l want.id (ap (line_refusal want.id) (sym there) ∙ h) in
       let other = none_is (none_of_number free) in
-      Pairs-append Differ books.waiting (waiter_of urgent want ∷ []) is.distinct (tt, tt) (λ v w i j. elim j [
+      Pairs-append Differ books.waiting (record { want = want; passed = 0 } ∷ []) is.distinct (tt, tt) (λ v w i j. elim j [
         | inl e ↦ (λ same one. other v i (same ∙ ap (λ (z : Waiter). z.want.lun) (sym e)) (one ∙ ap (λ (z : Waiter). z.want.id) (sym e)))
         | inr n ↦ absurd n
       ])
 
-  pub accepts_distinct_again : (urgent : Bool) → again_refusal d want ≡ None → AreDistinct (again_as urgent books want)
-  accepts_distinct_again urgent h =
+  pub accepts_distinct_again : again_refusal d want ≡ None → AreDistinct (accepted_again books want)
+  accepts_distinct_again h =
       let free = head_free l want.id (ap (again_line_refusal want.id) (sym there) ∙ h) in
       let other = none_is (none_of_number free) in
-      (All-each (Differ (waiter_of urgent want)) books.waiting (λ v i same one. other v i (sym same) (sym one)), is.distinct)
+      (All-each (Differ (record { want = want; passed = 0 })) books.waiting (λ v i same one. other v i (sym same) (sym one)), is.distinct)

@@ -11,7 +11,7 @@ use Rattle.onfi_group.specs.Words.{Has, Pairs}
 use Rattle.onfi_group.specs.Group.{is_member}
 use Rattle.onfi_group.proofs.Lists.{All-each, Has-filter}
 use Rattle.onfi_steady.specs.declared.waiter.Waiter.{Waiter}
-use Rattle.onfi_steady.specs.Waiting.{begins_with, greatest_number, is_on, left_waiting, passed_by, waiter_of}
+use Rattle.onfi_steady.specs.Waiting.{begins_with, greatest_number, is_on, left_waiting, passed_by}
 use Rattle.onfi_steady.specs.Offer.{firsts, is_due, on_lun, ready_on, turns_of}
 use Rattle.onfi_steady.specs.Dispatcher.{begun_books, has_id, is_request}
 use Rattle.onfi_steady.specs.Fair.{AcceptsFairly, AreFair, AreWithin, BeginsFairly, CancelsFairly, IsFair, NoneStarves, RunsFairly}
@@ -48,9 +48,9 @@ none_below : (ws : List Waiter) → All (λ (v : Waiter). 0 ≤ v.passed) ws
 none_below [] = tt
 none_below (w ∷ ws) = (omega arith, none_below ws)
 
-fair_push : (urgent : Bool) (ws : List Waiter) (want : Want) → IsFair ws → length ws < 64 → All (λ v. v.want.id < want.id) ws → IsFair (ws ++ waiter_of urgent want ∷ [])
-fair_push urgent ws want fair room later =
-    let w : Waiter = waiter_of urgent want in
+fair_push : (ws : List Waiter) (want : Want) → IsFair ws → length ws < 64 → All (λ v. v.want.id < want.id) ws → IsFair (ws ++ record { want = want; passed = 0 } ∷ [])
+fair_push ws want fair room later =
+    let w : Waiter = record { want = want; passed = 0 } in
     record {
       few = let e : length (ws ++ w ∷ []) ≡ length ws + 1 = length-append ws (w ∷ []) in omega arith;
       rises = pairs_push (λ (a b : Waiter). a.want.id < b.want.id) ws w fair.rises later;
@@ -59,11 +59,11 @@ fair_push urgent ws want fair room later =
     }
 
 pub accepts_fairly : AcceptsFairly
-accepts_fairly urgent books want fair room later = λ lun. elim (cases_eq want.lun lun) [
+accepts_fairly books want fair room later = λ lun. elim (cases_eq want.lun lun) [
   | inl e ↦ (
-      let own = subst (λ l. IsFair (on_lun l books.waiting ++ waiter_of urgent want ∷ [])) e (fair_push urgent (on_lun want.lun books.waiting) want (fair want.lun) room later) in
-      subst IsFair (sym (on_push lun books.waiting (waiter_of urgent want) e)) own)
-  | inr d ↦ subst IsFair (sym (off_push lun books.waiting (waiter_of urgent want) d)) (fair lun)
+      let own = subst (λ l. IsFair (on_lun l books.waiting ++ record { want = want; passed = 0 } ∷ [])) e (fair_push (on_lun want.lun books.waiting) want (fair want.lun) room later) in
+      subst IsFair (sym (on_push lun books.waiting (record { want = want; passed = 0 }) e)) own)
+  | inr d ↦ subst IsFair (sym (off_push lun books.waiting (record { want = want; passed = 0 }) d)) (fair lun)
 ]
 
 -- what waits on

@@ -1,5 +1,5 @@
 -- A channel as a problem is that of its books, whatever happens.
-use Rattle.std.proofs.Common.{◌≡◌, ℕ, zero, suc, ◌-◌, ◌<◌, ◌≤◌, ◌⊎◌, ◌∙◌, inl, inr, Bool, true, false, List, [], ◌∷◌, ◌++◌, length, map, take, Option, Some, None, ap, arith, refl, subst, sym}
+use Rattle.std.proofs.Common.{◌≡◌, ℕ, zero, suc, ◌-◌, ◌<◌, ◌≤◌, ◌⊎◌, ◌∙◌, inl, inr, true, false, List, [], ◌∷◌, ◌++◌, length, map, take, Option, Some, None, ap, arith, refl, subst, sym}
 use Rattle.std.specs.Prelude.{◌==◌, if◌then◌else◌, IfNone, MatchOption, slice_get}
 use Rattle.std.specs.List.{AllByRecursion as All}
 use Rattle.std.proofs.lemmas.Bool.{cases_Bool, cases_eq, cases_lt, eq-eqb, ne_eqb, lt-ltb, false≢true}
@@ -13,7 +13,6 @@ use Rattle.onfi_problem.specs.declared.lun_state.LunState.{LunState}
 use Rattle.onfi_problem.specs.declared.lun_state.LunState.TheVariants.{Free, Running}
 use Rattle.onfi_problem.specs.Moves.{Move, Start, earliest, move_lun, next_ran, placed}
 use Rattle.onfi_problem.specs.Problem.{IsProblem, IsWant, Problem}
-use Rattle.onfi_problem.specs.Kept.{problem_of}
 use Rattle.onfi_problem.proofs.Places.{get_within}
 use Rattle.onfi_schedule.proofs.Exchange.{not_member}
 use Rattle.onfi_steady.specs.declared.dispatcher.Dispatcher.{Dispatcher}
@@ -22,7 +21,7 @@ use Rattle.onfi_steady.specs.declared.lun_books.LunBooks.{LunBooks}
 use Rattle.onfi_steady.specs.declared.slot.Slot.{Slot}
 use Rattle.onfi_steady.specs.declared.waiter.Waiter.{Waiter}
 use Rattle.onfi_steady.specs.Ranks.{phase_numbers}
-use Rattle.onfi_steady.specs.Waiting.{Books, channel, is_on, left_waiting, waiter_of, want_of, wants_of}
+use Rattle.onfi_steady.specs.Waiting.{Books, channel, is_on, left_waiting, want_of, wants_of}
 use Rattle.onfi_steady.specs.Offer.{on_lun}
 use Rattle.onfi_steady.specs.Next.{IsFirstGiven, IsFirstHeld, IsIdle, given_move, move_by, move_of_phase, own_move}
 use Rattle.onfi_steady.specs.Slots.{has_number, is_above, is_line_below, slots_in, waiter_in, waiters_in}
@@ -87,18 +86,17 @@ wants_each P (w ∷ ws) h = (h.0, wants_each P ws h.1)
 
 pub accept_follows : AcceptFollows
 accept_follows timing from luns books want = record {
-  wants = last false;
-  urgent = λ urgent. ap (problem_of timing books.rules from luns) (last urgent ∙ sym (last false));
+  wants = last;
   problem = λ is valid there rises. record {
-    wants = subst (All IsWant) (sym (last false)) (All-append IsWant (wants_of books.waiting) (want ∷ []) is.wants (valid, tt));
-    in_range = subst (All (λ w. w.lun < length luns)) (sym (last false)) (All-append (λ (w : Want). w.lun < length luns) (wants_of books.waiting) (want ∷ []) is.in_range (there, tt));
-    ids = subst (Pairs (λ a b. a.id < b.id)) (sym (last false)) (pairs_push (λ (a b : Want). a.id < b.id) (wants_of books.waiting) want is.ids (wants_each (λ w. w.id < want.id) books.waiting rises));
+    wants = subst (All IsWant) (sym last) (All-append IsWant (wants_of books.waiting) (want ∷ []) is.wants (valid, tt));
+    in_range = subst (All (λ w. w.lun < length luns)) (sym last) (All-append (λ (w : Want). w.lun < length luns) (wants_of books.waiting) (want ∷ []) is.in_range (there, tt));
+    ids = subst (Pairs (λ a b. a.id < b.id)) (sym last) (pairs_push (λ (a b : Want). a.id < b.id) (wants_of books.waiting) want is.ids (wants_each (λ w. w.id < want.id) books.waiting rises));
     running = is.running;
   };
 }
   where
-    last : (urgent : Bool) → wants_of (books.waiting ++ waiter_of urgent want ∷ []) ≡ wants_of books.waiting ++ want ∷ []
-    last urgent = map_push want_of books.waiting (waiter_of urgent want)
+    last : wants_of (books.waiting ++ record { want = want; passed = 0 } ∷ []) ≡ wants_of books.waiting ++ want ∷ []
+    last = map_push want_of books.waiting (record { want = want; passed = 0 })
 
 -- a dispatcher's LUN
 at_lun : (d : Dispatcher) (lun : ℕ) → lun < length (states_of d) → (l : LunBooks) × (slice_get (luns_of d) lun ≡ Some l)

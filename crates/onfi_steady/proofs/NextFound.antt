@@ -1,4 +1,4 @@
--- What is reported of the phase that is next.
+-- What is said of the phase that is next.
 use Rattle.std.proofs.Common.{◌≡◌, ℕ, ◌≤◌, inl, inr, List, ◌∷◌, length, Option, Some, None, sym, ap, ◌∙◌, subst}
 use Rattle.std.specs.Prelude.{MatchOption, slice_get}
 use Rattle.std.specs.List.{AllByRecursion as All}
@@ -7,11 +7,10 @@ use Rattle.onfi_problem.specs.Problem.{Problem}
 use Rattle.onfi_problem.specs.Moves.{Move, IsMove, earliest, move_lun}
 use Rattle.onfi_steady.specs.declared.next.NextPhase.{NextPhase}
 use Rattle.onfi_steady.specs.Waiting.{Books, wants_of}
-use Rattle.onfi_steady.specs.Offer.{ready_on}
 use Rattle.onfi_steady.specs.Next.{IsFirstGiven, IsFirstHeld, IsIdle, IsNextPhase, given_move, move_by, move_of_phase, own_move}
 use Rattle.onfi_steady.specs.Kept.{IsHeldAt, NoneBelow}
 use Rattle.onfi_steady.proofs.NextMove.{move_given, none_given}
-use Rattle.onfi_steady.proofs.NextHeld.{due_closed, due_turns, first_held, held_is, turned_held, urgent_closed, urgent_turns}
+use Rattle.onfi_steady.proofs.NextHeld.{due_given, due_held, first_held, held_is, idle}
 
 pub second : (a b s t : ℕ) (xs ys : List ℕ) → a ∷ s ∷ xs ≡ b ∷ t ∷ ys → s ≡ t
 second a b s t xs ys h = cc
@@ -24,13 +23,10 @@ module _ (books : Books) (small : All (λ w. w.want.plane ≤ 3) books.waiting) 
       let members = phase.members.items in
       let h = held_is books small p rules wants none lun state members phase.start there is.0 is.1 is.3 in
       let same : move_of_phase phase ≡ move_by lun members = ap (λ z. move_by z members) is.2 in
-      let own : own_move books p phase.lun ≡ Some (move_by phase.lun members) = subst (λ z. own_move books p z ≡ Some (move_by z members)) (sym is.2) h.own in
-      let ready = ready_on phase.lun books.waiting in
       record {
         next = inr (subst (IsFirstHeld books p) (sym same) (first_held books small p rules wants none lun members phase.start h below));
         move = subst (IsMove p) (sym same) h.move;
         lun = ap move_lun same ∙ (h.on ∙ sym is.2);
         start = h.soonest ∙ ap (earliest p) (sym same);
-        due = λ w d some. turned_held books small phase.lun w (due_turns ready w d) (due_closed books.rules ready w d) p members own some;
-        urgent = λ w none u some. turned_held books small phase.lun w (urgent_turns ready w none u) (urgent_closed books.rules ready w none u) p members own some;
+        due = λ w d some. due_held books small phase.lun w d p members (subst (λ z. own_move books p z ≡ Some (move_by z members)) (sym is.2) h.own) some;
       }

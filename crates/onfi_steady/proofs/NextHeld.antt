@@ -1,14 +1,9 @@
--- What a LUN holds; that nothing is left where it holds none; and that what is due, else what is urgent, goes first on its LUN.
-use Rattle.std.proofs.Common.{◌≡◌, ◌≢◌, ℕ, ◌<◌, ◌≤◌, inl, inr, Bool, true, false, List, [], ◌∷◌, length, Option, Some, None, refl, sym, ap, ◌∙◌, subst}
-use Rattle.std.specs.Prelude.{◌==◌, if◌then◌else◌, max, slice_get}
+-- What a LUN holds; that nothing is left where it holds none; and that what is due goes first on its LUN.
+use Rattle.std.proofs.Common.{◌≡◌, ◌≢◌, ℕ, ◌<◌, ◌≤◌, inl, inr, Bool, false, List, [], ◌∷◌, length, Option, Some, None, refl, sym, ap, ◌∙◌, subst}
+use Rattle.std.specs.Prelude.{max, slice_get}
 use Rattle.std.specs.List.{AllByRecursion as All, find}
-use Rattle.std.proofs.lemmas.Bool.{cases_lt, eq-eqb, false≢true}
-use Rattle.onfi_timing.specs.declared.kind.Kind.TheVariants.{Program}
-use Rattle.onfi_timing.specs.declared.operation.Operation.{Operation}
-use Rattle.onfi_timing.specs.declared.operation.Operation.TheVariants.{Read as Reads, Program as Programs, Erase as Erases}
-use Rattle.onfi_timing.specs.Kinds.{operation_of}
+use Rattle.std.proofs.lemmas.Bool.{cases_lt, eq-eqb}
 use Rattle.onfi_request.specs.declared.want.Want.{Want}
-use Rattle.onfi_group.specs.declared.rules.Rules.{Rules}
 use Rattle.onfi_group.specs.Words.{Has}
 use Rattle.onfi_group.proofs.Lists.{Has-filter}
 use Rattle.onfi_problem.specs.declared.lun_state.LunState.{LunState}
@@ -17,12 +12,11 @@ use Rattle.onfi_problem.specs.Problem.{Problem}
 use Rattle.onfi_problem.specs.Moves.{Next, Start, IsMove, earliest, free_from, move_lun}
 use Rattle.onfi_problem.proofs.Places.{get_within}
 use Rattle.onfi_steady.specs.declared.waiter.Waiter.{Waiter}
-use Rattle.onfi_steady.specs.Ranks.{operation_rank}
 use Rattle.onfi_steady.specs.Waiting.{Books, is_on, wants_of}
-use Rattle.onfi_steady.specs.Offer.{firsts, is_due, is_kind, is_open, is_urgent, on_lun, own_group, ready_on, turned_to}
+use Rattle.onfi_steady.specs.Offer.{firsts, is_due, on_lun, own_group, ready_on, turned_to}
 use Rattle.onfi_steady.specs.Next.{IsFirstHeld, IsIdle, any_work, begin_with, given_by, given_group, given_move, is_held, move_by, own_move}
 use Rattle.onfi_steady.specs.Kept.{NoneBelow, held_group}
-use Rattle.onfi_steady.proofs.Starting.{found, has_head, none_begins, turned_in}
+use Rattle.onfi_steady.proofs.Starting.{found, has_head, none_begins}
 use Rattle.onfi_steady.proofs.NextMove.{none_some, begin_is, move_owned}
 
 module _ (books : Books) (small : All (λ w. w.want.plane ≤ 3) books.waiting) (p : Problem) (rules : p.rules ≡ books.rules) (wants : p.wants ≡ wants_of books.waiting) (none : (lun : ℕ) → given_move books p lun ≡ None) where
@@ -93,17 +87,19 @@ module _ (books : Books) (small : All (λ w. w.want.plane ≤ 3) books.waiting) 
       each [] f = tt
       each (w ∷ ws) f = (f w (inl refl), each ws (λ v h. f v (inr h)))
 
--- what a LUN turns to goes first on it, unless its group is open
-module _ (books : Books) (small : All (λ w. w.want.plane ≤ 3) books.waiting) (lun : ℕ) (w : Waiter)
-    (turns : turned_to (ready_on lun books.waiting) ≡ Some w) (closed : is_open books.rules (ready_on lun books.waiting) ≡ false) where
+-- what is due goes first on its LUN
+module _ (books : Books) (small : All (λ w. w.want.plane ≤ 3) books.waiting) (lun : ℕ) (w : Waiter) (due : find is_due (ready_on lun books.waiting) ≡ Some w) where
   abbrev ready : List Waiter
   ready = ready_on lun books.waiting
 
-  own_has : Has (own_group books.rules ready) w.want
-  own_has = rw turns (has_head books.rules books.waiting lun small w (turned_in ready w turns))
+  turns : turned_to ready ≡ Some w
+  turns = rw due refl
+
+  pub own_has : Has (own_group books.rules ready) w.want
+  own_has = rw turns (has_head books.rules books.waiting lun small w (found is_due ready w due).0)
 
   not_held : (work : Bool) → is_held books work ready ≡ false
-  not_held work = rw closed refl
+  not_held work = rw (turns, (found is_due ready w due).1) refl
 
   given_has : (work : Bool) → Has (given_group books work ready) w.want
   given_has work = rw (not_held work) own_has
@@ -118,35 +114,8 @@ module _ (books : Books) (small : All (λ w. w.want.plane ≤ 3) books.waiting) 
       let e : b.0 ∷ b.1 ≡ m ∷ ms = let q = b.3 in cc in
       subst (λ z. Has z w.want) (b.2 ∙ e) has
 
-  pub turned_given : (p : Problem) (members : List Want) → given_move books p lun ≡ Some (move_by lun members) → members ≢ [] → Has members w.want
-  turned_given p members h some = has_by (given_group books (any_work books p)) (given_has (any_work books p)) members (slice_get p.luns lun) h some
+  pub due_given : (p : Problem) (members : List Want) → given_move books p lun ≡ Some (move_by lun members) → members ≢ [] → Has members w.want
+  due_given p members h some = has_by (given_group books (any_work books p)) (given_has (any_work books p)) members (slice_get p.luns lun) h some
 
-  pub turned_held : (p : Problem) (members : List Want) → own_move books p lun ≡ Some (move_by lun members) → members ≢ [] → Has members w.want
-  turned_held p members h some = has_by (own_group books.rules) own_has members (slice_get p.luns lun) h some
-
--- what is due waits for no mates
-pub due_turns : (ready : List Waiter) (w : Waiter) → find is_due ready ≡ Some w → turned_to ready ≡ Some w
-due_turns ready w h = rw h refl
-
-pub due_closed : (rules : Rules) (ready : List Waiter) (w : Waiter) → find is_due ready ≡ Some w → is_open rules ready ≡ false
-due_closed rules ready w h = rw (due_turns ready w h, (found is_due ready w h).1) refl
-
--- an urgent read is no program, which might wait for mates
-pub urgent_turns : (ready : List Waiter) (w : Waiter) → find is_due ready ≡ None → find is_urgent ready ≡ Some w → turned_to ready ≡ Some w
-urgent_turns ready w none h = rw (none, h) refl
-
-no_program : (w : Waiter) → is_urgent w ≡ true → is_kind Program w ≡ false
-no_program w h = by_operation w.urgent (operation_of w.want.kind) h
-  where
-    by_operation : (b : Bool) (o : Operation) → (if b then operation_rank o == 0 else false) ≡ true → (operation_rank o == 1) ≡ false
-    by_operation true Reads q = refl
-    by_operation true Programs q = absurd (false≢true q)
-    by_operation true Erases q = absurd (false≢true q)
-    by_operation false o q = absurd (false≢true q)
-
-pub urgent_closed : (rules : Rules) (ready : List Waiter) (w : Waiter) → find is_due ready ≡ None → find is_urgent ready ≡ Some w → is_open rules ready ≡ false
-urgent_closed rules ready w none h = rw (urgent_turns ready w none h, no_program w (found is_urgent ready w h).1) (never (is_due w))
-  where
-    never : (b : Bool) → (if b then false else false) ≡ false
-    never true = refl
-    never false = refl
+  pub due_held : (p : Problem) (members : List Want) → own_move books p lun ≡ Some (move_by lun members) → members ≢ [] → Has members w.want
+  due_held p members h some = has_by (own_group books.rules) own_has members (slice_get p.luns lun) h some

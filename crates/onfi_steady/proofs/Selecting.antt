@@ -32,7 +32,7 @@ use Rattle.onfi_steady.specs.LunBooks.{IsLun, IsLunOffer, begin_of, runs, state_
 use Rattle.onfi_steady.specs.Selecting.{IsChoice, IsFirstChoice, IsFirstMove, IsMoveOf, begin_choice, begin_turn, begun_at, begun_by, begun_on, can_run_by, choice_with, first_choice, given_in, gives_erase, going_turn, has_newest, held_in, keeps_in, kept_in, works_in}
 use Rattle.onfi_steady.proofs.KeptFrom.{begin_numbers, kept_more, running_numbers}
 use Rattle.onfi_steady.proofs.NextFound.{second}
-use Rattle.onfi_steady.proofs.NextHeld.{due_closed, due_turns, turned_given, urgent_closed, urgent_turns}
+use Rattle.onfi_steady.proofs.NextHeld.{due_given}
 use Rattle.onfi_steady.proofs.NextMove.{given_lun, last_or_earlier, move_given, none_some, past}
 use Rattle.onfi_steady.proofs.Order.{behind, before_all}
 use Rattle.onfi_steady.proofs.Slots.{any_newest, begin_size}
@@ -136,15 +136,12 @@ module _ (books : Books) (small : All (λ w. w.want.plane ≤ 3) books.waiting) 
       let same : move_of_phase phase ≡ move_by at ms = ap (λ z. move_by z phase.members.items) lun ∙ ap (move_by at) members in
       let is = move_given books small p rules wants at (move_by at ms) f.is.given in
       let there : given_move books p phase.lun ≡ Some (move_by phase.lun ms) = subst (λ z. given_move books p z ≡ Some (move_by z ms)) (sym lun) f.is.given in
-      let given : given_move books p phase.lun ≡ Some (move_by phase.lun phase.members.items) = subst (λ z. given_move books p phase.lun ≡ Some (move_by phase.lun z)) (sym members) there in
-      let ready = ready_on phase.lun books.waiting in
       record {
         next = inl (subst (IsFirstGiven books p) (sym same) (first_is at ms t f));
         move = subst (IsMove p) (sym same) is.move;
         lun = ap move_lun same ∙ (is.on ∙ sym lun);
         start = start ∙ (second _ _ _ _ _ _ f.is.numbers ∙ ap (earliest p) (sym same));
-        due = λ w d some. turned_given books small phase.lun w (due_turns ready w d) (due_closed books.rules ready w d) p phase.members.items given some;
-        urgent = λ w none u some. turned_given books small phase.lun w (urgent_turns ready w none u) (urgent_closed books.rules ready w none u) p phase.members.items given some;
+        due = λ w d some. due_given books small phase.lun w d p phase.members.items (subst (λ z. given_move books p phase.lun ≡ Some (move_by phase.lun z)) (sym members) there) some;
       }
 
 same_numbers : (a b s c d e f g h : ℕ) → a ≡ b → c ≡ d → e ≡ f → g ≡ h → (a ∷ s ∷ c ∷ e ∷ g ∷ []) ≡ (b ∷ s ∷ d ∷ f ∷ h ∷ [])

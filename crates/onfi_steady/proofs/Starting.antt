@@ -17,7 +17,7 @@ use Rattle.onfi_group.proofs.Lists.{All-each, All-has}
 use Rattle.onfi_steady.specs.declared.waiter.Waiter.{Waiter}
 use Rattle.onfi_steady.specs.Ranks.{operation_rank}
 use Rattle.onfi_steady.specs.Waiting.{want_of, wants_of}
-use Rattle.onfi_steady.specs.Offer.{erase_group, goes_with, group_with, is_due, is_kind, is_mate, is_urgent, is_same_page, is_same_row, member_on, or_else, own_group, ready_on, turned_to}
+use Rattle.onfi_steady.specs.Offer.{erase_group, goes_with, group_with, is_due, is_kind, is_mate, is_same_page, is_same_row, member_on, or_else, own_group, ready_on, turned_to}
 use Rattle.onfi_steady.proofs.Firsts.{ready_is}
 
 -- what a look-up finds
@@ -43,10 +43,9 @@ or_else_in P (Some v) b f g w h = f w h
 pub turned_in : (ready : List Waiter) (w : Waiter) → turned_to ready ≡ Some w → Has ready w
 turned_in ready w h =
     or_else_in (Has ready) (find is_due ready) _ (λ v e. (found is_due ready v e).0)
-    (or_else_in (Has ready) (find is_urgent ready) _ (λ v e. (found is_urgent ready v e).0)
     (or_else_in (Has ready) (find (is_kind Read) ready) _ (λ v e. (found (is_kind Read) ready v e).0)
     (or_else_in (Has ready) (find (is_kind Program) ready) _ (λ v e. (found (is_kind Program) ready v e).0)
-    (λ v e. (found (is_kind Erase) ready v e).0)))) w h
+    (λ v e. (found (is_kind Erase) ready v e).0))) w h
 
 or_else_none : (a b : Option Waiter) → or_else a b ≡ None → (a ≡ None) × (b ≡ None)
 or_else_none None b h = (refl, h)
@@ -57,8 +56,7 @@ pub none_ready : (ready : List Waiter) → turned_to ready ≡ None → ready �
 none_ready [] h = refl
 none_ready (w ∷ ws) h =
     let due = or_else_none (find is_due (w ∷ ws)) _ h in
-    let urgent = or_else_none (find is_urgent (w ∷ ws)) _ due.1 in
-    let read = or_else_none (find (is_kind Read) (w ∷ ws)) _ urgent.1 in
+    let read = or_else_none (find (is_kind Read) (w ∷ ws)) _ due.1 in
     let program = or_else_none (find (is_kind Program) (w ∷ ws)) _ read.1 in
     absurd (some_operation (operation_of w.want.kind) (not_found (is_kind Read) w ws read.0) (not_found (is_kind Program) w ws program.0) (not_found (is_kind Erase) w ws program.1))
   where

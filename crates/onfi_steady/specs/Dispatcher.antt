@@ -20,7 +20,7 @@ use Rattle.onfi_steady.specs.declared.newest.Newest.{Newest}
 use Rattle.onfi_steady.specs.declared.next.NextPhase.{NextPhase}
 use Rattle.onfi_steady.specs.declared.run.Run.{Run}
 use Rattle.onfi_steady.specs.declared.waiter.Waiter.{Waiter}
-use Rattle.onfi_steady.specs.Waiting.{Books, begun, channel, is_on, is_read, waiter_of}
+use Rattle.onfi_steady.specs.Waiting.{Books, begun, channel, is_on}
 use Rattle.onfi_steady.specs.Offer.{ready_on}
 use Rattle.onfi_steady.specs.Next.{move_by}
 use Rattle.onfi_steady.specs.Slots.{AreSpansOf, has_number, is_line_below, slots_in}
@@ -148,16 +148,9 @@ abbrev pub IsCancelled : Timing → Books → ℕ → Dispatcher → Dispatcher 
 IsCancelled timing books id old new true = (lun : ℕ) × (list_any (is_request lun id) books.waiting ≡ true) × IsOf timing (cancelled books lun id) new
 IsCancelled timing books id old new false = (list_any (has_id id) books.waiting ≡ false) × (new ≡ old)
 
--- a request waits before all others, urgent or not; no group passed it over
-abbrev pub again_as : Bool → Books → Want → Books
-again_as urgent books want = record { rules = books.rules; waiting = waiter_of urgent want ∷ books.waiting; newest = books.newest }
-
+-- a request waits before all others; no group passed it over
 abbrev pub accepted_again : Books → Want → Books
-accepted_again books want = again_as false books want
-
--- .. urgent, where it is a read
-abbrev pub accepted_urgent_again : Books → Want → Books
-accepted_urgent_again books want = again_as (is_read want) books want
+accepted_again books want = record { rules = books.rules; waiting = record { want = want; passed = 0 } ∷ books.waiting; newest = books.newest }
 
 abbrev pub again_line_refusal : ℕ → Option LunBooks → Option AcceptFault
 again_line_refusal id None = Some BadLun
@@ -168,5 +161,5 @@ abbrev pub again_refusal : Dispatcher → Want → Option AcceptFault
 again_refusal d want = again_line_refusal want.id (slice_get (luns_of d) want.lun)
 
 -- of a LUN's requests that may begin it is the first
-abbrev pub StandsFirst : Bool → Books → Want → Type 0
-StandsFirst urgent books want = slice_get (ready_on want.lun books.waiting) 0 ≡ Some (waiter_of urgent want)
+abbrev pub StandsFirst : Books → Want → Type 0
+StandsFirst books want = slice_get (ready_on want.lun books.waiting) 0 ≡ Some (record { want = want; passed = 0 })

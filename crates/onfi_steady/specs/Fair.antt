@@ -1,5 +1,5 @@
 -- No request is passed over for ever.
-use Rattle.std.specs.Prelude.{ℕ, Bool, ◌+◌, ◌<◌, ◌≤◌, List, [], ◌∷◌, length, Option}
+use Rattle.std.specs.Prelude.{ℕ, ◌+◌, ◌<◌, ◌≤◌, List, [], ◌∷◌, length, Option}
 use Rattle.std.specs.List.{AllByRecursion as Each}
 use Rattle.onfi_request.specs.declared.want.Want.{Want}
 use Rattle.onfi_group.specs.declared.rules.Rules.{Rules}
@@ -7,7 +7,7 @@ use Rattle.onfi_group.specs.Words.{Pairs}
 use Rattle.onfi_problem.specs.Problem.{Problem}
 use Rattle.onfi_steady.specs.declared.next.NextPhase.{NextPhase}
 use Rattle.onfi_steady.specs.declared.waiter.Waiter.{Waiter}
-use Rattle.onfi_steady.specs.Waiting.{Books, accepted_as}
+use Rattle.onfi_steady.specs.Waiting.{Books, accepted}
 use Rattle.onfi_steady.specs.Offer.{on_lun}
 use Rattle.onfi_steady.specs.Next.{IsNextPhase}
 use Rattle.onfi_steady.specs.Dispatcher.{begun_books, cancelled}
@@ -39,10 +39,10 @@ BeginsFairly = (rules : Rules) (newest : Option ℕ) → AreFair (record { rules
 abbrev pub CancelsFairly : Type 0
 CancelsFairly = (books : Books) (lun id : ℕ) → AreFair books → AreFair (cancelled books lun id)
 
--- .. where a request comes, urgent or not, whose number is above those that wait for its LUN
+-- .. where a request comes whose number is above those that wait for its LUN
 abbrev pub AcceptsFairly : Type 0
-AcceptsFairly = (urgent : Bool) (books : Books) (want : Want) → AreFair books → length (on_lun want.lun books.waiting) < 64
-    → Each (λ v. v.want.id < want.id) (on_lun want.lun books.waiting) → AreFair (accepted_as urgent books want)
+AcceptsFairly = (books : Books) (want : Want) → AreFair books → length (on_lun want.lun books.waiting) < 64 → Each (λ v. v.want.id < want.id) (on_lun want.lun books.waiting)
+    → AreFair (accepted books want)
 
 -- .. and where the phase runs that is next
 abbrev pub RunsFairly : Type 0

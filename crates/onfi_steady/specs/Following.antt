@@ -1,5 +1,5 @@
 -- A channel as a problem is that of its books, whatever happens.
-use Rattle.std.specs.Prelude.{◌≡◌, ℕ, ◌<◌, ◌==◌, if◌then◌else◌, Bool, List, [], ◌∷◌, ◌++◌, length, Option, Some, None, slice_get}
+use Rattle.std.specs.Prelude.{◌≡◌, ℕ, ◌<◌, ◌==◌, if◌then◌else◌, List, [], ◌∷◌, ◌++◌, length, Option, Some, None, slice_get}
 use Rattle.std.specs.List.{AllByRecursion as Each}
 use Rattle.onfi_timing.specs.declared.timing.Timing.{Timing}
 use Rattle.onfi_request.specs.declared.want.Want.{Want}
@@ -11,7 +11,7 @@ use Rattle.onfi_steady.specs.declared.dispatcher.Dispatcher.{Dispatcher}
 use Rattle.onfi_steady.specs.declared.fault.ReadyFault.{ReadyFault}
 use Rattle.onfi_steady.specs.declared.fault.ReadyFault.TheVariants.{BadLun, NotInArray}
 use Rattle.onfi_steady.specs.declared.next.NextPhase.{NextPhase}
-use Rattle.onfi_steady.specs.Waiting.{Books, accepted, accepted_as, channel}
+use Rattle.onfi_steady.specs.Waiting.{Books, accepted, channel}
 use Rattle.onfi_steady.specs.Next.{IsNextPhase, move_by}
 use Rattle.onfi_steady.specs.Dispatcher.{HasRun, IsOf, accept_refusal, begun_books, due_wants, ready_refusal, states_of}
 
@@ -32,10 +32,9 @@ RanFollows = (timing : Timing) (books : Books) (old new : Dispatcher) (started :
     → phase_ran (channel timing old.bus_free (states_of old) books) old.due.lun (due_wants old) started
     ≡ channel timing new.bus_free (states_of new) (begun_books books old.due.lun (due_wants old))
 
--- a request that is accepted is the last want, urgent or not, and the channel stays a problem where its number is above the others
+-- a request that is accepted is the last want, and the channel stays a problem where its number is above the others
 pub record IsAccepted (timing : Timing) (from : ℕ) (luns : List LunState) (books : Books) (want : Want) : Type 0 where
   pub wants : (channel timing from luns (accepted books want)).wants ≡ (channel timing from luns books).wants ++ want ∷ []
-  pub urgent : (urgent : Bool) → channel timing from luns (accepted_as urgent books want) ≡ channel timing from luns (accepted books want)
   pub problem : IsProblem (channel timing from luns books) → IsWant want → want.lun < length luns → Each (λ w. w.want.id < want.id) books.waiting
       → IsProblem (channel timing from luns (accepted books want))
 

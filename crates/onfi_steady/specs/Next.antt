@@ -16,7 +16,7 @@ use Rattle.onfi_steady.specs.declared.next.NextPhase.{NextPhase}
 use Rattle.onfi_steady.specs.Order.{GoesBefore}
 use Rattle.onfi_steady.specs.Ranks.{operation_rank, phase_numbers}
 use Rattle.onfi_steady.specs.Waiting.{Books}
-use Rattle.onfi_steady.specs.Offer.{ready_on, on_lun, own_group, erase_group, is_open, is_kind, is_due, is_urgent}
+use Rattle.onfi_steady.specs.Offer.{ready_on, on_lun, own_group, erase_group, is_open, is_kind, is_due}
 
 -- a LUN has work: its group is in its commands and is no erase, or is ready within the array time of a program; or it
 -- runs nothing, and a read waits for it
@@ -91,13 +91,7 @@ move_of_phase phase = move_by phase.lun phase.members.items
 abbrev pub TakesDue : Books → NextPhase → Type 0
 TakesDue books phase = (w : Waiter) → find is_due (ready_on phase.lun books.waiting) ≡ Some w → phase.members.items ≢ [] → Has phase.members.items w.want
 
--- the oldest urgent read of a LUN's requests that may begin is in the group that begins there, where none of them is due: so no
--- read that is neither urgent nor due goes before one that is urgent
-abbrev pub TakesUrgent : Books → NextPhase → Type 0
-TakesUrgent books phase = (w : Waiter) → find is_due (ready_on phase.lun books.waiting) ≡ None → find is_urgent (ready_on phase.lun books.waiting) ≡ Some w
-    → phase.members.items ≢ [] → Has phase.members.items w.want
-
--- what is reported of the phase that is next: it is what a LUN gives, or where none gives any what the lowest one holds; it may come
+-- what is said of the phase that is next: it is what a LUN gives, or where none gives any what the lowest one holds; it may come
 -- next on the channel, and starts as soon as it may
 pub record IsNextPhase (books : Books) (p : Problem) (phase : NextPhase) : Type 0 where
   pub next : IsFirstGiven books p (move_of_phase phase) ⊎ IsFirstHeld books p (move_of_phase phase)
@@ -105,4 +99,3 @@ pub record IsNextPhase (books : Books) (p : Problem) (phase : NextPhase) : Type 
   pub lun : move_lun (move_of_phase phase) ≡ phase.lun
   pub start : phase.start ≡ earliest p (move_of_phase phase)
   pub due : TakesDue books phase
-  pub urgent : TakesUrgent books phase

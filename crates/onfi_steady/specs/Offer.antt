@@ -26,7 +26,7 @@ on_lun lun waiting = filter (is_on lun) waiting
 abbrev pub ready_on : ℕ → List Waiter → List Waiter
 ready_on lun waiting = firsts (on_lun lun waiting)
 
--- that many groups with a later request may pass over a request
+-- so many groups with a later request may pass over a request
 abbrev pub turns_of : Operation → ℕ
 turns_of Erases = 512
 turns_of other = 128
@@ -38,18 +38,13 @@ is_due w = not (nat_lt w.passed (turns_of (operation_of w.want.kind)))
 abbrev pub is_kind : Kind → Waiter → Bool
 is_kind kind w = operation_rank (operation_of w.want.kind) == operation_rank (operation_of kind)
 
-abbrev pub is_urgent : Waiter → Bool
-is_urgent w = if w.urgent then is_kind Read w else false
-
 abbrev pub or_else : Option Waiter → Option Waiter → Option Waiter
 or_else None other = other
 or_else (Some w) other = Some w
 
--- the request that a LUN turns to: its oldest that is due, else its oldest urgent read, else its oldest read, else its oldest
--- program, else its oldest erase
+-- the request that a LUN turns to: its oldest that is due, else its oldest read, else its oldest program, else its oldest erase
 abbrev pub turned_to : List Waiter → Option Waiter
-turned_to ready =
-    or_else (find is_due ready) (or_else (find is_urgent ready) (or_else (find (is_kind Read) ready) (or_else (find (is_kind Program) ready) (find (is_kind Erase) ready))))
+turned_to ready = or_else (find is_due ready) (or_else (find (is_kind Read) ready) (or_else (find (is_kind Program) ready) (find (is_kind Erase) ready)))
 
 abbrev pub is_same_page : Want → Want → Bool
 is_same_page head m = if operation_rank (operation_of head.kind) == operation_rank Erases then true else m.page == head.page

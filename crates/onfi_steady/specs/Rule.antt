@@ -1,5 +1,5 @@
 -- The rule: a batch by the way of a dispatcher, phase after phase.
-use Rattle.std.specs.Prelude.{◌≡◌, ℕ, List, [], ◌∷◌, map, None, false}
+use Rattle.std.specs.Prelude.{◌≡◌, ℕ, List, [], ◌∷◌, map, None}
 use Rattle.onfi_request.specs.declared.want.Want.{Want}
 use Rattle.onfi_problem.specs.Problem.{Problem}
 use Rattle.onfi_problem.specs.Moves.{IsDone, after}
@@ -8,12 +8,12 @@ use Rattle.onfi_schedule.specs.Runs.{Step, schedule_of}
 use Rattle.onfi_steady.specs.declared.dispatcher.Dispatcher.{Dispatcher}
 use Rattle.onfi_steady.specs.declared.next.NextPhase.{NextPhase}
 use Rattle.onfi_steady.specs.declared.waiter.Waiter.{Waiter}
-use Rattle.onfi_steady.specs.Waiting.{Books, channel, waiter_of}
+use Rattle.onfi_steady.specs.Waiting.{Books, channel}
 use Rattle.onfi_steady.specs.Next.{IsNextPhase, move_of_phase}
 use Rattle.onfi_steady.specs.Dispatcher.{IsOf, begun_books, states_of}
 
 abbrev pub unpassed : Want → Waiter
-unpassed w = waiter_of false w
+unpassed w = record { want = w; passed = 0 }
 
 -- all that is to do waits, passed over by none; no program is the newest, so none waits for its mates
 abbrev pub batch_of : Problem → Books

@@ -23,7 +23,7 @@ abbrev pub want_in : Slot → Want
 want_in s = record { id = s.id; kind = kind_named s.kind s.first s.count; lun = s.lun; plane = s.plane; block = s.block; page = s.page }
 
 abbrev pub waiter_in : Slot → Waiter
-waiter_in s = record { want = want_in s; passed = s.passed; urgent = s.urgent }
+waiter_in s = record { want = want_in s; passed = s.passed }
 
 abbrev pub wants_in : List Slot → List Want
 wants_in slots = map want_in slots

@@ -3,9 +3,7 @@ use Rattle.std.specs.Prelude.{ℕ, ◌+◌, ◌==◌, max, min, nat_lt, not, if�
 use Rattle.std.specs.List.{filter}
 use Rattle.onfi_timing.specs.declared.kind.Kind.{Kind}
 use Rattle.onfi_timing.specs.declared.kind.Kind.TheVariants.{Program}
-use Rattle.onfi_timing.specs.declared.operation.Operation.TheVariants.{Read}
 use Rattle.onfi_timing.specs.declared.timing.Timing.{Timing}
-use Rattle.onfi_timing.specs.Kinds.{operation_of}
 use Rattle.onfi_request.specs.declared.want.Want.{Want}
 use Rattle.onfi_group.specs.declared.rules.Rules.{Rules}
 use Rattle.onfi_group.specs.Group.{is_member}
@@ -13,7 +11,6 @@ use Rattle.onfi_problem.specs.declared.lun_state.LunState.{LunState}
 use Rattle.onfi_problem.specs.Problem.{Problem}
 use Rattle.onfi_problem.specs.Kept.{problem_of}
 use Rattle.onfi_steady.specs.declared.waiter.Waiter.{Waiter}
-use Rattle.onfi_steady.specs.Ranks.{operation_rank}
 
 -- the rules of the device, the requests in the order in which they were accepted, and the newest accepted program
 pub record Books : Type 0 where
@@ -31,27 +28,13 @@ abbrev pub newest_with : Option ℕ → Kind → ℕ → Option ℕ
 newest_with newest Program id = Some id
 newest_with newest other id = newest
 
--- a request that no group passed over, urgent or not
-abbrev pub waiter_of : Bool → Want → Waiter
-waiter_of urgent want = record { want = want; passed = 0; urgent = urgent }
-
--- one more waits after the others
-abbrev pub accepted_as : Bool → Books → Want → Books
-accepted_as urgent books want = record {
+-- one more waits after the others; no group passed it over
+abbrev pub accepted : Books → Want → Books
+accepted books want = record {
   rules = books.rules;
-  waiting = books.waiting ++ waiter_of urgent want ∷ [];
+  waiting = books.waiting ++ record { want = want; passed = 0 } ∷ [];
   newest = newest_with books.newest want.kind want.id;
 }
-
-abbrev pub accepted : Books → Want → Books
-accepted books want = accepted_as false books want
-
--- .. urgent, where it is a read
-abbrev pub is_read : Want → Bool
-is_read want = operation_rank (operation_of want.kind) == operation_rank Read
-
-abbrev pub accepted_urgent : Books → Want → Books
-accepted_urgent books want = accepted_as (is_read want) books want
 
 abbrev pub is_on : ℕ → Waiter → Bool
 is_on lun w = w.want.lun == lun
@@ -67,7 +50,7 @@ greatest_number most (m ∷ ms) = greatest_number (max most m.id) ms
 
 -- a group with a later request began on its LUN: one more passed it over
 abbrev pub passed_by : ℕ → ℕ → Waiter → Waiter
-passed_by lun last w = if is_on lun w then (if nat_lt w.want.id last then record { want = w.want; passed = min (w.passed + 1) 65535; urgent = w.urgent } else w) else w
+passed_by lun last w = if is_on lun w then (if nat_lt w.want.id last then record { want = w.want; passed = min (w.passed + 1) 65535 } else w) else w
 
 -- what waits once the group of these members began on the LUN
 abbrev pub left_waiting : ℕ → List Want → List Waiter → List Waiter

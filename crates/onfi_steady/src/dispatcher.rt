@@ -17,7 +17,6 @@ use crate::kind_spans::KindSpans;
 use crate::lun_books::LunBooks;
 use crate::newest::Newest;
 use crate::next::NextPhase;
-use crate::own::is_read;
 use onfi_group::Rules;
 use onfi_problem::LunState;
 use onfi_request::Want;
@@ -69,13 +68,13 @@ impl Dispatcher {
     ghost use Rattle.std.specs.Prelude.{Some, false};
     ghost use Rattle.onfi_steady.specs.declared.next.NextPhase.{NextPhase as AnyPhase};
     ghost use Rattle.onfi_problem.specs.declared.lun_state.LunState.TheVariants.{Free};
-    ghost use Rattle.onfi_steady.specs.Waiting.{Books, accepted, accepted_as, accepted_urgent, channel, is_read};
+    ghost use Rattle.onfi_steady.specs.Waiting.{Books, accepted, channel};
     ghost use Rattle.onfi_steady.specs.Next.{IsIdle, IsNextPhase};
-    ghost use Rattle.onfi_steady.specs.Dispatcher.{AreDistinct, HasRun, IsBut, IsCancelled, IsDue, IsOf, IsPhaseOn, StandsFirst, accept_refusal, accepted_again, accepted_urgent_again, again_as, again_refusal, has_due, luns_of, ran_refusal, ready_refusal, states_of};
+    ghost use Rattle.onfi_steady.specs.Dispatcher.{AreDistinct, HasRun, IsBut, IsCancelled, IsDue, IsOf, IsPhaseOn, StandsFirst, accept_refusal, accepted_again, again_refusal, has_due, luns_of, ran_refusal, ready_refusal, states_of};
     ghost use Rattle.onfi_steady.specs.Selecting.{IsChoice, IsHolder, IsNextChoice, IsPhaseOf};
     ghost use Rattle.onfi_flight.specs.Flight.{luns_ready_by};
 
-    /// Of a channel with that many LUNs, on which nothing runs or waits from time 0 on.
+    /// Of a channel with so many LUNs, on which nothing runs or waits from time 0 on.
     pub fn new(timing: &Timing, rules: Rules, luns: u8) -> Dispatcher
         requires some { 1 ≤ luns }
         requires few { luns ≤ 8 }
@@ -185,43 +184,10 @@ impl Dispatcher {
         ensures bus_free { self.new.bus_free ≡ self.old.bus_free }
         ensures same { IfErr result (λ _. self.new ≡ self.old) }
     {
-        self.take_in(&want, false)
-    }
-
-    /// As [`Dispatcher::accept`], but a read is urgent: where nothing is due on its LUN it goes before all reads that aren't, and
-    /// before programs and erases. Another request is taken in as by `accept`.
-    ///
-    /// # Errors
-    /// As [`Dispatcher::accept`].
-    pub fn accept_urgent(&mut self, want: Want) -> Result<(), AcceptFault>
-        requires plane { want.plane ≤ 3 }
-        ensures accepted { (timing : AnyTiming) (books : Books) → IsOf timing books self.old → IfOk result (λ _. IsOf timing (accepted_urgent books want) self.new) }
-        ensures distinct { (timing : AnyTiming) (books : Books) → IsOf timing books self.old → IfOk result (λ _. AreDistinct (accepted_urgent books want)) }
-        ensures over { IfOk result (λ _. has_due self.new ≡ false) }
-        ensures refused { MatchResult result (λ _. accept_refusal self.old want ≡ None) (λ fault. accept_refusal self.old want ≡ Some fault) }
-        ensures states { states_of self.new ≡ states_of self.old }
-        ensures bus_free { self.new.bus_free ≡ self.old.bus_free }
-        ensures same { IfErr result (λ _. self.new ≡ self.old) }
-    {
-        let urgent = is_read(&want);
-        self.take_in(&want, urgent)
-    }
-
-    // Takes in a request after the others that wait for its LUN, urgent or not.
-    fn take_in(&mut self, want: &Want, urgent: bool) -> Result<(), AcceptFault>
-        requires plane { want.now.plane ≤ 3 }
-        ensures accepted { (timing : AnyTiming) (books : Books) → IsOf timing books self.old → IfOk result (λ _. IsOf timing (accepted_as urgent books want.now) self.new) }
-        ensures distinct { (timing : AnyTiming) (books : Books) → IsOf timing books self.old → IfOk result (λ _. AreDistinct (accepted_as urgent books want.now)) }
-        ensures over { IfOk result (λ _. has_due self.new ≡ false) }
-        ensures refused { MatchResult result (λ _. accept_refusal self.old want.now ≡ None) (λ fault. accept_refusal self.old want.now ≡ Some fault) }
-        ensures states { states_of self.new ≡ states_of self.old }
-        ensures bus_free { self.new.bus_free ≡ self.old.bus_free }
-        ensures same { IfErr result (λ _. self.new ≡ self.old) }
-    {
-        if let Some(fault) = self.refusal(want) {
+        if let Some(fault) = self.refusal(&want) {
             return Err(fault);
         }
-        self.put(want, urgent);
+        self.put(&want);
         Ok(())
     }
 
@@ -236,26 +202,26 @@ impl Dispatcher {
         }
     }
 
-    // Puts a request after the others, urgent or not.
-    fn put(&mut self, want: &Want, urgent: bool)
+    // Puts a request after the others.
+    fn put(&mut self, want: &Want)
         requires plane { want.now.plane ≤ 3 }
         requires accepted { accept_refusal self.old want.now ≡ None }
-        ensures accepted { (timing : AnyTiming) (books : Books) → IsOf timing books self.old → IsOf timing (accepted_as urgent books want.now) self.new }
+        ensures accepted { (timing : AnyTiming) (books : Books) → IsOf timing books self.old → IsOf timing (accepted books want.now) self.new }
         ensures over { has_due self.new ≡ false }
         ensures states { states_of self.new ≡ states_of self.old }
         ensures bus_free { self.new.bus_free ≡ self.old.bus_free }
     {
         self.due.is_there = false;
         self.newest = self.newest.with(want);
-        self.lun[usize::from(want.lun)].accept(&self.rules, &self.spans, want, urgent);
+        self.lun[usize::from(want.lun)].accept(&self.rules, &self.spans, want);
     }
 
     /// The phase that is next where it is `now`, in ns: of what LUNs give the one that goes first. None only where nothing runs and
     /// nothing waits. Nothing is due for it: [`Dispatcher::next`] is for what is to run.
     ///
-    /// A LUN that runs a group goes on with it. Another one begins the oldest of its requests that is due, else its oldest urgent
-    /// read, else its oldest read, else its oldest program, else its oldest erase, each the first on its block, with the mates that
-    /// may join it. A request is due once 128 groups with a later one began on its LUN, an erase once 512 did. A group of programs that lacks its last plane
+    /// A LUN that runs a group goes on with it. Another one begins the oldest of its requests that is due, else its oldest read,
+    /// else its oldest program, else its oldest erase, each the first on its block, with the mates that may join it. A request is
+    /// due once 128 groups with a later one began on its LUN, an erase once 512 did. A group of programs that lacks its last plane
     /// waits for mates while it holds the newest accepted program and a LUN has work; its LUN begins its oldest erase meanwhile.
     ///
     /// Of these phases the one goes that may start soonest; of equals what goes on with its commands, then a status, a read's
@@ -376,49 +342,16 @@ impl Dispatcher {
         ensures accepted { (timing : AnyTiming) (books : Books) → IsOf timing books self.old → IfOk result (λ _. IsOf timing (accepted_again books want) self.new) }
         ensures distinct { (timing : AnyTiming) (books : Books) → IsOf timing books self.old → IfOk result (λ _. AreDistinct (accepted_again books want)) }
         ensures over { IfOk result (λ _. has_due self.new ≡ false) }
-        ensures first { (books : Books) → StandsFirst false (accepted_again books want) want }
+        ensures first { (books : Books) → StandsFirst (accepted_again books want) want }
         ensures refused { MatchResult result (λ _. again_refusal self.old want ≡ None) (λ fault. again_refusal self.old want ≡ Some fault) }
         ensures states { states_of self.new ≡ states_of self.old }
         ensures bus_free { self.new.bus_free ≡ self.old.bus_free }
         ensures same { IfErr result (λ _. self.new ≡ self.old) }
     {
-        self.take_in_again(&want, false)
-    }
-
-    /// As [`Dispatcher::accept_again`], but a read is urgent, as by [`Dispatcher::accept_urgent`].
-    ///
-    /// # Errors
-    /// As [`Dispatcher::accept_again`].
-    pub fn accept_urgent_again(&mut self, want: Want) -> Result<(), AcceptFault>
-        requires plane { want.plane ≤ 3 }
-        ensures accepted { (timing : AnyTiming) (books : Books) → IsOf timing books self.old → IfOk result (λ _. IsOf timing (accepted_urgent_again books want) self.new) }
-        ensures distinct { (timing : AnyTiming) (books : Books) → IsOf timing books self.old → IfOk result (λ _. AreDistinct (accepted_urgent_again books want)) }
-        ensures over { IfOk result (λ _. has_due self.new ≡ false) }
-        ensures first { (books : Books) → StandsFirst (is_read want) (accepted_urgent_again books want) want }
-        ensures refused { MatchResult result (λ _. again_refusal self.old want ≡ None) (λ fault. again_refusal self.old want ≡ Some fault) }
-        ensures states { states_of self.new ≡ states_of self.old }
-        ensures bus_free { self.new.bus_free ≡ self.old.bus_free }
-        ensures same { IfErr result (λ _. self.new ≡ self.old) }
-    {
-        let urgent = is_read(&want);
-        self.take_in_again(&want, urgent)
-    }
-
-    // Takes in a request before all that waits for its LUN, urgent or not.
-    fn take_in_again(&mut self, want: &Want, urgent: bool) -> Result<(), AcceptFault>
-        requires plane { want.now.plane ≤ 3 }
-        ensures accepted { (timing : AnyTiming) (books : Books) → IsOf timing books self.old → IfOk result (λ _. IsOf timing (again_as urgent books want.now) self.new) }
-        ensures distinct { (timing : AnyTiming) (books : Books) → IsOf timing books self.old → IfOk result (λ _. AreDistinct (again_as urgent books want.now)) }
-        ensures over { IfOk result (λ _. has_due self.new ≡ false) }
-        ensures refused { MatchResult result (λ _. again_refusal self.old want.now ≡ None) (λ fault. again_refusal self.old want.now ≡ Some fault) }
-        ensures states { states_of self.new ≡ states_of self.old }
-        ensures bus_free { self.new.bus_free ≡ self.old.bus_free }
-        ensures same { IfErr result (λ _. self.new ≡ self.old) }
-    {
-        if let Some(fault) = self.again_refusal(want) {
+        if let Some(fault) = self.again_refusal(&want) {
             return Err(fault);
         }
-        self.put_first(want, urgent);
+        self.put_first(&want);
         Ok(())
     }
 
@@ -471,17 +404,17 @@ impl Dispatcher {
         }
     }
 
-    // Puts a request before the others of its LUN, urgent or not.
-    fn put_first(&mut self, want: &Want, urgent: bool)
+    // Puts a request before the others of its LUN.
+    fn put_first(&mut self, want: &Want)
         requires plane { want.now.plane ≤ 3 }
         requires accepted { again_refusal self.old want.now ≡ None }
-        ensures accepted { (timing : AnyTiming) (books : Books) → IsOf timing books self.old → IsOf timing (again_as urgent books want.now) self.new }
+        ensures accepted { (timing : AnyTiming) (books : Books) → IsOf timing books self.old → IsOf timing (accepted_again books want.now) self.new }
         ensures over { has_due self.new ≡ false }
         ensures states { states_of self.new ≡ states_of self.old }
         ensures bus_free { self.new.bus_free ≡ self.old.bus_free }
     {
         self.due.is_there = false;
-        self.lun[usize::from(want.lun)].accept_again(&self.rules, &self.spans, want, urgent);
+        self.lun[usize::from(want.lun)].accept_again(&self.rules, &self.spans, want);
     }
 
     // What goes first where it is `now`.

@@ -24,7 +24,7 @@ pub struct Choice {
     pub erase: bool,
 }
 
-/// The phase that is next, where the bus is free from `from` ns on, a program's array takes that many ns, and the newest accepted
+/// The phase that is next, where the bus is free from `from` ns on, a program's array takes so many ns, and the newest accepted
 /// program has that number. None where nothing runs and nothing waits.
 pub fn first_phase(luns: &[LunBooks], from: u64, array: u64, newest: Option<u64>) -> Option<Choice>
     requires few { length luns.now ≤ 8 }

@@ -56,7 +56,7 @@ impl KindSpans {
         }
     }
 
-    // .. those of reads of that many sectors
+    // .. those of reads of so many sectors
     fn place_of_count(count: u8) -> usize
         ensures place { result ≡ place_of_count count }
         ensures within { result < 10 }

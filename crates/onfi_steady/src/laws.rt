@@ -9,7 +9,7 @@ pub fn none_starves()
     ensures { NoneStarves }
 {}
 
-/// Books stay fair where a request comes, urgent or not, whose number is above those that wait for its LUN.
+/// Books stay fair where a request comes whose number is above those that wait for its LUN.
 pub fn accepting_is_fair()
     ensures { AcceptsFairly }
 {}
@@ -47,7 +47,7 @@ pub fn channel_follows_dispatcher()
     ensures { RanFollows }
 {}
 
-/// A request that is accepted is the channel's last want, urgent or not; with a number above the others it leaves a problem.
+/// A request that is accepted is the channel's last want; with a number above the others it leaves a problem.
 pub fn channel_follows_request()
     ensures { AcceptFollows }
 {}

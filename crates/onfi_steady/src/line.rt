@@ -14,7 +14,7 @@ pub struct Line {
     pub count: Count,
 }
 
-/// That many wait.
+/// So many wait.
 #[repr(C)]
 #[derive(Clone, Copy)]
 pub struct Count {

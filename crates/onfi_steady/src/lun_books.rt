@@ -9,7 +9,6 @@ ghost use Rattle.onfi_group.specs.declared.rules.Rules.{Rules as AnyRules};
 ghost use Rattle.onfi_steady.specs.declared.waiter.Waiter.{Waiter as AnyWaiter};
 ghost use Rattle.onfi_steady.specs.Offer.{erase_group, firsts, is_kind};
 ghost use Rattle.onfi_steady.specs.Slots.{AreSpansOf, IsBegin, others_of, slots_in, waiters_in, wants_in};
-ghost use Rattle.onfi_steady.specs.Waiting.{waiter_of};
 ghost use Rattle.onfi_steady.specs.LunBooks.{HasBegun, HasGoneOn, HasPhaseLeft, IsGroupPhase, IsLun, IsLunOffer, begin_of, runs, state_in};
 ghost use Rattle.onfi_steady.specs.Selecting.{begun_on, can_run};
 ghost use Rattle.onfi_flight.specs.Flight.{ready_by};
@@ -32,7 +31,7 @@ use onfi_problem::LunState;
 use onfi_request::Want;
 use onfi_timing::Kind;
 
-// That many requests wait for a LUN at most in a short line.
+// So many requests wait for a LUN at most in a short line.
 const SHORT: usize = 16;
 
 /// What a LUN would begin that runs nothing.
@@ -233,25 +232,25 @@ impl LunBooks {
         wants
     }
 
-    /// A request waits after the others, urgent or not.
-    pub fn accept(&mut self, rules: &Rules, spans: &KindSpans, want: &Want, urgent: bool)
+    /// A request waits after the others.
+    pub fn accept(&mut self, rules: &Rules, spans: &KindSpans, want: &Want)
         requires { length (slots_in self.old.line) < 64 }
-        ensures line { waiters_in (slots_in self.new.line) ≡ waiters_in (slots_in self.old.line) ++ waiter_of urgent want.now ∷ [] }
+        ensures line { waiters_in (slots_in self.new.line) ≡ waiters_in (slots_in self.old.line) ++ record { want = want.now; passed = 0 } ∷ [] }
         ensures run { self.new.run ≡ self.old.run }
         ensures lun { (timing : AnyTiming) → AreSpansOf timing spans.now → IsLun timing rules.now self.old → IsLun timing rules.now self.new }
     {
-        self.line.push(Slot::of(want, urgent));
+        self.line.push(Slot::of(want));
         self.renew(rules, spans);
     }
 
-    /// A request waits before the others, urgent or not.
-    pub fn accept_again(&mut self, rules: &Rules, spans: &KindSpans, want: &Want, urgent: bool)
+    /// A request waits before the others.
+    pub fn accept_again(&mut self, rules: &Rules, spans: &KindSpans, want: &Want)
         requires { length (slots_in self.old.line) < 64 }
-        ensures line { waiters_in (slots_in self.new.line) ≡ waiter_of urgent want.now ∷ waiters_in (slots_in self.old.line) }
+        ensures line { waiters_in (slots_in self.new.line) ≡ record { want = want.now; passed = 0 } ∷ waiters_in (slots_in self.old.line) }
         ensures run { self.new.run ≡ self.old.run }
         ensures lun { (timing : AnyTiming) → AreSpansOf timing spans.now → IsLun timing rules.now self.old → IsLun timing rules.now self.new }
     {
-        self.line.push_first(Slot::of(want, urgent));
+        self.line.push_first(Slot::of(want));
         self.renew(rules, spans);
     }
 

@@ -4,7 +4,7 @@ ghost use Rattle.std.specs.Prelude.{◌≡◌, ℕ, ◌≤◌, ◌<◌, ◌+◌,
 ghost use Rattle.std.specs.List.{find, list_any, cons_option};
 ghost use Rattle.onfi_timing.specs.declared.kind.Kind.{Kind as AnyKind};
 ghost use Rattle.onfi_group.specs.Group.{may_group};
-ghost use Rattle.onfi_steady.specs.Offer.{turned_to, group_with, goes_with, is_mate, is_on_last_plane, is_same_page, is_same_row, is_due as is_due_waiter, is_kind as is_kind_of, is_urgent as is_urgent_waiter, may_grow, member_on};
+ghost use Rattle.onfi_steady.specs.Offer.{turned_to, group_with, goes_with, is_mate, is_on_last_plane, is_same_page, is_same_row, is_due as is_due_waiter, is_kind as is_kind_of, may_grow, member_on};
 
 use crate::own::operation_rank;
 use crate::waiter::Waiter;
@@ -18,9 +18,6 @@ pub fn pick_request(ready: &[Waiter]) -> Option<Waiter>
     ensures { result ≡ turned_to ready.now }
 {
     if let Some(waiter) = oldest_due(ready) {
-        return Some(waiter);
-    }
-    if let Some(waiter) = oldest_urgent(ready) {
         return Some(waiter);
     }
     if let Some(waiter) = oldest_of(ready, Kind::Read) {
@@ -37,13 +34,6 @@ fn oldest_due(ready: &[Waiter]) -> Option<Waiter>
     ensures { result ≡ find is_due_waiter ready.now }
 {
     ready.iter().copied().find(|waiter| waiter.is_due())
-}
-
-// The oldest urgent read.
-fn oldest_urgent(ready: &[Waiter]) -> Option<Waiter>
-    ensures { result ≡ find is_urgent_waiter ready.now }
-{
-    ready.iter().copied().find(|waiter| waiter.is_urgent())
 }
 
 /// The oldest of a kind.

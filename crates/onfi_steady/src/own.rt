@@ -3,7 +3,7 @@
 ghost use Rattle.std.specs.Prelude.{◌≡◌};
 ghost use Rattle.onfi_timing.specs.declared.kind.Kind.{Kind as AnyKind};
 ghost use Rattle.onfi_group.specs.Group.{kind_of};
-ghost use Rattle.onfi_steady.specs.Waiting.{greatest_number, is_read};
+ghost use Rattle.onfi_steady.specs.Waiting.{greatest_number};
 ghost use Rattle.onfi_timing.specs.declared.operation.Operation.{Operation as AnyOperation};
 ghost use Rattle.onfi_steady.specs.Ranks.{first_number, oldest, operation_rank};
 
@@ -19,13 +19,6 @@ pub fn operation_rank(operation: Operation) -> u8
         Operation::Program => 1,
         Operation::Erase => 2,
     }
-}
-
-/// Whether it reads a page or sectors.
-pub fn is_read(want: &Want) -> bool
-    ensures { result ≡ is_read want.now }
-{
-    operation_rank(want.kind.operation()) == operation_rank(Operation::Read)
 }
 
 /// The number of the oldest of a group's requests; 0 where there is none.

@@ -207,7 +207,7 @@ impl Run {
     }
 }
 
-// The place of the member whose phase that is, in a group of that many.
+// The place of the member whose phase that is, in a group of so many.
 fn member_at(phase: u8, members: u8) -> u8
     ensures { result ≡ (if nat_lt phase members then phase else phase - members) }
 {

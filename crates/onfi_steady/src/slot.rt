@@ -1,15 +1,13 @@
 //! A request as numbers, which C can keep.
 ghost use Rattle.std.specs.Prelude.{◌≡◌, ◌≤◌, [], length, take, IfSome, slice_get};
 ghost use Rattle.onfi_steady.specs.Slots.{kind_named, waiter_in, want_in, wants_in};
-ghost use Rattle.onfi_steady.specs.Waiting.{waiter_of};
 
 use crate::waiter::Waiter;
 use arrayvec::ArrayVec;
 use onfi_request::Want;
 use onfi_timing::Kind;
 
-/// A request that waits or runs, how many groups with a later request began on its LUN since it was accepted, and whether it is
-/// urgent.
+/// A request that waits or runs, and how many groups with a later request began on its LUN since it was accepted.
 #[repr(C)]
 #[derive(Clone, Copy, Debug, Default, PartialEq, Eq)]
 pub struct Slot {
@@ -23,19 +21,18 @@ pub struct Slot {
     pub count: u8,
     pub lun: u8,
     pub plane: u8,
-    pub urgent: bool,
 }
 
 impl Slot {
-    /// Of a request that no group passed over, urgent or not.
-    pub fn of(want: &Want, urgent: bool) -> Slot
-        ensures { waiter_in result ≡ waiter_of urgent want.now }
+    /// Of a request that no group passed over.
+    pub fn of(want: &Want) -> Slot
+        ensures { waiter_in result ≡ record { want = want.now; passed = 0 } }
     {
         match want.kind {
-            Kind::Read => slot_of(want, urgent, 0, 0, 0),
-            Kind::Program => slot_of(want, urgent, 1, 0, 0),
-            Kind::Erase => slot_of(want, urgent, 2, 0, 0),
-            Kind::ReadSectors { first, count } => slot_of(want, urgent, 3, first, count),
+            Kind::Read => slot_of(want, 0, 0, 0),
+            Kind::Program => slot_of(want, 1, 0, 0),
+            Kind::Erase => slot_of(want, 2, 0, 0),
+            Kind::ReadSectors { first, count } => slot_of(want, 3, first, count),
         }
     }
 
@@ -79,14 +76,13 @@ impl Slot {
         Waiter {
             want: self.want(),
             passed: self.passed,
-            urgent: self.urgent,
         }
     }
 }
 
 // The request with its kind as numbers.
-fn slot_of(want: &Want, urgent: bool, kind: u8, first: u8, count: u8) -> Slot
-    ensures { result ≡ record { id = want.now.id; block = want.now.block; page = want.now.page; passed = 0; kind = kind; first = first; count = count; lun = want.now.lun; plane = want.now.plane; urgent = urgent } }
+fn slot_of(want: &Want, kind: u8, first: u8, count: u8) -> Slot
+    ensures { result ≡ record { id = want.now.id; block = want.now.block; page = want.now.page; passed = 0; kind = kind; first = first; count = count; lun = want.now.lun; plane = want.now.plane } }
 {
     Slot {
         id: want.id,
@@ -98,7 +94,6 @@ fn slot_of(want: &Want, urgent: bool, kind: u8, first: u8, count: u8) -> Slot
         count,
         lun: want.lun,
         plane: want.plane,
-        urgent,
     }
 }
 
@@ -121,7 +116,7 @@ fn slot_at(members: &[Want], at: usize) -> Slot
     ensures { IfSome (slice_get members.now at) (λ m. want_in result ≡ m) }
 {
     match members.get(at) {
-        Some(member) => Slot::of(member, false),
+        Some(member) => Slot::of(member),
         None => Slot::default(),
     }
 }

@@ -1,18 +1,16 @@
 ghost use Rattle.std.specs.Prelude.{◌≡◌};
-ghost use Rattle.onfi_steady.specs.Offer.{is_due, is_kind, is_urgent, turns_of};
+ghost use Rattle.onfi_steady.specs.Offer.{is_due, is_kind, turns_of};
 
 use crate::own::operation_rank;
 use onfi_request::Want;
 use onfi_timing::{Kind, Operation};
 
-/// A request that waits, how many groups with a later request began on its LUN since it was accepted, and whether it is urgent.
+/// A request that waits, and how many groups with a later request began on its LUN since it was accepted.
 #[derive(Clone, Copy, Debug, Default, PartialEq, Eq)]
 pub struct Waiter {
     pub want: Want,
     /// At most 65,535.
     pub passed: u16,
-    /// Only a read is.
-    pub urgent: bool,
 }
 
 impl Waiter {
@@ -23,13 +21,6 @@ impl Waiter {
         self.passed >= turns_of(self.want.kind.operation())
     }
 
-    /// Whether it is a read that goes before the others of its LUN, where none is due.
-    pub fn is_urgent(&self) -> bool
-        ensures { result ≡ is_urgent self.now }
-    {
-        self.urgent && self.is_kind(Kind::Read)
-    }
-
     /// Whether it has its LUN do what that kind does.
     pub fn is_kind(&self, kind: Kind) -> bool
         ensures { result ≡ is_kind kind self.now }
@@ -38,7 +29,7 @@ impl Waiter {
     }
 }
 
-// That many groups with a later request may pass over a request.
+// So many groups with a later request may pass over a request.
 fn turns_of(operation: Operation) -> u16
     ensures { result ≡ turns_of operation }
 {

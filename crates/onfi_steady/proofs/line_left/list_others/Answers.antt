@@ -1,4 +1,4 @@
-use Rattle.std.proofs.Common.{◌∙◌, ap, arith, false, sym}
+use Rattle.std.proofs.Common.{◌∙◌, ap, arith, sym}
 use Rattle.std.proofs.lemmas.List.{take_all}
 use Rattle.onfi_steady.specs.declared.slot.Slot.{Slot}
 use Rattle.onfi_steady.specs.Slots.{others_of}
@@ -6,7 +6,7 @@ use Rattle.onfi_steady.proofs.Slots.{others_more}
 use Rattle.onfi_steady.proofs.line_left.list_others.Goals as goal
 
 abbrev blank : Slot
-blank = record { id = 0; block = 0; page = 0; passed = 0; kind = 0; first = 0; count = 0; lun = 0; plane = 0; urgent = false }
+blank = record { id = 0; block = 0; page = 0; passed = 0; kind = 0; first = 0; count = 0; lun = 0; plane = 0 }
 
 pub loop-slot-preserved : goal.loop-slot-preserved
 loop-slot-preserved c = record {

@@ -1,4 +1,4 @@
-use Rattle.std.proofs.Common.{◌∙◌, ap, arith, false, sym}
+use Rattle.std.proofs.Common.{◌∙◌, ap, arith, sym}
 use Rattle.std.specs.List.{list_any}
 use Rattle.std.proofs.lemmas.List.{take_all}
 use Rattle.onfi_timing.specs.declared.kind.Kind.TheVariants.{Read}
@@ -10,7 +10,7 @@ use Rattle.onfi_steady.proofs.ready.list_slots.Goals as goal
 use Rattle.onfi_steady.proofs.ready.list_slots.Goals.{then-put_first, else-put_first}
 
 abbrev blank : Slot
-blank = record { id = 0; block = 0; page = 0; passed = 0; kind = 0; first = 0; count = 0; lun = 0; plane = 0; urgent = false }
+blank = record { id = 0; block = 0; page = 0; passed = 0; kind = 0; first = 0; count = 0; lun = 0; plane = 0 }
 
 pub loop-slot-preserved : goal.loop-slot-preserved
 loop-slot-preserved o c =

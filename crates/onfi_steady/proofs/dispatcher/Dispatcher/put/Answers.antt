@@ -19,9 +19,9 @@ returns-clause-accepted c = λ timing books is.
     let there : slice_get (luns_of old) want.lun ≡ Some l = on.there ∙ ap Some (sym same) in
     let changed = take_changed old.due.luns old.lun c.from.result after ∙ ap (λ i. slice_set (luns_of old) i after) c.from.ensures in
     let lun : IsLun timing books.rules l = lun_at timing books (luns_of old) want.lun l is.luns there in
-    accepted_is c.args.urgent timing books want old _ l after is (record { spans = refl; rules = refl }) there changed c.with-self.ensures c.requires.plane c.accept.ensures.line
+    accepted_is timing books want old _ l after is (record { spans = refl; rules = refl }) there changed c.with-self.ensures c.requires.plane c.accept.ensures.line
     (subst (λ z. IsLun timing z after) is.rules (c.accept.ensures.lun timing is.spans (subst (λ z. IsLun timing z l) (sym is.rules) lun)))
-    (accepts_distinct timing books old want l is there c.args.urgent c.requires.accepted)
+    (accepts_distinct timing books old want l is there c.requires.accepted)
 
 pub returns-clause-states : goal.returns-clause-states
 returns-clause-states c =
