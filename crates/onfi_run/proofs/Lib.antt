@@ -18,4 +18,3 @@ pub mod Latencies
 pub mod Resting
 pub mod Moments
 pub mod Acting
-pub mod Uniform

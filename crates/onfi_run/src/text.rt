@@ -24,13 +24,11 @@ fn put_hex(alloc: Global, text: &mut String, bytes: &[u8]) -> Result<(), AllocEr
     text.push_str(piece.as_str())
 }
 
-/// Whether all bytes are that one, which stands before them in the page: whether each is the one before it. Slices are compared
-/// many bytes at once.
-fn are_all(page: &[u8], byte: u8, rest: &[u8]) -> bool
-    requires { page.now ≡ byte ∷ rest.now }
-    ensures { result ≡ spec.are_all byte rest.now }
+/// Whether all bytes are that one.
+fn are_all(bytes: &[u8], byte: u8) -> bool
+    ensures { result ≡ spec.are_all byte bytes.now }
 {
-    rest == &page[..rest.len()]
+    bytes.iter().all(|b| *b == byte)
 }
 
 /// Appends a page to a text.
@@ -40,7 +38,7 @@ fn put_page(alloc: Global, text: &mut String, page: &[u8]) -> Result<(), AllocEr
     let Some((byte, rest)) = page.split_first() else {
         return Ok(());
     };
-    if !are_all(page, *byte, rest) {
+    if !are_all(rest, *byte) {
         return put_hex(alloc, text, page);
     }
     text.push_str("*")?;
