@@ -1,7 +1,7 @@
 use onfi_group::{Group, Rules};
 use onfi_plan::{Limit, PlanFault, Planner};
 use onfi_planners::{
-    By, ChosenPlanner, Early, Nodes, PlainPlanner, Weighing, Weights, cost_of, make_better_counted,
+    By, ChosenPlanner, Early, Nodes, PlainPlanner, Weighing, Weights, cost_of, make_better,
 };
 use onfi_problem::{LunState, Problem};
 use onfi_request::Want;
@@ -60,7 +60,7 @@ fn with_status_due(alloc: Global) -> Result<Problem, Fail> {
 }
 
 // What a plan by a planner costs where all requests count alike, when it ends, and before what nothing ends.
-fn measure_plan(
+fn told(
     alloc: Global,
     planner: &impl Planner,
     problem: &Problem,
@@ -74,7 +74,7 @@ fn measure_plan(
     Ok((cost, plan.finish, plan.below))
 }
 
-// The plain planner, whose plans are made better within that number of nodes.
+// The plain planner, whose plans are made better by so many nodes.
 fn early_by(weighing: Weighing, nodes: Nodes) -> ChosenPlanner {
     ChosenPlanner {
         by: By::Plain,
@@ -89,18 +89,16 @@ fn the_nodes_of_a_better_plan_are_named(rt: HostRuntime) -> Result<(), Fail> {
     let problem = with_status_due(alloc)?;
     for number in [0, 2] {
         let early = early_by(Weighing::Equal, Nodes::of(number).unwrap());
-        assert!(rt;
-            measure_plan(alloc, &early, &problem) == measure_plan(alloc, &PlainPlanner, &problem)
-        );
+        assert!(rt; told(alloc, &early, &problem) == told(alloc, &PlainPlanner, &problem));
     }
     let usual = early_by(Weighing::Equal, Nodes::usual());
-    assert!(rt; measure_plan(alloc, &usual, &problem) == Ok((1377, 908, 908)));
+    assert!(rt; told(alloc, &usual, &problem) == Ok((1377, 908, 908)));
     assert_eq!(rt; Early::default().nodes.get(), 1_500);
     Ok(())
 }
 
 #[test]
-fn a_better_plan_says_how_many_nodes_it_took(rt: HostRuntime) -> Result<(), Fail> {
+fn a_plan_is_made_better_by_so_many_nodes(rt: HostRuntime) -> Result<(), Fail> {
     let alloc = rt.alloc();
     let problem = with_status_due(alloc)?;
     let equal = Weights {
@@ -109,9 +107,8 @@ fn a_better_plan_says_how_many_nodes_it_took(rt: HostRuntime) -> Result<(), Fail
     };
     let plan = PlainPlanner.plan(alloc, &problem, Limit::of(1000).unwrap())?;
     let nodes = Nodes::of(100).unwrap();
-    let better = make_better_counted(alloc, &problem, plan, &equal, nodes)?;
-    assert_eq!(rt; cost_of(&problem, &better.plan.schedule, &equal), 1377);
-    assert!(rt; better.opened > 2 && better.opened <= 100);
+    let better = make_better(alloc, &problem, plan, &equal, nodes)?;
+    assert_eq!(rt; cost_of(&problem, &better.schedule, &equal), 1377);
     Ok(())
 }
 
