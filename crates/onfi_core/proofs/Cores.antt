@@ -99,10 +99,6 @@ pub record OpenedSoFar {C : Type 0} (state : C → Chip) (s : Setup) (chips left
   pub parts : chips ≡ done ++ left
   pub are : AreOpened state s done views
 
--- none yet
-pub opened_none : {C : Type 0} (state : C → Chip) (s : Setup) (chips left : List C) (views : List (ChannelView C)) → left ≡ chips → views ≡ [] → OpenedSoFar state s chips left views
-opened_none {C} state s chips left views all none = record { done = []; parts = sym all; are = subst (AreOpened state s []) (sym none) (record { setups = tt; states = refl }) }
-
 -- one chip more
 pub opened_more : {C : Type 0} (state : C → Chip) (s : Setup) (chips left left' : List C) (views : List (ChannelView C)) (chip : C) (v : ChannelView C) → OpenedSoFar state s chips left views → left ≡ chip ∷ left' → v.0.setup ≡ s → state_in state v ≡ opened_with s (state chip) → OpenedSoFar state s chips left' (views ++ v ∷ [])
 opened_more {C} state s chips left left' views chip v h is setup same = record {

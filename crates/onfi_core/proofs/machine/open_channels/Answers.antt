@@ -1,19 +1,9 @@
-use Rattle.std.proofs.Common.{length, ap, sym, subst, arith}
+use Rattle.std.proofs.Common.{subst, arith}
 use Rattle.std.specs.List.{AllByRecursion as Each}
 use Rattle.std.specs.Vec.Iter.{into_iter_items, into_iter_len}
 use Rattle.onfi_core.specs.Queues.{IsFresh}
-use Rattle.onfi_core.proofs.Cores.{none_left, opened_all, opened_more, opened_none}
+use Rattle.onfi_core.proofs.Cores.{none_left, opened_all, opened_more}
 use Rattle.onfi_core.proofs.machine.open_channels.Goals as goal
-
-pub loop-chip-init : goal.loop-chip-init
-loop-chip-init g c =
-    let made = c.in_ok-channels.ensures in
-    let left = c.into_iter-left.ensures in
-    record {
-      opened = opened_none g.C.Chip.state c.args.setup c.args.chips.items (into_iter_items c.into_iter-left.result) c.in_ok-channels.channels.items left.rest made.items;
-      fresh = subst (Each (λ chip. IsFresh c.args.setup (g.C.Chip.state chip))) (sym left.rest) c.requires;
-      room = omega (arith, ap length made.items, made.capacity, c.len.ensures, left.len, c.args.chips.ok.0, c.in_ok-channels.channels.ok.0);
-    }
 
 pub loop-chip-preserved : goal.loop-chip-preserved
 loop-chip-preserved g c =
